@@ -1,0 +1,197 @@
+//! Functions that do nothing. Their contracts are the laws of `specs/Laws.antt`, so a check proves these.
+ghost use Rattle.lattice.specs.Laws.{DividesByBits, OrderIsStrict, InterpolateIsLeast, LeastIsUnique, LeastSplits, DivisorsAreStandard, StandardSplitsLow, StandardSplitsHigh, LeastIsStandard, StandardIsLeast, StandardCount, CountDecidesStandard, BasisElementFromLeast, ReducedBasisIsUnique, LeastOverMore, StandardOverMore, FamilyIsItsMembers, CofactorsByBit, FamilyIsJoin, StandardByRecursion, LeadsAreMinimal, ReducedBasisExists, PolynomialByValues, ProductByValues, CarePointsAreDisjoint, WorkingSetMembers, WorkingSetIsNodeList, LeadsByRecursion, FillingKeepsCanonical, DenotedStays, HistoryStaysFit, DenotedIsOne, HandleIsOne, StoredFit, FittingIsLegal, HistoriesAppend, TrueWordStays, ConsistentByRows, RoseIsGreater};
+
+/// A monomial divides a point exactly where every bit of it is a bit of the point.
+pub fn divides_by_bits()
+    ensures { DividesByBits }
+{}
+
+/// The order of polynomials is strict.
+pub fn order_is_strict()
+    ensures { OrderIsStrict }
+{}
+
+/// Disjoint lists of points have a least polynomial.
+pub fn interpolate_is_least()
+    ensures { InterpolateIsLeast }
+{}
+
+/// There is one least polynomial at most.
+pub fn least_is_unique()
+    ensures { LeastIsUnique }
+{}
+
+/// The least polynomial is made of two over one variable fewer.
+pub fn least_splits()
+    ensures { LeastSplits }
+{}
+
+/// Divisors of standard monomials are standard.
+pub fn divisors_are_standard()
+    ensures { DivisorsAreStandard }
+{}
+
+/// The standard monomials without the greatest variable.
+pub fn standard_splits_low()
+    ensures { StandardSplitsLow }
+{}
+
+/// The standard monomials with the greatest variable.
+pub fn standard_splits_high()
+    ensures { StandardSplitsHigh }
+{}
+
+/// The least polynomial has standard monomials only.
+pub fn least_is_standard()
+    ensures { LeastIsStandard }
+{}
+
+/// A polynomial of standard monomials that fits is the least one.
+pub fn standard_is_least()
+    ensures { StandardIsLeast }
+{}
+
+/// There are as many standard monomials as points.
+pub fn standard_count()
+    ensures { StandardCount }
+{}
+
+/// A count decides which monomials are standard.
+pub fn count_decides_standard()
+    ensures { CountDecidesStandard }
+{}
+
+/// The element of the reduced basis with a given lead.
+pub fn basis_element_from_least()
+    ensures { BasisElementFromLeast }
+{}
+
+/// A set of points has one reduced basis at most.
+pub fn reduced_basis_is_unique()
+    ensures { ReducedBasisIsUnique }
+{}
+
+/// More variables leave the least polynomial.
+pub fn least_over_more()
+    ensures { LeastOverMore }
+{}
+
+/// More variables leave the standard monomials.
+pub fn standard_over_more()
+    ensures { StandardOverMore }
+{}
+
+/// A family is given by the test of being a member.
+pub fn family_is_its_members()
+    ensures { FamilyIsItsMembers }
+{}
+
+/// The cofactors of a family, by the bit of the variable.
+pub fn cofactors_by_bit()
+    ensures { CofactorsByBit }
+{}
+
+/// A family is the join of its cofactors.
+pub fn family_is_join()
+    ensures { FamilyIsJoin }
+{}
+
+/// The recursion gives the standard monomials.
+pub fn standard_by_recursion()
+    ensures { StandardByRecursion }
+{}
+
+/// The minimal monomials that are not standard are the leads.
+pub fn leads_are_minimal()
+    ensures { LeadsAreMinimal }
+{}
+
+/// A set of points has a reduced basis.
+pub fn reduced_basis_exists()
+    ensures { ReducedBasisExists }
+{}
+
+/// The polynomial with given ones has these ones.
+pub fn polynomial_by_values()
+    ensures { PolynomialByValues }
+{}
+
+/// A product has the products of the values.
+pub fn product_by_values()
+    ensures { ProductByValues }
+{}
+
+/// No care point of a consistent output has both values.
+pub fn care_points_are_disjoint()
+    ensures { CarePointsAreDisjoint }
+{}
+
+/// What a working set has.
+pub fn working_set_members()
+    ensures { WorkingSetMembers }
+{}
+
+/// A working set is a list of families of nodes.
+pub fn working_set_is_node_list()
+    ensures { WorkingSetIsNodeList }
+{}
+
+/// The leads by recursion on the variables.
+pub fn leads_by_recursion()
+    ensures { LeadsByRecursion }
+{}
+
+/// Filling a place as it may be filled leaves the table canonical.
+pub fn filling_keeps_canonical()
+    ensures { FillingKeepsCanonical }
+{}
+
+/// What a filled slot denotes stays.
+pub fn denoted_stays()
+    ensures { DenotedStays }
+{}
+
+/// What a history fits stays.
+pub fn history_stays_fit()
+    ensures { HistoryStaysFit }
+{}
+
+/// A handle denotes one family at most.
+pub fn denoted_is_one()
+    ensures { DenotedIsOne }
+{}
+
+/// No two handles denote one family.
+pub fn handle_is_one()
+    ensures { HandleIsOne }
+{}
+
+/// Stored families are no more than slots.
+pub fn stored_fit()
+    ensures { StoredFit }
+{}
+
+/// A history that fits a canonical table is legal.
+pub fn fitting_is_legal()
+    ensures { FittingIsLegal }
+{}
+
+/// Two histories that fit a table make one.
+pub fn histories_append()
+    ensures { HistoriesAppend }
+{}
+
+/// A true cache word stays true.
+pub fn true_word_stays()
+    ensures { TrueWordStays }
+{}
+
+/// A count rose where it is greater than before, or stands at its greatest value.
+pub fn rose_is_greater()
+    ensures { RoseIsGreater }
+{}
+
+/// A description is consistent where no on-row and off-row of one output share a point.
+pub fn consistent_by_rows()
+    ensures { ConsistentByRows }
+{}

@@ -1,0 +1,26 @@
+//! Points, monomials, families and polynomials in Boolean variables, the rows of a description, and their laws.
+#![tactic(auto)]
+
+mod entry;
+mod kind;
+pub mod laws;
+mod lists;
+mod memory;
+mod mono;
+mod op;
+mod plan;
+mod row;
+mod words;
+
+pub use crate::entry::Entry;
+pub use crate::kind::{Kind, Mode};
+pub use crate::lists::{MonoLists, Monos, Name, Names, Pages, Seq, Text};
+pub use crate::memory::Memory;
+pub use crate::mono::{Mono, value_at};
+pub use crate::op::Op;
+pub use crate::plan::{Plan, Planned, plan_of};
+pub use crate::row::Row;
+pub use crate::words::Words;
+
+#[cfg(test)]
+mod tests;

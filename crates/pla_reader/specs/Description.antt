@@ -1,0 +1,49 @@
+-- What is true of every description.
+use Rattle.std.specs.Prelude.{◌≡◌, ◌≢◌, ℕ, ◌^◌, ◌<◌, ◌≤◌, List, [], length, map, bit_and, Bool, true, false}
+use Rattle.std.specs.List.{All}
+use Rattle.std.specs.List.Sorted.{IsStrictlyIncreasing}
+use Rattle.lattice.specs.Family.{divides}
+use Rattle.lattice.specs.declared.row.Row.{Row}
+use Rattle.lattice.specs.declared.kind.Kind.{Kind}
+use Rattle.lattice.specs.declared.kind.Kind.TheVariants.{F, Fd, Fr, Fdr}
+
+-- whether the rows of a type may say that an output is 0, and that it is not cared for
+abbrev pub has_off : Kind → Bool
+has_off F = false
+has_off Fd = false
+has_off Fr = true
+has_off Fdr = true
+
+abbrev pub has_dc : Kind → Bool
+has_dc F = false
+has_dc Fd = true
+has_dc Fr = false
+has_dc Fdr = true
+
+-- a row over so many inputs and outputs, of this type
+pub record FitsSizes (inputs outputs : ℕ) (kind : Kind) (r : Row) : Type 0 where
+  pub care : r.care < 2 ^ inputs
+  pub value : divides r.value r.care ≡ true
+  pub on : r.on < 2 ^ outputs
+  pub off : r.off < 2 ^ outputs
+  pub dc : r.dc < 2 ^ outputs
+  pub on_or_off : bit_and r.on r.off ≡ 0
+  pub on_or_dc : bit_and r.on r.dc ≡ 0
+  pub off_or_dc : bit_and r.off r.dc ≡ 0
+  pub no_off : has_off kind ≡ false → r.off ≡ 0
+  pub no_dc : has_dc kind ≡ false → r.dc ≡ 0
+
+-- so many names, or none
+abbrev pub CountsNames : ℕ → List (List ℕ) → Type 0
+CountsNames count names = (names ≢ []) → length names ≡ count
+
+pub record IsDescription (inputs outputs : ℕ) (kind : Kind) (rows : List Row) (in_names out_names : List (List ℕ)) : Type 0 where
+  pub some_inputs : 1 ≤ inputs
+  pub few_inputs : inputs ≤ 62
+  pub some_outputs : 1 ≤ outputs
+  pub few_outputs : outputs ≤ 64
+  pub few_rows : length rows ≤ 8192
+  pub lines_ascend : IsStrictlyIncreasing (map (λ r. r.line) rows)
+  pub rows_fit : All (FitsSizes inputs outputs kind) rows
+  pub in_count : CountsNames inputs in_names
+  pub out_count : CountsNames outputs out_names
