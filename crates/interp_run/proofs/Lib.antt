@@ -1,0 +1,4 @@
+mod Rows
+mod Headers
+mod Texts
+mod Outcomes

@@ -1,0 +1,4 @@
+pub mod FirstForm
+pub mod Text
+pub mod Marks
+pub mod Run

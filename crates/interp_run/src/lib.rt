@@ -1,0 +1,13 @@
+//! The top call: from the words and the bytes to the text and the status.
+#![tactic(auto)]
+
+mod form;
+mod outcome;
+mod print;
+mod top;
+
+pub use crate::outcome::Outcome;
+pub use crate::top::{report, run};
+
+#[cfg(test)]
+mod tests;
