@@ -1,4 +1,6 @@
-mod Rows
-mod Headers
-mod Texts
+mod Elements
+mod Marked
+mod Cares
+mod Solved
+mod Pages
 mod Outcomes

@@ -1,4 +1,4 @@
-pub mod FirstForm
-pub mod Text
 pub mod Marks
+pub mod Due
+pub mod Solved
 pub mod Run

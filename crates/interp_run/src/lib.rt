@@ -1,9 +1,9 @@
 //! The top call: from the words and the bytes to the text and the status.
 #![tactic(auto)]
 
-mod form;
+mod care;
 mod outcome;
-mod print;
+mod solve;
 mod top;
 
 pub use crate::outcome::Outcome;

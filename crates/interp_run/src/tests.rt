@@ -2,7 +2,10 @@ use crate::run;
 use lattice::Words;
 use outside::{MemSink, MemSource};
 use std::alloc::Global;
+use std::process::Abort;
 use std::test::Fail;
+
+const NEVER: u64 = 1_000_000;
 
 fn words_of(alloc: Global, line: &str) -> Result<Words, Fail> {
     let mut words = Words::new(alloc);
@@ -12,137 +15,165 @@ fn words_of(alloc: Global, line: &str) -> Result<Words, Fail> {
     Ok(words)
 }
 
-const NEVER: u64 = 99;
+// Runs the words on a text, of which one read and one write may fail, and compares the status, the answer and the message.
+fn check(
+    rt: &impl Abort,
+    alloc: Global,
+    words: &Words,
+    text: &str,
+    fails: (u64, u64),
+    want: (u8, &str, &str),
+) -> Result<(), Fail> {
+    let mut source = MemSource::make(alloc, text.as_bytes(), 4, &[fails.0]).map_err(|_| "memory")?;
+    let mut out = MemSink::make(alloc, 200, 4, &[fails.1]).map_err(|_| "memory")?;
+    let mut err = MemSink::make(alloc, 200, 7, &[]).map_err(|_| "memory")?;
+    assert_eq!(rt;
+        run(alloc, words, &mut source, &mut out, &mut err),
+        want.0,
+        "at {text}"
+    );
+    assert_eq!(rt; out.bytes(), want.1.as_bytes(), "at {text}");
+    assert_eq!(rt; err.bytes(), want.2.as_bytes(), "at {text}");
+    Ok(())
+}
 
-const USAGE: &str = "interp: usage: interp MODE [--workers N] [--nodes B] [--terms T] [--seed S]\n";
-
-const UNBUILT: &str = "interp: form not built\n";
+fn answers(rt: &impl Abort, alloc: Global, text: &str, answer: &str) -> Result<(), Fail> {
+    check(
+        rt,
+        alloc,
+        &words_of(alloc, "interp anf")?,
+        text,
+        (NEVER, NEVER),
+        (0, answer, ""),
+    )
+}
 
 #[test]
-fn statuses_and_texts(rt: HostRuntime) -> Result<(), Fail> {
-    let alloc = rt.alloc();
-    let two = ".i 2\n.o 1\n.type fr\n11 1\n00 0\n";
-    // words, source, the read that fails, the write that fails, status, out, err
-    let rows = [
-        ("interp anf", two, NEVER, NEVER, 0, "f1 = x2\n", ""),
-        (
-            "interp anf",
-            ".i 2\n.o 1\n.type fr\n",
-            NEVER,
-            NEVER,
-            0,
-            "f1 = 0\n",
-            "",
-        ),
-        (
-            "interp anf",
-            ".i 3\n.o 1\n.type fr\n101 1\n",
-            NEVER,
-            NEVER,
-            0,
-            "f1 = 1\n",
-            "",
-        ),
-        (
-            "interp anf",
-            ".i 2\n.o 1\n.type fr\n00 0\n10 1\n11 0\n",
-            NEVER,
-            NEVER,
-            0,
-            "f1 = x1 + x2\n",
-            "",
-        ),
-        (
-            "interp anf",
-            ".i 12\n.o 1\n.type fr\n111111111111 1\n000000000000 0\n",
-            NEVER,
-            NEVER,
-            0,
-            "f1 = x12\n",
-            "",
-        ),
-        ("interp anf", two, 2, NEVER, 8, "", "interp: read fault\n"),
-        (
-            "interp anf",
-            two,
-            NEVER,
-            2,
-            9,
-            "f1 =",
-            "interp: write fault\n",
-        ),
-        ("interp anf", "", NEVER, NEVER, 11, "", UNBUILT),
-        (
-            "interp anf",
-            ".i 13\n.o 1\n.type fr\n",
-            NEVER,
-            NEVER,
-            11,
-            "",
-            UNBUILT,
-        ),
-        (
-            "interp anf",
-            ".i 02\n.o 1\n.type fr\n",
-            NEVER,
-            NEVER,
-            11,
-            "",
-            UNBUILT,
-        ),
-        (
-            "interp anf",
-            ".i 2\r\n.o 1\n.type fr\n",
-            NEVER,
-            NEVER,
-            11,
-            "",
-            UNBUILT,
-        ),
-        (
-            "interp anf",
-            ".i 2\n.o 1\n.type fr\n11 1\n11 1\n",
-            NEVER,
-            NEVER,
-            11,
-            "",
-            UNBUILT,
-        ),
-        (
-            "interp anf",
-            ".i 2\n.o 1\n.type fr\n11 1\n00 0",
-            NEVER,
-            NEVER,
-            11,
-            "",
-            UNBUILT,
-        ),
-        (
-            "interp anf",
-            ".i 2\n.o 1\n.type fr\n1- 1\n",
-            NEVER,
-            NEVER,
-            11,
-            "",
-            UNBUILT,
-        ),
-        ("interp anf --nodes", two, NEVER, NEVER, 2, "", USAGE),
-        ("interp", two, NEVER, NEVER, 2, "", USAGE),
-        ("interp basis", two, NEVER, NEVER, 2, "", USAGE),
-    ];
-    for (line, text, read, write, status, said, told) in rows.iter() {
-        let words = words_of(alloc, *line)?;
-        let mut source = MemSource::make(alloc, text.as_bytes(), 4, &[*read]).map_err(
-            |_| "memory",
-        )?;
-        let mut out = MemSink::make(alloc, 200, 4, &[*write]).map_err(|_| "memory")?;
-        let mut err = MemSink::make(alloc, 200, 7, &[]).map_err(|_| "memory")?;
-        assert_eq!(rt;
-            run(alloc, &words, &mut source, &mut out, &mut err),
-            *status
-        );
-        assert_eq!(rt; out.bytes(), said.as_bytes());
-        assert_eq!(rt; err.bytes(), told.as_bytes());
+fn single_outputs(rt: HostRuntime) -> Result<(), Fail> {
+    for (kind, inputs, rows, answer) in [
+        ("fd", "2", "10 1\n01 1\n", "f1 = x1 + x2\n"),
+        ("fd", "2", "1- 1\n-1 1\n", "f1 = x1*x2 + x1 + x2\n"),
+        ("fr", "2", "", "f1 = 0\n"),
+        ("fr", "2", "11 1\n00 0\n", "f1 = x2\n"),
+        ("fr", "3", "101 1\n", "f1 = 1\n"),
+        ("fr", "2", "00 0\n10 1\n11 0\n", "f1 = x1 + x2\n"),
+        ("fd", "2", "11 1\n10 -\n", "f1 = x1\n"),
+        ("fdr", "2", "1- 1\n00 0\n01 -\n", "f1 = x1\n"),
+        ("fdr", "2", "1- 1\n00 0\n01 -\n11 -\n", "f1 = x1\n"),
+        ("fd", "2", "1-0\n", "f1 = 0\n"),
+        ("f", "2", "1- 1\n11 0\n0- -\n", "f1 = x1\n"),
+        ("fd", "2", "1- 1\n11 -\n", "f1 = x1\n"),
+    ] {
+        let alloc = rt.alloc();
+        let text = format!(in alloc; ".i {inputs}\n.o 1\n.type {kind}\n{rows}")?;
+        answers(&rt, alloc, text.as_str(), answer)?;
     }
+    Ok(())
+}
+
+#[test]
+fn names_and_many_outputs(rt: HostRuntime) -> Result<(), Fail> {
+    let alloc = rt.alloc();
+    let adder =
+        "# full adder\n.i 3\n.o 2\n.ilb a b cin\n.ob s c\n.p 7\n001 10\n010 10\n100 10\n111 11\n011 01\n101 01\n110 01\n.e\n";
+    answers(
+        &rt,
+        alloc,
+        adder,
+        "s = a + b + cin\nc = a*b + a*cin + b*cin\n",
+    )?;
+    let pair = ".i 2\n.o 2\n.type fr\n11 1-\n00 00\n10 -1\n";
+    answers(&rt, alloc, pair, "f1 = x2\nf2 = x1\n")?;
+    let numbers = ".i 2\n.o 1\n.ilb 0 1\n10 1\n01 1\n";
+    answers(&rt, alloc, numbers, "f1 = x1 + x2\n")?;
+    let unknown = ".i 2\n.o 1 # one\n.type fr\n.topology x\n1 1 | 1\n";
+    answers(&rt, alloc, unknown, "f1 = 1\n")
+}
+
+#[test]
+fn refusals(rt: HostRuntime) -> Result<(), Fail> {
+    let alloc = rt.alloc();
+    let words = words_of(alloc, "interp anf")?;
+    for (text, status, message) in [
+        ("", 3, "interp: line 0: NoSize\n"),
+        (
+            ".i 2\n.o 1\n.type fd\n1-\n",
+            3,
+            "interp: line 4: RowLength\n",
+        ),
+        (
+            ".i 2\n.o 1\n10 1\n.type fd\n",
+            3,
+            "interp: line 4: TypeLate\n",
+        ),
+        (".i 2\n.o 1\n10 1\n0", 3, "interp: line 4: RowLength\n"),
+        (
+            ".i 2\n.o 1\n.type fr\n.topology x\n11\n1\n",
+            3,
+            "interp: line 5: RowLength\n",
+        ),
+        (
+            ".i 2\n.o 1\n.type fr\n1- 1\n-1 0\n",
+            4,
+            "interp: output 1: on line 4, off line 5\n",
+        ),
+        (".i 13\n.o 1\n", 11, "interp: form not built\n"),
+    ] {
+        check(
+            &rt,
+            alloc,
+            &words,
+            text,
+            (NEVER, NEVER),
+            (status, "", message),
+        )?;
+    }
+    Ok(())
+}
+
+#[test]
+fn words_and_faults(rt: HostRuntime) -> Result<(), Fail> {
+    let alloc = rt.alloc();
+    let sum = ".i 2\n.o 1\n.type fd\n10 1\n01 1\n";
+    let words = words_of(alloc, "interp anf")?;
+    check(
+        &rt,
+        alloc,
+        &words,
+        sum,
+        (2, NEVER),
+        (8, "", "interp: read fault\n"),
+    )?;
+    check(
+        &rt,
+        alloc,
+        &words,
+        sum,
+        (NEVER, 2),
+        (9, "f1 =", "interp: write fault\n"),
+    )?;
+    let usage = "interp: usage: interp MODE [--workers N] [--nodes B] [--terms T] [--seed S]\n";
+    for line in ["interp", "interp basis", "interp anf --nodes"] {
+        let words = words_of(alloc, line)?;
+        check(&rt, alloc, &words, sum, (NEVER, NEVER), (2, "", usage))?;
+    }
+    Ok(())
+}
+
+// More bytes than a run reads.
+#[test]
+fn too_long(rt: HostRuntime) -> Result<(), Fail> {
+    let alloc = rt.alloc();
+    let words = words_of(alloc, "interp anf")?;
+    let bytes = Vec::from_elem(alloc, b'\n', 4_194_305)?;
+    let mut source = MemSource::make(alloc, &bytes, 4_194_305, &[]).map_err(|_| "memory")?;
+    let mut out = MemSink::make(alloc, 200, 4, &[]).map_err(|_| "memory")?;
+    let mut err = MemSink::make(alloc, 200, 7, &[]).map_err(|_| "memory")?;
+    assert_eq!(rt; run(alloc, &words, &mut source, &mut out, &mut err), 10);
+    assert_eq!(rt; out.bytes(), b"".as_slice());
+    assert_eq!(rt;
+        err.bytes(),
+        b"interp: longer than 4194304 bytes\n".as_slice()
+    );
     Ok(())
 }

@@ -1,1 +1,7 @@
 pub mod Description
+pub mod PlainNames
+pub mod Lines
+pub mod Grammar
+pub mod Reading
+pub mod Parts
+pub mod Draft

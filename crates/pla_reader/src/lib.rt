@@ -1,6 +1,20 @@
 //! Descriptions in the form of espresso's PLA files: read from bytes, and their names.
 #![tactic(auto)]
 
+mod arguments;
+mod command;
+mod draft;
+mod lines;
+mod names;
 mod pla;
+mod reading;
+mod refusal;
+mod row;
 
+pub use crate::names::plain_names;
 pub use crate::pla::{Pla, Rows};
+pub use crate::reading::read;
+pub use crate::refusal::{ReadRefusal, Refusal, Why};
+
+#[cfg(test)]
+mod tests;

@@ -1,0 +1,12 @@
+//! The text of the answer: polynomials with the names of the description.
+#![tactic(auto)]
+
+mod answer;
+mod names;
+mod polynomial;
+
+pub use crate::answer::{Shown, answer_text};
+pub use crate::polynomial::poly_text;
+
+#[cfg(test)]
+mod tests;

@@ -1,0 +1,31 @@
+use Rattle.std.proofs.Common.{◌∙◌, subst}
+use Rattle.cli_words.specs.CommandLine.{IsJob}
+use Rattle.cli_words.proofs.EachFound.{each_found}
+use Rattle.cli_words.proofs.Taken.{is_refused, is_taken}
+use Rattle.cli_words.proofs.job.read_words.Goals as goal
+
+pub job_of-requires : goal.job_of-requires
+job_of-requires c =
+    let app = c.in_ok-command.ensures.app in
+    each_found app.0 _ c.in-Ok.matches app.2 c.in-Ok.ensures.parsed app.1
+
+pub returns-in-Ok-clause-taken : goal.returns-in-Ok-clause-taken
+returns-in-Ok-clause-taken c =
+    let app = c.in_ok-command.ensures.app in
+    (is_taken app.0 _ c.args.words.now _ c.in-Ok.matches app.1 app.2 c.all.ensures.words c.in-Ok.ensures.kinds c.in-Ok.ensures.matches).0
+
+pub returns-in-Ok-clause-job : goal.returns-in-Ok-clause-job
+returns-in-Ok-clause-job c =
+    let app = c.in_ok-command.ensures.app in
+    let taken = is_taken app.0 _ c.args.words.now _ c.in-Ok.matches app.1 app.2 c.all.ensures.words c.in-Ok.ensures.kinds c.in-Ok.ensures.matches in
+    subst (λ rows. IsJob rows c.job_of.result) taken.1 c.job_of.ensures
+
+pub returns : goal.returns
+returns c =
+    let app = c.in_ok-command.ensures.app in
+    record {
+      usage = λ _. is_refused app.0 _ c.args.words.now _ c.in-Err.error app.1 app.2 c.all.ensures.words c.in-Err.ensures.kinds
+          (λ out. c.in_default.not-OutOfMemory (c.kind.ensures ∙ out));
+      taken = tt;
+      job = tt;
+    }

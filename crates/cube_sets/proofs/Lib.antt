@@ -1,0 +1,4 @@
+pub mod SharedPoints
+pub mod Pairs
+pub mod Search
+pub mod Consistent

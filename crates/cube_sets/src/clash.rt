@@ -1,0 +1,96 @@
+//! Rows that contradict each other.
+ghost use Rattle.std.specs.Prelude.{◌≡◌, ◌↔◌, ◌^◌, ◌<◌, ℕ, [], ◌∷◌, true, IsTrue, IfSome, IsNone};
+ghost use Rattle.std.specs.List.{Contains};
+ghost use Rattle.lattice.specs.Family.{divides};
+ghost use Rattle.lattice.specs.Rows.{IsConsistent};
+ghost use Rattle.cube_sets.specs.Clashes.{SharePoint, IsClash, IsLeastOf, Answers};
+
+use lattice::{Kind, Row};
+use pla_reader::Pla;
+
+/// Two rows that contradict each other: the line of one that says that the output is 1, and the line of one that says that it
+/// is 0.
+#[derive(Clone, Copy, PartialEq, Eq, Debug)]
+pub struct Clash {
+    pub output: u32,
+    pub on_line: u32,
+    pub off_line: u32,
+}
+
+/// Whether the two cubes share a point. The value of each row is within its care.
+pub fn meets(a: &Row, b: &Row) -> bool
+    requires first { divides a.now.value a.now.care ≡ true }
+    requires second { divides b.now.value b.now.care ≡ true }
+    ensures { (n : ℕ) → a.now.care < 2 ^ n → b.now.care < 2 ^ n → (IsTrue result ↔ SharePoint n a.now b.now) }
+{
+    (a.value ^ b.value) & a.care & b.care == 0
+}
+
+/// The least clash of the on-row `a` with the off-row `b`, of those at an output up to `outputs`.
+fn clash_of(a: &Row, b: &Row, outputs: u32) -> Option<Clash>
+    requires first { divides a.now.value a.now.care ≡ true }
+    requires second { divides b.now.value b.now.care ≡ true }
+    ensures { (n : ℕ) → a.now.care < 2 ^ n → b.now.care < 2 ^ n → Answers (IsClash n outputs (a.now ∷ []) (b.now ∷ [])) result }
+{
+    let both = a.on & b.off;
+    if both == 0 || !meets(a, b) {
+        return None;
+    }
+    let output = both.trailing_zeros() + 1;
+    if output > outputs {
+        return None;
+    }
+    Some(Clash {
+        output,
+        on_line: a.line,
+        off_line: b.line,
+    })
+}
+
+/// The least clash of the on-row `a` with an off-row of `p`, of those at an output up to `outputs`.
+fn least_with(p: &Pla, a: &Row, outputs: u32) -> Option<Clash>
+    requires { Contains p.now.rows a.now }
+    ensures { Answers (IsClash p.now.inputs outputs (a.now ∷ []) p.now.rows) result }
+{
+    if a.on == 0 || outputs == 0 {
+        return None;
+    }
+    let mut least = None;
+    // Lines ascend, so after a clash only one at a lesser output can be less.
+    let mut limit = outputs;
+    for b in p.rows.as_slice() {
+        if let Some(clash) = clash_of(a, b, limit) {
+            limit = clash.output - 1;
+            least = Some(clash);
+        }
+    }
+    least
+}
+
+/// The least clash of two rows.
+fn least_clash(p: &Pla) -> Option<Clash>
+    ensures { Answers (IsClash p.now.inputs p.now.outputs p.now.rows p.now.rows) result }
+{
+    let mut least = None;
+    // Lines ascend, so after a clash only one at a lesser output can be less.
+    let mut outputs = p.outputs;
+    for a in p.rows.as_slice() {
+        if let Some(clash) = least_with(p, a, outputs) {
+            outputs = clash.output - 1;
+            least = Some(clash);
+        }
+    }
+    least
+}
+
+/// The clash of two rows that is least by output, then by the line of the on-row, then by that of the off-row. None exactly
+/// where the description is consistent.
+pub fn conflict(p: &Pla) -> Option<Clash>
+    ensures none { IsNone result ↔ IsConsistent p.now.inputs p.now.outputs p.now.rows }
+    ensures least { IfSome result (IsLeastOf (IsClash p.now.inputs p.now.outputs p.now.rows p.now.rows)) }
+{
+    match p.kind {
+        Kind::F | Kind::Fd => None,
+        Kind::Fr | Kind::Fdr => least_clash(p),
+    }
+}

@@ -1,0 +1,9 @@
+//! Rows that contradict each other.
+#![tactic(auto)]
+
+mod clash;
+
+pub use crate::clash::{Clash, conflict, meets};
+
+#[cfg(test)]
+mod tests;

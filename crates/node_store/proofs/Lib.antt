@@ -1,0 +1,4 @@
+pub mod StoreLemmas
+pub mod GrownNodes
+pub mod PlainLemmas
+pub mod AnyPlanned

@@ -1,0 +1,17 @@
+//! Handles, nodes and stores of diagram nodes.
+#![tactic(auto)]
+
+mod key;
+pub mod laws;
+mod plain;
+mod store;
+mod walk;
+mod word;
+
+pub use crate::plain::PlainStore;
+pub use crate::store::{Full, Handle, Node, Store};
+pub use crate::walk::{first_var, grow, parts};
+pub use crate::word::{pack, unpack};
+
+#[cfg(test)]
+mod tests;

@@ -1,0 +1,82 @@
+ghost use Rattle.std.specs.Prelude.{◌≤◌, IfOk};
+ghost use Rattle.lattice.specs.Family.{power};
+ghost use Rattle.lattice.specs.WorkingLists.{working_set};
+ghost use Rattle.lattice.proofs.WorkingSets.{working_set_is_node_list};
+ghost use Rattle.node_store.specs.Stores.{Builds};
+ghost use Rattle.node_store.specs.PlainOf.{state_of};
+ghost use Rattle.node_store.specs.AnyFamily.{every_family, MayHoldAny};
+
+use crate::{Full, Handle, Node, PlainStore, Store, first_var, grow, pack, parts, unpack};
+use lattice::{Memory, Planned, plan_of};
+use std::alloc::Global;
+use std::test::Fail;
+
+// Every family over so many variables.
+#[derive(Drop)]
+struct EveryFamily(u32);
+
+impl Planned for EveryFamily {
+    ghost families = { λ p. working_set p.0 (every_family p.0) };
+
+    ghost node_list = { λ p. working_set_is_node_list p.0 (every_family p.0) };
+}
+
+// A store of 16 slots that may be asked for any family.
+fn store_for_any(alloc: Global, vars: u32) -> Result<PlainStore, Memory>
+    requires { (1 ≤ vars) × (vars ≤ 62) }
+    ensures { IfOk result (λ s. MayHoldAny vars (state_of s)) }
+{
+    PlainStore::make(alloc, 4, vars, plan_of(&EveryFamily(vars)))
+}
+
+// All numbers over the last variables, so many of them.
+fn all_over<S: Store>(store: &mut S, vars: u32, count: u32) -> Result<Handle, Full>
+    requires any { MayHoldAny vars (S.state store.old) }
+    requires count { count ≤ vars }
+    ensures builds { Builds (S.state store.old) (S.state store.new) result (power count) }
+    ensures any { MayHoldAny vars (S.state store.new) }
+{
+    if count == 0 {
+        return Ok(Handle(1));
+    }
+    let rest = all_over(store, vars, count - 1)?;
+    let var = store.vars() - (count - 1);
+    store.intern(&Node {
+        var,
+        lo: rest,
+        hi: rest,
+    })
+}
+
+// A node is interned once, and its handle tells its slot.
+#[test]
+fn slots_in_order(rt: HostRuntime) -> Result<(), Fail> {
+    let mut store = store_for_any(rt.alloc(), 3)?;
+    assert_eq!(rt; all_over(&mut store, 3, 1), Ok(Handle(2)));
+    assert_eq!(rt; all_over(&mut store, 3, 1), Ok(Handle(2)));
+    assert_eq!(rt; all_over(&mut store, 3, 2), Ok(Handle(3)));
+    Ok(())
+}
+
+// Each slot takes a node; then the store is full, and still gives the handles of the nodes that it has.
+#[test]
+fn full_after_the_last_slot(rt: HostRuntime) -> Result<(), Fail> {
+    let mut store = store_for_any(rt.alloc(), 17)?;
+    assert_eq!(rt; all_over(&mut store, 17, 16), Ok(Handle(17)));
+    assert_eq!(rt; all_over(&mut store, 17, 17), Err(Full));
+    assert_eq!(rt; all_over(&mut store, 17, 16), Ok(Handle(17)));
+    Ok(())
+}
+
+#[test]
+fn words_of_nodes(rt: HostRuntime) {
+    let node = Node {
+        var: 3,
+        lo: Handle(1),
+        hi: Handle(1),
+    };
+    assert_eq!(rt; pack(&node), 3298535931905);
+    assert_eq!(rt; unpack(3298535931905), Some(node));
+    assert_eq!(rt; unpack(3298535931904), None);
+    assert_eq!(rt; unpack(0), None);
+}

@@ -1,0 +1,11 @@
+use Rattle.std.proofs.Common.{◌==◌, rules, tests}
+use Rattle.std.proofs.lemmas.Iterator.{YieldsList-from_slice}
+use Rattle.std.proofs.lemmas.Iterator.Search.{position_from_yields_List}
+use Rattle.pla_reader.proofs.Cuts.{first_or_len}
+use Rattle.pla_reader.proofs.lines.first_feed.Goals as goal
+
+pub returns-clause-place : goal.returns-clause-place
+returns-clause-place c =
+    let bytes = c.args.bytes.now in
+    let found = position_from_yields_List (λ b. b == 10) _ _ c.position.result c.position.ensures.ran (YieldsList-from_slice bytes cc) (λ x b q k. search (rules, tests)) in
+    rw c.unwrap_or.ensures (first_or_len (λ b. b == 10) bytes c.position.result found)

@@ -1,0 +1,30 @@
+-- What the parts of the reader answer to each other. No public clause has these words.
+use Rattle.std.specs.Prelude.{◌≡◌, ℕ, ◌<◌, List, ◌∷◌, length, Option, Some}
+use Rattle.pla_reader.specs.declared.refusal.Why.{Why}
+use Rattle.pla_reader.specs.declared.refusal.Refusal.{Refusal}
+use Rattle.pla_reader.specs.declared.refusal.LineRefusal.{LineRefusal}
+use Rattle.pla_reader.specs.declared.refusal.LineRefusal.TheVariants.{Bad, Memory}
+use Rattle.pla_reader.specs.declared.refusal.ReadRefusal.{ReadRefusal}
+use Rattle.pla_reader.specs.declared.refusal.ReadRefusal.TheVariants as whole
+use Rattle.pla_reader.specs.Lines.{words_of}
+
+-- the first word of a line, and what follows it
+pub record BeginsWithWord (line word rest : List ℕ) : Type 0 where
+  pub words : words_of line ≡ word ∷ words_of rest
+  pub some : 0 < length word
+  pub less : length rest < length line
+
+-- the refusal of a line, with its number
+abbrev pub refused : LineRefusal → ℕ → ReadRefusal
+refused (Bad why) line = whole.Bad (record { line = line; why = why })
+refused Memory line = whole.Memory
+
+-- the line has this fault, or memory ran out
+abbrev pub Stops : LineRefusal → Option Why → Type 0
+Stops (Bad why) fault = fault ≡ Some why
+Stops Memory fault = Unit {0}
+
+-- this is the first fault of the lines, or memory ran out
+abbrev pub Refuses : ReadRefusal → Option Refusal → Type 0
+Refuses (whole.Bad refusal) fault = fault ≡ Some refusal
+Refuses whole.Memory fault = Unit {0}

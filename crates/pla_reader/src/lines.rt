@@ -1,0 +1,135 @@
+//! The lines of a text, and the words that stand on a line.
+ghost use Rattle.std.specs.Prelude.{◌≡◌, ◌+◌, ◌<◌, ◌≤◌, ◌==◌, true, not, [], ◌∷◌, length, Some, None, MatchOption};
+ghost use Rattle.std.specs.List.{list_all, position_or_len};
+ghost use Rattle.pla_reader.specs.Lines.{lines_of, is_blank, is_printable, without_last, before_comment, content, words_of};
+ghost use Rattle.pla_reader.specs.Parts.{BeginsWithWord};
+ghost use Rattle.pla_reader.specs.Grammar.{only};
+
+/// Whether the byte is a space or a tab.
+pub fn is_blank(byte: u8) -> bool
+    ensures { result ≡ is_blank byte }
+{
+    byte == b' ' || byte == b'\t'
+}
+
+/// Whether each byte is a tab or printable ASCII.
+pub fn is_printable(line: &[u8]) -> bool
+    ensures { result ≡ list_all is_printable line.now }
+{
+    line.iter()
+        .all(|byte| *byte == b'\t' || (b' ' <= *byte && *byte <= b'~'))
+}
+
+/// The first line, with its line feed, and what follows it.
+pub fn split_line(bytes: &[u8]) -> (&[u8], &[u8])
+    requires { 0 < length bytes.now }
+    ensures first { lines_of bytes.now ≡ result.0.now ∷ lines_of result.1.now }
+    ensures some { 0 < length result.0.now }
+    ensures all { length result.0.now + length result.1.now ≡ length bytes.now }
+{
+    let feed = first_feed(bytes);
+    if feed < bytes.len() {
+        bytes.split_at(feed + 1)
+    } else {
+        bytes.split_at(feed)
+    }
+}
+
+/// The place of the first line feed, or the length.
+fn first_feed(bytes: &[u8]) -> usize
+    ensures place { result ≡ position_or_len (λ b. b == 10) bytes.now }
+    ensures within { result ≤ length bytes.now }
+{
+    bytes
+        .iter()
+        .position(|byte| *byte == b'\n')
+        .unwrap_or(bytes.len())
+}
+
+/// The bytes, less the last one if it is `last`.
+fn without_last(line: &[u8], last: u8) -> &[u8]
+    ensures { result.now ≡ without_last last line.now }
+{
+    match line {
+        [front @ .., byte] if *byte == last => front,
+        _ => line,
+    }
+}
+
+/// The bytes before a comment. A `#` begins one where it comes first or follows a blank.
+fn before_comment(line: &[u8]) -> &[u8]
+    ensures { result.now ≡ before_comment true line.now }
+{
+    let mut may_begin = true;
+    for (i, byte) in line.iter().enumerate() {
+        if may_begin && *byte == b'#' {
+            return &line[..i];
+        }
+        may_begin = is_blank(*byte);
+    }
+    line
+}
+
+/// What stands on a line: no line feed, no carriage return before it, and no comment.
+#[tactic(auto, unfolding(crate::specs::Lines::content))]
+pub fn content(line: &[u8]) -> &[u8]
+    ensures { result.now ≡ content line.now }
+{
+    before_comment(without_last(without_last(line, b'\n'), b'\r'))
+}
+
+/// The place of the first byte that is no blank, or the length.
+fn first_of_word(line: &[u8]) -> usize
+    ensures place { result ≡ position_or_len (λ b. not (is_blank b)) line.now }
+    ensures within { result ≤ length line.now }
+{
+    line.iter()
+        .position(|byte| !is_blank(*byte))
+        .unwrap_or(line.len())
+}
+
+/// The place of the first blank, or the length.
+fn first_blank(line: &[u8]) -> usize
+    ensures place { result ≡ position_or_len is_blank line.now }
+    ensures within { result ≤ length line.now }
+{
+    line.iter()
+        .position(|byte| is_blank(*byte))
+        .unwrap_or(line.len())
+}
+
+/// The first word of a line, and what follows it.
+pub fn first_word(line: &[u8]) -> Option<(&[u8], &[u8])>
+    ensures { MatchOption result (words_of line.now ≡ []) (λ r. BeginsWithWord line.now r.0.now r.1.now) }
+{
+    let start = first_of_word(line);
+    if start == line.len() {
+        return None;
+    }
+    let (_, words) = line.split_at(start);
+    Some(words.split_at(first_blank(words)))
+}
+
+/// The number of words on a line.
+pub fn count_words(line: &[u8]) -> usize
+    ensures { result ≡ length (words_of line.now) }
+{
+    let mut count = 0;
+    let mut rest = line;
+    while let Some((_, after)) = first_word(rest) {
+        count += 1;
+        rest = after;
+    }
+    count
+}
+
+/// The word of a line that has just one.
+pub fn only_word(line: &[u8]) -> Option<&[u8]>
+    ensures { MatchOption result (only (words_of line.now) ≡ None) (λ r. only (words_of line.now) ≡ Some r.now) }
+{
+    let (word, rest) = first_word(line)?;
+    match first_word(rest) {
+        None => Some(word),
+        Some(_) => None,
+    }
+}

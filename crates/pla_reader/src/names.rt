@@ -1,0 +1,115 @@
+//! Names that can be printed.
+ghost use Rattle.std.specs.Prelude.{◌≡◌, ◌↔◌, IsTrue};
+ghost use Rattle.std.specs.List.{list_all};
+ghost use Rattle.lattice.specs.Family.{includes, is_distinct};
+ghost use Rattle.pla_reader.specs.PlainNames.{begins_name, continues_name, is_plain, ArePlain};
+
+use lattice::{Name, Names};
+
+/// Whether a plain name may begin with the byte.
+fn begins_name(byte: u8) -> bool
+    ensures { result ≡ begins_name byte }
+{
+    byte.is_ascii_alphabetic() || byte == b'_'
+}
+
+/// Whether a plain name may go on with the byte.
+fn continues_name(byte: u8) -> bool
+    ensures { result ≡ continues_name byte }
+{
+    byte.is_ascii_alphanumeric() || b"_.[]<>".contains(&byte)
+}
+
+/// Whether a plain name may go on with the bytes.
+fn all_continue(bytes: &[u8]) -> bool
+    ensures { result ≡ list_all continues_name bytes.now }
+{
+    bytes.iter().all(|b| continues_name(*b))
+}
+
+/// Whether the name is plain.
+#[tactic(auto, unfolding(crate::specs::PlainNames::is_plain))]
+fn is_plain(name: &[u8]) -> bool
+    ensures { result ≡ is_plain name.now }
+{
+    match name {
+        [] => false,
+        [first, rest @ ..] => rest.len() < 32 && begins_name(*first) && all_continue(rest),
+    }
+}
+
+/// Whether the name is one of the names.
+#[tactic(auto, unfolding(lattice::specs::Family::includes))]
+fn includes(names: &[Name], name: &[u8]) -> bool
+    ensures { result ≡ includes names.now name.now }
+{
+    names.iter().any(|other| other.as_slice() == name)
+}
+
+/// Whether no two of the names are the same.
+fn are_distinct(names: &[Name]) -> bool
+    ensures { result ≡ is_distinct names.now }
+{
+    let mut rest = names;
+    while let [first, others @ ..] = rest {
+        if includes(others, first.as_slice()) {
+            return false;
+        }
+        rest = others;
+    }
+    true
+}
+
+/// Whether all the names are plain.
+fn all_plain(names: &[Name]) -> bool
+    ensures { result ≡ list_all is_plain names.now }
+{
+    names.iter().all(|name| is_plain(name.as_slice()))
+}
+
+/// Whether there are names, all of them plain and no two of them the same.
+///
+/// A name is plain where it has 1 to 32 bytes, begins with an ASCII letter or `_`, and goes on with ASCII letters, digits and
+/// the bytes `_ . [ ] < >`.
+#[tactic(auto, unfolding(crate::specs::PlainNames::are_plain))]
+pub fn plain_names(names: &Names) -> bool
+    ensures { IsTrue result ↔ ArePlain names.now }
+{
+    let names = names.as_slice();
+    !names.is_empty() && all_plain(names) && are_distinct(names)
+}
+
+#[cfg(test)]
+mod tests {
+    use super::*;
+    use std::alloc::{AllocError, Global};
+    use std::test::Fail;
+
+    fn names_of(alloc: Global, texts: &[&[u8]]) -> Result<Names, AllocError> {
+        let mut names = Vec::new(alloc);
+        for text in texts {
+            names.push(Name::from_vec(Vec::from_slice(alloc, text)?))?;
+        }
+        Ok(Names::from_vec(names))
+    }
+
+    #[test]
+    fn plain_or_not(rt: HostRuntime) -> Result<(), Fail> {
+        let longest = b"abcdefghijklmnopqrstuvwxyz012345";
+        let too_long = b"abcdefghijklmnopqrstuvwxyz0123456";
+        let cases: [(&[&[u8]], bool); 8] = [
+            (&[b"a", b"b", b"cin"], true),
+            (&[b"_x[0]", b"y<1>.z"], true),
+            (&[longest], true),
+            (&[too_long], false),
+            (&[b"0", b"1"], false),
+            (&[b"a", b"b-c"], false),
+            (&[b"a", b"b", b"a"], false),
+            (&[], false),
+        ];
+        for (texts, want) in cases {
+            assert_eq!(rt; plain_names(&names_of(rt.alloc(), texts)?), want);
+        }
+        Ok(())
+    }
+}

@@ -1,0 +1,164 @@
+use super::*;
+use lattice::{Kind, Row};
+
+// A text, its first bad line, and what is wrong with it.
+#[test]
+fn refusals(rt: HostRuntime) {
+    let cases: [(&[u8], u32, Why); 32] = [
+        (b".i 99999999999999999999\n", 1, Why::SizeRange),
+        (b".i 0\n", 1, Why::SizeRange),
+        (b".i 2 2\n", 1, Why::BadNumber),
+        (b".i 2\n.i 2\n", 2, Why::Twice),
+        (b".i 2\n.o 65\n", 2, Why::SizeRange),
+        (b".i 2\n.ilb a b\n.o 1\n", 2, Why::NamesEarly),
+        (b".i 2\n.o 1\n.ilb a\n", 3, Why::NameCount),
+        (b".i 2\n.o 1\n.type dr\n", 3, Why::Unsupported),
+        (b".i 2\n.o 1\n.type g\n", 3, Why::BadType),
+        (b".i 2\n10 1\n", 2, Why::RowBeforeSize),
+        (b".i 2\n.o 1\n1x 1\n", 3, Why::BadSymbol),
+        (b".i 2\n.o 1\n\0\n", 3, Why::BadByte),
+        (b".i 2\n.e\n", 2, Why::NoSize),
+        (b".i 2\n.o 1\n.type fd\n1-\n", 4, Why::RowLength),
+        (b".i 2\n.o 1\n10 1\n.type fd\n", 4, Why::TypeLate),
+        (b"", 0, Why::NoSize),
+        (b".i 2\n.o 1\n10 1\n0", 4, Why::RowLength),
+        (
+            b".i 2\n.o 1 # one\n.type fr\n.topology x\n11\n1\n",
+            5,
+            Why::RowLength,
+        ),
+        (b".i 63\n", 1, Why::SizeRange),
+        (b".i\n", 1, Why::BadNumber),
+        (b".i 2x\n", 1, Why::BadNumber),
+        (
+            b".i 340282366920938463463374607431768211458\n",
+            1,
+            Why::SizeRange,
+        ),
+        (b"\n# \n\r\n.i 2\n.kiss\n10 1\n", 5, Why::Unsupported),
+        (b".i 2\n.o 1\n.ob f g\n", 3, Why::NameCount),
+        (b".i 2\n.o 1\n.ob f\n.ob f g\n", 4, Why::Twice),
+        (b".i 2\n.o 1\n.type f fd\n", 3, Why::BadType),
+        (b".i 2\n.o 1\n11 1#\n", 3, Why::RowLength),
+        (b".i 2\n.o 1\n~1 1\n", 3, Why::BadSymbol),
+        (b".i 2\n.o 1\n11 3\n", 3, Why::BadSymbol),
+        (b".i 2\n.o 1\n11 1\r\r\n", 3, Why::BadByte),
+        (b".i 2\n.o 1\n\xc8# \n", 3, Why::BadByte),
+        (b".i 2\n\n.end\n.o 1\n", 3, Why::NoSize),
+    ];
+    for (text, line, why) in cases {
+        assert!(rt; text.len() < 100);
+        let refusal = read(rt.alloc(), text).err();
+        assert_eq!(rt; refusal, Some(ReadRefusal::Bad(Refusal { line, why })));
+    }
+}
+
+fn row(line: u32, care: u64, value: u64, on: u64, off: u64, dc: u64) -> Row {
+    Row {
+        line,
+        care,
+        value,
+        on,
+        off,
+        dc,
+    }
+}
+
+// A text of two inputs, the bytes that it takes, its type and its rows.
+#[test]
+fn rows(rt: HostRuntime) {
+    let cases: [(&[u8], usize, Kind, &[Row]); 8] = [
+        (
+            b".i 2\n.o 1 # one\n.type fr\n.topology x\n1 1 | 1\n",
+            45,
+            Kind::Fr,
+            &[row(5, 3, 3, 1, 0, 0)],
+        ),
+        (
+            b".i 002\r\n.o 1\r\n# \xc8\r\n1-1\r\n.e 1\r\n.e\r\n",
+            30,
+            Kind::Fd,
+            &[row(4, 2, 2, 1, 0, 0)],
+        ),
+        (
+            b".o 4\n.i 2\n.type f\n012014\n-02~-1",
+            31,
+            Kind::F,
+            &[row(4, 3, 1, 12, 0, 0), row(5, 1, 0, 8, 0, 0)],
+        ),
+        (
+            b".o 4\n.i 2\n.type fd\n01 2014\n-0 2~-1\n",
+            35,
+            Kind::Fd,
+            &[row(4, 3, 1, 12, 0, 1), row(5, 1, 0, 8, 0, 5)],
+        ),
+        (
+            b".o 4\n.i 2\n.type fr\n01 2014\n-0 2~-1\n",
+            35,
+            Kind::Fr,
+            &[row(4, 3, 1, 12, 2, 0), row(5, 1, 0, 8, 0, 0)],
+        ),
+        (
+            b".o 4\n.i 2\n.type fdr\n01 2014\n-0 2~-1\n",
+            36,
+            Kind::Fdr,
+            &[row(4, 3, 1, 12, 2, 1), row(5, 1, 0, 8, 0, 5)],
+        ),
+        (b"\t.i\t2 #.i 2\n .o 1\n .end\n\0\n", 24, Kind::Fd, &[]),
+        (b".i 2\n.o 1\n.type#x fr\n.p\n", 24, Kind::Fd, &[]),
+    ];
+    for (text, taken, kind, rows) in cases {
+        assert!(rt; text.len() < 100);
+        let (pla, count) = read(rt.alloc(), text).expect(&rt, "a description");
+        assert_eq!(rt; count, taken);
+        assert_eq!(rt; pla.inputs, 2);
+        assert_eq!(rt; pla.kind, kind);
+        assert_eq!(rt; pla.rows.as_slice(), rows);
+    }
+}
+
+// Names may come after rows.
+#[test]
+fn names(rt: HostRuntime) {
+    let text = b"# full adder\n.i 3\n.o 2\n.ilb a b cin\n001 10\n.ob s #c\n.e\n";
+    let refusal = read(rt.alloc(), text).err();
+    let why = Why::NameCount;
+    assert_eq!(rt; refusal, Some(ReadRefusal::Bad(Refusal { line: 6, why })));
+
+    let text = b"# full adder\n.i 3\n.o 2\n.ilb a b cin\n001 10\n.ob s c#c\n.e\n";
+    let (pla, _) = read(rt.alloc(), text).expect(&rt, "a description");
+    assert_eq!(rt; pla.in_names.len(), 3);
+    assert_eq!(rt; pla.out_names.len(), 2);
+    let known = pla
+        .in_names
+        .as_slice()
+        .iter()
+        .chain(pla.out_names.as_slice());
+    let wanted: [&[u8]; 5] = [b"a", b"b", b"cin", b"s", b"c#c"];
+    for (name, want) in known.zip(wanted) {
+        assert_eq!(rt; name.as_slice(), want);
+    }
+}
+
+// So many rows are read, and one more is refused.
+#[test]
+fn most_rows(rt: HostRuntime) {
+    let mut text = Vec::new(rt.alloc());
+    text.extend_from_slice(b".i 1\n.o 1\n")
+        .expect(&rt, "memory");
+    for _ in 0..8192 {
+        text.extend_from_slice(b"1 1\n").expect(&rt, "memory");
+    }
+    assert_eq!(rt; text.len(), 32778);
+    let (pla, _) = read(rt.alloc(), &text).expect(&rt, "a description");
+    assert_eq!(rt; pla.rows.len(), 8192);
+
+    text.extend_from_slice(b"1 1\n").expect(&rt, "memory");
+    assert_eq!(rt; text.len(), 32782);
+    let refusal = read(rt.alloc(), &text).err();
+    let why = Why::TooManyRows;
+    assert_eq!(rt;
+        refusal,
+        Some(ReadRefusal::Bad(Refusal { line: 8195, why }))
+    );
+}

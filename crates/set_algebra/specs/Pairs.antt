@@ -1,0 +1,22 @@
+-- Two families in an operation: in which order, and cut at their first variable.
+use Rattle.std.specs.Prelude.{◌≡◌, Bool, suc, ◌-◌, ◌≤◌, ◌⊎◌, max}
+use Rattle.lattice.specs.Cofactors.{low_cofactor, high_cofactor, level}
+use Rattle.lattice.specs.Operations.{test_of}
+use Rattle.lattice.specs.declared.op.Op.{Op}
+use Rattle.node_store.specs.Stores.{State, Denotes, family}
+use Rattle.node_store.specs.declared.store.Handle.{Handle}
+use Rattle.set_algebra.specs.declared.pairs.Cofactors.{Cofactors}
+
+-- x and y are a and b, or the other way round where the operation gives the same
+abbrev pub AreInOrder : Op → Handle → Handle → Handle → Handle → Type 0
+AreInOrder op a b x y = ((x ≡ a) × (y ≡ b)) ⊎ ((x ≡ b) × (y ≡ a) × ((p q : Bool) → test_of op p q ≡ test_of op q p))
+
+-- the parts of the families of a and b at the first variable of both; s is the state before, t the one after
+pub record AreCofactors (s t : State) (a b : Handle) (h : Cofactors) : Type 0 where
+  pub first : 1 ≤ h.var
+  pub last : h.var ≤ s.vars
+  pub top : max (level s.vars (family s a)) (level s.vars (family s b)) ≡ suc (s.vars - h.var)
+  pub a_low : Denotes t h.a_low (low_cofactor (s.vars - h.var) (family s a))
+  pub a_high : Denotes t h.a_high (high_cofactor (s.vars - h.var) (family s a))
+  pub b_low : Denotes t h.b_low (low_cofactor (s.vars - h.var) (family s b))
+  pub b_high : Denotes t h.b_high (high_cofactor (s.vars - h.var) (family s b))
