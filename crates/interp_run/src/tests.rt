@@ -76,12 +76,16 @@ fn names_and_many_outputs(rt: HostRuntime) -> Result<(), Fail> {
     let alloc = rt.alloc();
     let adder =
         "# full adder\n.i 3\n.o 2\n.ilb a b cin\n.ob s c\n.p 7\n001 10\n010 10\n100 10\n111 11\n011 01\n101 01\n110 01\n.e\n";
-    answers(
-        &rt,
-        alloc,
-        adder,
-        "s = a + b + cin\nc = a*b + a*cin + b*cin\n",
-    )?;
+    let carriage_returns =
+        "# full adder\r\n.i 3\r\n.o 2\r\n.ilb a b cin\r\n.ob s c\r\n.p 7\r\n001 10\r\n010 10\r\n100 10\r\n111 11\r\n011 01\r\n101 01\r\n110 01\r\n.e\r\n";
+    for text in [adder, carriage_returns] {
+        answers(
+            &rt,
+            alloc,
+            text,
+            "s = a + b + cin\nc = a*b + a*cin + b*cin\n",
+        )?;
+    }
     let pair = ".i 2\n.o 2\n.type fr\n11 1-\n00 00\n10 -1\n";
     answers(&rt, alloc, pair, "f1 = x2\nf2 = x1\n")?;
     let numbers = ".i 2\n.o 1\n.ilb 0 1\n10 1\n01 1\n";
@@ -108,7 +112,7 @@ fn refusals(rt: HostRuntime) -> Result<(), Fail> {
         ),
         (".i 2\n.o 1\n10 1\n0", 3, "interp: line 4: RowLength\n"),
         (
-            ".i 2\n.o 1\n.type fr\n.topology x\n11\n1\n",
+            ".i 2\n.o 1 # one\n.type fr\n.topology x\n11\n1\n",
             3,
             "interp: line 5: RowLength\n",
         ),

@@ -6,7 +6,7 @@ use Rattle.lattice.specs.Family.{Family, IsFamily, Covers}
 use Rattle.lattice.specs.Cofactors.{join, low_cofactor, high_cofactor, level, sub}
 use Rattle.lattice.proofs.MoreVariables.{IsFamily_wider}
 use Rattle.lattice.proofs.Subfamilies.{level-join, level-below, IsFamily_level, low_cofactor-join, high_cofactor-join, join-nil, high_cofactor_none, low_cofactor_whole, IsFamily-nil, IsFamily-unit}
-use Rattle.node_store.specs.Stores.{State, Knows, family, Denotes, node_family, IsNode, IsSound, Adds, Grows, IsFull, Reads, Gives, Builds, second, AreOperands, IsResult}
+use Rattle.node_store.specs.Stores.{State, Knows, family, Denotes, node_family, IsNode, ArePartsOf, IsSound, Adds, Grows, IsFull, Reads, Gives, Builds, second, AreOperands, IsResult}
 use Rattle.lattice.specs.Operations.{takes_family, answer}
 use Rattle.lattice.specs.declared.op.Op.{Op}
 use Rattle.lattice.specs.declared.entry.Entry.{Entry}
@@ -247,3 +247,23 @@ Grows-result s t op a b r grows is = record {
   denotes = rw (grows.vars, Grows-family s t a grows is.operands.first, second_same s t op b grows is.operands.second_handle) (grows.known r.0 (answer op s.vars (family s a) (second s op b) b) is.denotes);
   held = rw (grows.vars, Grows-family s t a grows is.operands.first, second_same s t op b grows is.operands.second_handle) (λ f h. grows.held f (is.held f h));
 }
+
+-- ---- the parts at a variable, by the node
+
+pub parts_there : (a : Handle) (n : Node) (var : ℕ) → n.var ≡ var → ArePartsOf a (Some n) var n.lo n.hi
+parts_there a n var same s t oks okt grows known found first last after =
+    let d : ℕ = s.vars - var in
+    let here : d ≡ t.vars - n.var = ap (λ v. v - var) (sym grows.vars) ∙ ap (λ x. t.vars - x) (sym same) in
+    (node_low t n (family s a) d found.is_node here (sym found.family_is), node_high t n (family s a) d found.is_node here (sym found.family_is))
+
+whole_parts : (s t : State) (a : Handle) (d : ℕ) → IsSound t → Grows s t → Knows s a → IsFamily d (family s a)
+    → Denotes t a (low_cofactor d (family s a)) × Denotes t (record { 0 = 0 }) (high_cofactor d (family s a))
+whole_parts s t a d okt grows known fits = (whole_low s t a d grows known fits, whole_high t (family s a) d okt fits)
+
+pub parts_other : (a : Handle) (n : Node) (var : ℕ) → n.var ≢ var → ArePartsOf a (Some n) var a (record { 0 = 0 })
+parts_other a n var other s t oks okt grows known found first last after =
+    whole_parts s t a (s.vars - var) okt grows known (other_after s t n a var oks okt grows known found.is_node (sym found.family_is) first last other after)
+
+pub parts_constant : (a : Handle) (var : ℕ) → ArePartsOf a None var a (record { 0 = 0 })
+parts_constant a var s t oks okt grows known found first last after =
+    whole_parts s t a (s.vars - var) okt grows known (constant_after s a (s.vars - var) oks (found.constant.0 refl))

@@ -78,10 +78,6 @@ module _ (vars capacity : ℕ) (plan : List Family) (refusals : ℕ) (nodes : Li
   unfolding plain_state
   known-is h = refl
 
-  pub vars-is : s.vars ≡ vars
-  unfolding plain_state
-  vars-is = refl
-
   pub empty_known : s.known 0 ≡ Some []
   unfolding plain_state families
   empty_known = grown-front vars ([] ∷ (0 ∷ []) ∷ []) nodes 0 [] refl

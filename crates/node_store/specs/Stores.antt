@@ -1,7 +1,7 @@
 -- What contracts see of a store of diagram nodes, and what each of its calls may do to it.
-use Rattle.std.specs.Prelude.{◌≡◌, ◌≢◌, ℕ, ◌+◌, ◌-◌, ◌^◌, ◌<◌, ◌≤◌, Option, Some, is_some, Result, IfOk, OnOk, OnErr, List, [], ◌∷◌, ◌++◌, length, unwrap_or, true, false, cond}
+use Rattle.std.specs.Prelude.{◌≡◌, ◌≢◌, ℕ, ◌+◌, ◌-◌, ◌^◌, ◌<◌, ◌≤◌, suc, ◌↔◌, Option, Some, is_some, IsNone, IfSome, Result, IfOk, OnOk, OnErr, List, [], ◌∷◌, ◌++◌, length, unwrap_or, true, false, cond}
 use Rattle.lattice.specs.Family.{Family, IsFamily, Covers, is_node_list}
-use Rattle.lattice.specs.Cofactors.{join, sub}
+use Rattle.lattice.specs.Cofactors.{join, low_cofactor, high_cofactor, sub}
 use Rattle.lattice.specs.Counts.{Rose}
 use Rattle.lattice.specs.History.{IsLegal}
 use Rattle.lattice.specs.Operations.{takes_family, takes_variable, answer, IsAllowed}
@@ -55,6 +55,12 @@ pub record IsNode (s : State) (n : Node) : Type 0 where
   pub parts : AreParts s n.var n.lo n.hi
   pub full : n.hi.0 ≢ 0
 
+-- what a call of `node` finds of a handle; s is the state before the call and t the one after it
+pub record IsNodeOf (s t : State) (h : Handle) (node : Option Node) : Type 0 where
+  pub constant : IsNone node ↔ (h.0 < 2)
+  pub is_node : IfSome node (IsNode t)
+  pub family_is : IfSome node (λ n. node_family t n ≡ family s h)
+
 -- what is true of every store
 pub record IsSound (s : State) : Type 0 where
   pub empty : s.known 0 ≡ Some []
@@ -104,6 +110,12 @@ pub record Gives (before after : State) (result : Result Handle Full) (f : Famil
   pub held : OnOk result (Covers after.held needed)
   pub quiet : OnOk result (after.refusals ≡ before.refusals)
   pub full : OnErr result (IsFull before after)
+
+-- lo and hi are the parts of a at var, wherever the node is the one of a, and a has no variable before var
+abbrev pub ArePartsOf : Handle → Option Node → ℕ → Handle → Handle → Type 0
+ArePartsOf a node var lo hi =
+    (s t : State) → IsSound s → IsSound t → Grows s t → Knows s a → IsNodeOf s t a node → 1 ≤ var → var ≤ s.vars → IsFamily (suc (s.vars - var)) (family s a)
+    → Denotes t lo (low_cofactor (s.vars - var) (family s a)) × Denotes t hi (high_cofactor (s.vars - var) (family s a))
 
 -- the plan has the families of f's diagram
 abbrev pub IsPlanned : State → Family → Type 0

@@ -10,7 +10,7 @@ mod word;
 
 pub use crate::plain::PlainStore;
 pub use crate::store::{Full, Handle, Node, Store};
-pub use crate::walk::{first_var, grow, parts};
+pub use crate::walk::{first_var, grow, parts, parts_of};
 pub use crate::word::{pack, unpack};
 
 #[cfg(test)]

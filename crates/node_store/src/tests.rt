@@ -1,8 +1,8 @@
-ghost use Rattle.std.specs.Prelude.{◌≤◌, IfOk};
+ghost use Rattle.std.specs.Prelude.{◌≡◌, ◌≤◌, IfOk};
 ghost use Rattle.lattice.specs.Family.{power};
 ghost use Rattle.lattice.specs.WorkingLists.{working_set};
 ghost use Rattle.lattice.proofs.WorkingSets.{working_set_is_node_list};
-ghost use Rattle.node_store.specs.Stores.{Builds};
+ghost use Rattle.node_store.specs.Stores.{Denotes, Builds};
 ghost use Rattle.node_store.specs.PlainOf.{state_of};
 ghost use Rattle.node_store.specs.AnyFamily.{every_family, MayHoldAny};
 
@@ -48,13 +48,32 @@ fn all_over<S: Store>(store: &mut S, vars: u32, count: u32) -> Result<Handle, Fu
     })
 }
 
+// The first variable of all numbers over the last two of three variables, their parts, and what is grown over them with nothing.
+fn taken_apart<S: Store>(
+    store: &mut S,
+    all: Handle,
+) -> (Option<u32>, (Handle, Handle), Result<Handle, Full>)
+    requires vars { (S.state store.old).vars ≡ 3 }
+    requires all { Denotes (S.state store.old) all (power 2) }
+{
+    let first = first_var(store, all);
+    let halves = parts(store, all, 2);
+    let grown = grow(store, 1, all, Handle(0));
+    (first, halves, grown)
+}
+
 // A node is interned once, and its handle tells its slot.
 #[test]
 fn slots_in_order(rt: HostRuntime) -> Result<(), Fail> {
     let mut store = store_for_any(rt.alloc(), 3)?;
     assert_eq!(rt; all_over(&mut store, 3, 1), Ok(Handle(2)));
     assert_eq!(rt; all_over(&mut store, 3, 1), Ok(Handle(2)));
-    assert_eq!(rt; all_over(&mut store, 3, 2), Ok(Handle(3)));
+    let all = all_over(&mut store, 3, 2)?;
+    assert_eq!(rt; all, Handle(3));
+    let (first, halves, grown) = taken_apart(&mut store, all);
+    assert_eq!(rt; first, Some(2));
+    assert_eq!(rt; halves, (Handle(2), Handle(2)));
+    assert_eq!(rt; grown, Ok(all));
     Ok(())
 }
 

@@ -2,7 +2,7 @@
 ghost use Rattle.std.specs.Prelude.{◌≡◌, ◌≢◌, ◌<◌, ◌≤◌, ◌-◌, ◌↔◌, suc, IsNone, IfSome};
 ghost use Rattle.lattice.specs.Family.{IsFamily, Has};
 ghost use Rattle.lattice.specs.Cofactors.{level, join, low_cofactor, high_cofactor};
-ghost use Rattle.node_store.specs.Stores.{Knows, Denotes, family, AreParts, Reads, Builds};
+ghost use Rattle.node_store.specs.Stores.{Knows, Denotes, family, AreParts, ArePartsOf, Reads, Builds};
 
 use crate::store::{Full, Handle, Node, Store};
 
@@ -40,7 +40,15 @@ pub fn parts<S: Store>(store: &mut S, a: Handle, var: u32) -> (Handle, Handle)
     ensures without { let s = S.state store.old in Denotes (S.state store.new) result.0 (low_cofactor (s.vars - var) (family s a)) }
     ensures with_var { let s = S.state store.old in Denotes (S.state store.new) result.1 (high_cofactor (s.vars - var) (family s a)) }
 {
-    match store.node(a) {
+    let node = store.node(a);
+    parts_of(a, node, var)
+}
+
+/// What `parts` gives of `a`, where its node was asked for already.
+pub fn parts_of(a: Handle, node: Option<Node>, var: u32) -> (Handle, Handle)
+    ensures { ArePartsOf a node var result.0 result.1 }
+{
+    match node {
         Some(n) if n.var == var => (n.lo, n.hi),
         _ => (a, Handle(0)),
     }

@@ -1,5 +1,5 @@
 -- The members of a family cut at its node: how many there are, and from the greatest to the least.
-use Rattle.std.proofs.Common.{◌≡◌, ℕ, suc, ◌+◌, ◌-◌, ◌*◌, ◌%◌, ◌^◌, ◌<◌, ◌≤◌, List, [], ◌∷◌, ◌++◌, length, map, reverse, Option, None, Some, IfNone, Result, Ok, Err, OnOk, IsErrAnd, IsErrOf, unwrap_or, refl, sym, ◌∙◌, ap, arith, add-one, append_assoc, length-append}
+use Rattle.std.proofs.Common.{◌≡◌, ℕ, suc, ◌+◌, ◌-◌, ◌*◌, ◌%◌, ◌^◌, ◌≤◌, List, [], ◌∷◌, ◌++◌, length, map, reverse, Option, None, Some, IfNone, Result, Ok, Err, OnOk, IsErrAnd, IsErrOf, refl, sym, ◌∙◌, ap, arith, add-one, append_assoc, length-append}
 use Rattle.std.proofs.lemmas.List.{reverse-append, map-append, length-reverse}
 use Rattle.std.proofs.lemmas.Grind.{pow_more}
 use Rattle.std.proofs.Math.Pow.{pow_mono}
@@ -9,7 +9,7 @@ use Rattle.lattice.proofs.Subfamilies.{level-below}
 use Rattle.node_store.specs.Stores.{State, Knows, family, node_family, IsNode, IsSound, Grows}
 use Rattle.node_store.specs.declared.store.Handle.{Handle}
 use Rattle.node_store.specs.declared.store.Node.{Node}
-use Rattle.node_store.proofs.StoreLemmas.{known_after, zero_family}
+use Rattle.node_store.proofs.StoreLemmas.{known_after}
 use Rattle.set_algebra.specs.declared.counted.WalkRefusal.{WalkRefusal}
 use Rattle.set_algebra.proofs.SingleLemmas.{top, lo_falls, hi_falls, weight_is}
 
@@ -40,14 +40,6 @@ raised-zero (x ∷ xs) = let here : 0 + x ≡ x = omega arith in ap (λ y. y ∷
 pub when_none : {X : Type 0} (P : Type 0) (o : Option X) → P → IfNone o P
 when_none P None p = p
 when_none P (Some x) p = tt
-
--- the constants
-
-pub length-constant : (s : State) (a : Handle) → IsSound s → a.0 < 2 → length (family s a) ≡ a.0
-length-constant s a ok small =
-    let at_zero : a.0 ≡ 0 → length (family s a) ≡ a.0 = λ e. ap length (zero_family s a ok e) ∙ sym e in
-    let at_one : a.0 ≡ 1 → length (family s a) ≡ a.0 = λ e. ap length (ap (λ i. unwrap_or (s.known i) []) e ∙ ap (λ o. unwrap_or o []) ok.unit) ∙ sym e in
-    grind (arith, at_zero, at_one)
 
 -- a family at its node: s is the state before, t the one after the node was asked for
 module _ (s t : State) (a : Handle) (n : Node) (oks : IsSound s) (okt : IsSound t) (grows : Grows s t) (node : IsNode t n) (is : family s a ≡ node_family t n) where

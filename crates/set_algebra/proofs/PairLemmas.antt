@@ -1,20 +1,22 @@
 -- Two families cut at their first variable, and put together again.
-use Rattle.std.proofs.Common.{◌≡◌, ◌≢◌, ℕ, suc, ◌-◌, ◌<◌, ◌≤◌, max, Bool, true, false, Some, Result, Ok, [], refl, sym, ◌∙◌, ap, subst, arith, unwrap_or, cond, ⊎_elim, ◌⊎◌, inl, inr}
+use Rattle.std.proofs.Common.{◌≡◌, ◌≢◌, ℕ, suc, ◌-◌, ◌<◌, ◌≤◌, max, min, Bool, true, false, Option, Some, None, Result, Ok, [], refl, sym, ◌∙◌, ap, subst, arith, unwrap_or, cond, ⊎_elim, inl, inr}
 use Rattle.lattice.specs.Family.{Family, IsFamily, has, combine, includes, Has, Covers}
 use Rattle.lattice.proofs.Comprehension.{family_where-agree}
 use Rattle.lattice.specs.Cofactors.{join, low_cofactor, high_cofactor, sub, level}
 use Rattle.lattice.proofs.Cofactors.{IsFamily-low_cofactor, IsFamily-high_cofactor}
 use Rattle.lattice.proofs.MoreVariables.{IsFamily_wider}
 use Rattle.lattice.proofs.Subfamilies.{level-below, IsFamily_level, combine-join, combine-low_after, combine-high_after, combine-covers_low, combine-covers_high, combine-planned}
-use Rattle.node_store.specs.Stores.{State, Knows, family, Denotes, AreParts, IsSound, IsPlanned, Grows, Reads, Builds, second, needs_of, AreOperands, IsResult}
+use Rattle.node_store.specs.Stores.{State, Knows, family, Denotes, IsNodeOf, ArePartsOf, AreParts, IsSound, IsPlanned, Grows, Reads, Builds, second, needs_of, AreOperands, IsResult}
 use Rattle.lattice.specs.Operations.{answer, test_of, is_pointwise}
 use Rattle.lattice.specs.declared.op.Op.{Op}
 use Rattle.lattice.proofs.Pointwise.{test_none, answer-pointwise, takes_family-pointwise, takes_variable-pointwise, includes-needs, IsAllowed-pointwise, combine-same, combine-same_lost, combine-right_empty, combine-right_empty_lost, combine-left_empty, combine-left_empty_lost}
 use Rattle.std.proofs.lemmas.Bool.{cases_Bool, false≢true}
 use Rattle.node_store.specs.declared.store.Handle.{Handle}
+use Rattle.node_store.specs.declared.store.Node.{Node}
 use Rattle.node_store.specs.declared.store.Full.{Full}
-use Rattle.node_store.proofs.StoreLemmas.{Knows-denotes, Denotes-knows, Denotes-family, known_after, Grows-family, Grows-knows, Reads-trans, Builds-grown, Builds-after, filled, zero_family}
-use Rattle.set_algebra.specs.Pairs.{AreCofactors, AreInOrder}
+use Rattle.node_store.proofs.StoreLemmas.{Knows-denotes, Denotes-knows, Denotes-family, known_after, Grows-family, Grows-knows, Reads-trans, Builds-grown, Builds-after, filled, zero_family, node_level, level_constant}
+use Rattle.set_algebra.proofs.SingleLemmas.{level_later}
+use Rattle.set_algebra.specs.Pairs.{AreCofactors, AreInOrder, IsFirstOf}
 use Rattle.set_algebra.specs.declared.pairs.Cofactors.{Cofactors}
 
 -- the families of two handles have no variable before the first of both
@@ -30,10 +32,6 @@ top_after s a b d ok ka kb top = (
 pub combine_later : (k : Bool → Bool → Bool) (s t : State) (a b : Handle) → Grows s t → Knows s a → Knows s b
     → combine k t.vars (family t a) (family t b) ≡ combine k s.vars (family s a) (family s b)
 combine_later k s t a b grows ka kb = rw (grows.vars, Grows-family s t a grows ka, Grows-family s t b grows kb) refl
-
-pub planned_later : (k : Bool → Bool → Bool) (s t : State) (a b : Handle) → Grows s t → Knows s a → Knows s b
-    → Covers s.plan (sub s.vars (combine k s.vars (family s a) (family s b))) → Covers t.plan (sub t.vars (combine k t.vars (family t a) (family t b)))
-planned_later k s t a b grows ka kb h = rw (grows.plan, combine_later k s t a b grows ka kb, grows.vars) h
 
 pub top_later : (s t : State) (a b : Handle) → Grows s t → Knows s a → Knows s b
     → max (level t.vars (family t a)) (level t.vars (family t b)) ≡ max (level s.vars (family s a)) (level s.vars (family s b))
@@ -62,12 +60,6 @@ module _ (op : Op) (s : State) (a b x y : Handle) (is : AreInOrder op a b x y) w
   order-top = elim is [
     | inl e ↦ rw (e.0, e.1) refl
     | inr e ↦ rw (e.0, e.1) (omega arith)
-  ]
-
-  pub order-some : (2 ≤ a.0) ⊎ (2 ≤ b.0) → (2 ≤ x.0) ⊎ (2 ≤ y.0)
-  order-some some = elim is [
-    | inl e ↦ rw (e.0, e.1) some
-    | inr e ↦ rw (e.0, e.1) (elim some [ inl l ↦ inr l | inr l ↦ inl l ])
   ]
 
 -- what a kept result says
@@ -255,33 +247,57 @@ module _ (op : Op) (s0 s : State) (a b x y : Handle) (order : AreInOrder op a b 
       pub grow_builds : (w : State) (r : Result Handle Full) → Builds v w r (join (v.vars - h.var) (family v lo) (family v hi)) → Builds s0 w r result0
       grow_builds w r grown = Builds-after s0 v w r result0 (Reads-trans s0 s v looked (Reads-trans s t v one (Reads-trans t u v two three))) (subst (Builds v w r) grow_is grown)
 
--- in a later state the two families still have no variable before the first of both
-pub after_later : (s t : State) (a b : Handle) (x : ℕ) → IsSound s → Knows s a → Knows s b → Grows s t → max (level s.vars (family s a)) (level s.vars (family s b)) ≡ suc (s.vars - x)
-    → IsFamily (suc (t.vars - x)) (family t a) × IsFamily (suc (t.vars - x)) (family t b)
-after_later s t a b x ok ka kb grows top =
-    let both = top_after s a b (suc (s.vars - x)) ok ka kb top in (
-      rw (grows.vars, Grows-family s t a grows ka) both.0,
-      rw (grows.vars, Grows-family s t b grows kb) both.1,
+-- the first variable, by the nodes
+
+node_there : (s t : State) (a : Handle) (n : Node) → IsSound t → Grows s t → IsNodeOf s t a (Some n) → level s.vars (family s a) ≡ suc (s.vars - n.var)
+node_there s t a n okt grows found = node_level s t n (family s a) okt found.is_node grows.vars (sym found.family_is)
+
+node_none : (s t : State) (a : Handle) → IsSound s → IsNodeOf s t a None → level s.vars (family s a) ≡ 0
+node_none s t a oks found = level_constant s a oks (found.constant.0 refl)
+
+pub first_both : (m n : Node) (var : ℕ) → var ≡ min m.var n.var → IsFirstOf (Some m) (Some n) var
+first_both m n var least s t u a b oks okt oku one two ka kb fa fb =
+    let left : level s.vars (family s a) ≡ suc (s.vars - m.var) = node_there s t a m okt one fa in
+    let right : level t.vars (family t b) ≡ suc (t.vars - n.var) = node_there t u b n oku two fb in
+    let same : level t.vars (family t b) ≡ level s.vars (family s b) = level_later s t b one kb in
+    let pm = fa.is_node.parts in
+    let pn = fb.is_node.parts in (
+      omega (arith, pm.first, pn.first),
+      omega (arith, pm.last, one.vars),
+      omega (arith, left, right, same, one.vars, two.vars, pm.last, pn.last),
     )
 
--- the parts as they were found one after the other
-pub cofactors_found : (s t u v : State) (a b : Handle) (h : Cofactors) → Knows s a → Knows s b → Grows s t → Grows t u → Grows u v → 1 ≤ h.var → h.var ≤ s.vars
-    → max (level s.vars (family s a)) (level s.vars (family s b)) ≡ suc (s.vars - h.var)
-    → Denotes u h.a_low (low_cofactor (t.vars - h.var) (family t a)) → Denotes u h.a_high (high_cofactor (t.vars - h.var) (family t a))
-    → Denotes v h.b_low (low_cofactor (u.vars - h.var) (family u b)) → Denotes v h.b_high (high_cofactor (u.vars - h.var) (family u b))
-    → AreCofactors s v a b h
-cofactors_found s t u v a b h ka kb one two three first last top al ah bl bh =
-    let vars_u : u.vars ≡ s.vars = two.vars ∙ one.vars in
-    let a_is : family t a ≡ family s a = Grows-family s t a one ka in
-    let b_is : family u b ≡ family s b = Grows-family t u b two (Grows-knows s t b one kb) ∙ Grows-family s t b one kb in
+pub first_left : (m : Node) → IsFirstOf (Some m) None m.var
+first_left m s t u a b oks okt oku one two ka kb fa fb =
+    let left : level s.vars (family s a) ≡ suc (s.vars - m.var) = node_there s t a m okt one fa in
+    let right : level t.vars (family t b) ≡ 0 = node_none t u b okt fb in
+    let same : level t.vars (family t b) ≡ level s.vars (family s b) = level_later s t b one kb in
+    let pm = fa.is_node.parts in (pm.first, omega (arith, pm.last, one.vars), omega (arith, left, right, same))
+
+pub first_right : (n : Node) → IsFirstOf None (Some n) n.var
+first_right n s t u a b oks okt oku one two ka kb fa fb =
+    let left : level s.vars (family s a) ≡ 0 = node_none s t a oks fa in
+    let right : level t.vars (family t b) ≡ suc (t.vars - n.var) = node_there t u b n oku two fb in
+    let same : level t.vars (family t b) ≡ level s.vars (family s b) = level_later s t b one kb in
+    let pn = fb.is_node.parts in (pn.first, omega (arith, pn.last, one.vars, two.vars), omega (arith, left, right, same, one.vars))
+
+-- the parts as the nodes give them
+pub cofactors_found : (s t u : State) (a b : Handle) (na nb : Option Node) (h : Cofactors) → IsSound s → IsSound t → IsSound u → Grows s t → Grows t u → Knows s a → Knows s b
+    → IsNodeOf s t a na → IsNodeOf t u b nb → IsFirstOf na nb h.var → ArePartsOf a na h.var h.a_low h.a_high → ArePartsOf b nb h.var h.b_low h.b_high → AreCofactors s u a b h
+cofactors_found s t u a b na nb h oks okt oku one two ka kb fa fb is_first parts_a parts_b =
+    let top = is_first s t u a b oks okt oku one two ka kb fa fb in
+    let both = top_after s a b (suc (s.vars - h.var)) oks ka kb top.2 in
+    let b_is : family t b ≡ family s b = Grows-family s t b one kb in
+    let pa = parts_a s t oks okt one ka fa top.0 top.1 both.0 in
+    let pb = parts_b t u okt oku two (Grows-knows s t b one kb) fb top.0 (rw one.vars top.1) (rw (one.vars, b_is) both.1) in
     record {
-      first = first;
-      last = last;
-      top = top;
-      a_low = three.known h.a_low.0 (low_cofactor (s.vars - h.var) (family s a)) (rw (one.vars, a_is) at al);
-      a_high = three.known h.a_high.0 (high_cofactor (s.vars - h.var) (family s a)) (rw (one.vars, a_is) at ah);
-      b_low = rw (vars_u, b_is) at bl;
-      b_high = rw (vars_u, b_is) at bh;
+      first = top.0;
+      last = top.1;
+      top = top.2;
+      a_low = two.known h.a_low.0 (low_cofactor (s.vars - h.var) (family s a)) pa.0;
+      a_high = two.known h.a_high.0 (high_cofactor (s.vars - h.var) (family s a)) pa.1;
+      b_low = rw (one.vars, b_is) at pb.0;
+      b_high = rw (one.vars, b_is) at pb.1;
     }
 
 -- results that need no node

@@ -1,10 +1,9 @@
 //! Two families cut at their first variable.
-ghost use Rattle.std.specs.Prelude.{◌≡◌, ◌<◌, ◌≤◌, ◌-◌, ◌⊎◌, suc, max};
-ghost use Rattle.lattice.specs.Cofactors.{level};
-ghost use Rattle.node_store.specs.Stores.{Knows, family, Reads};
-ghost use Rattle.set_algebra.specs.Pairs.{AreCofactors};
+ghost use Rattle.std.specs.Prelude.{◌≡◌, ◌≤◌, ◌⊎◌, IsSome};
+ghost use Rattle.node_store.specs.Stores.{Knows, Reads};
+ghost use Rattle.set_algebra.specs.Pairs.{AreCofactors, IsFirstOf};
 
-use node_store::{Handle, Store, first_var, parts};
+use node_store::{Handle, Node, Store, parts_of};
 
 /// The parts of two families at the first variable of both: the members without it, and those with it, with it taken away.
 #[derive(Clone, Copy)]
@@ -16,19 +15,15 @@ pub struct Cofactors {
     pub b_high: Handle,
 }
 
-/// The least variable in a member of one of the two, which are not both constant.
-fn first_of<S: Store>(store: &mut S, a: Handle, b: Handle) -> u32
-    requires a { Knows (S.state store.old) a }
-    requires b { Knows (S.state store.old) b }
-    requires some { (2 ≤ a.0) ⊎ (2 ≤ b.0) }
-    ensures reads { Reads (S.state store.old) (S.state store.new) }
-    ensures range { (1 ≤ result) × (result ≤ (S.state store.old).vars) }
-    ensures level { let s = S.state store.old in max (level s.vars (family s a)) (level s.vars (family s b)) ≡ suc (s.vars - result) }
+/// The first variable of two families, by their nodes, one of which is there.
+fn first_of(first: Option<Node>, second: Option<Node>) -> u32
+    requires { IsSome first ⊎ IsSome second }
+    ensures { IsFirstOf first second result }
 {
-    match (first_var(store, a), first_var(store, b)) {
-        (Some(x), Some(y)) => x.min(y),
-        (Some(x), None) => x,
-        (None, y) => y.unwrap(),
+    match (first, second) {
+        (Some(m), Some(n)) => m.var.min(n.var),
+        (Some(m), None) => m.var,
+        (None, second) => second.unwrap().var,
     }
 }
 
@@ -40,9 +35,11 @@ pub fn cut<S: Store>(store: &mut S, a: Handle, b: Handle) -> Cofactors
     ensures reads { Reads (S.state store.old) (S.state store.new) }
     ensures cofactors { AreCofactors (S.state store.old) (S.state store.new) a b result }
 {
-    let var = first_of(store, a, b);
-    let (a_low, a_high) = parts(store, a, var);
-    let (b_low, b_high) = parts(store, b, var);
+    let first = store.node(a);
+    let second = store.node(b);
+    let var = first_of(first, second);
+    let (a_low, a_high) = parts_of(a, first, var);
+    let (b_low, b_high) = parts_of(b, second, var);
     Cofactors {
         var,
         a_low,

@@ -1,0 +1,3 @@
+pub mod PartialCubes
+pub mod PointSets
+pub mod GivenCareSets
