@@ -1,0 +1,13 @@
+//! Polynomials over any store of nodes.
+#![tactic(auto)]
+
+mod points;
+mod set_ops;
+mod values;
+
+pub use crate::points::{above, ones_of};
+pub use crate::set_ops::{Serial, SetOps};
+pub use crate::values::{lead, sum, value_of};
+
+#[cfg(test)]
+mod tests;

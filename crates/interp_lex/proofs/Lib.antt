@@ -1,0 +1,5 @@
+pub mod WorkingParts
+pub mod FewerVariables
+pub mod CallsInRow
+pub mod Recursion
+pub mod LeastStep

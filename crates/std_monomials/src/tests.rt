@@ -1,0 +1,102 @@
+ghost use Rattle.std.specs.Prelude.{◌≡◌, ◌<◌, ◌≤◌, ◌^◌, IfOk};
+ghost use Rattle.std.specs.List.{All};
+ghost use Rattle.lattice.specs.WorkingLists.{working_set};
+ghost use Rattle.lattice.proofs.WorkingSets.{working_set_is_node_list};
+ghost use Rattle.node_store.specs.PlainOf.{state_of};
+ghost use Rattle.node_store.specs.Stores.{Knows};
+ghost use Rattle.node_store.specs.AnyFamily.{every_family, MayHoldAny};
+
+use crate::{leads, standard};
+use lattice::{Memory, Mono, Monos, Planned, plan_of};
+use node_store::{Full, Handle, PlainStore, Store};
+use set_algebra::{one, union, walk_upto};
+use std::alloc::Global;
+use std::test::Fail;
+
+// Every family over so many variables.
+#[derive(Drop)]
+struct EveryFamily(u32);
+
+impl Planned for EveryFamily {
+    ghost families = { λ p. working_set p.0 (every_family p.0) };
+
+    ghost node_list = { λ p. working_set_is_node_list p.0 (every_family p.0) };
+}
+
+// A store of 256 slots that may be asked for any family.
+fn store_for_any(alloc: Global, vars: u32) -> Result<PlainStore, Memory>
+    requires { (1 ≤ vars) × (vars ≤ 62) }
+    ensures { IfOk result (λ s. MayHoldAny vars (state_of s)) }
+{
+    PlainStore::make(alloc, 8, vars, plan_of(&EveryFamily(vars)))
+}
+
+// The family of the numbers.
+fn family_of<S: Store>(store: &mut S, vars: u32, numbers: &[u64]) -> Result<Handle, Full>
+    requires any { MayHoldAny vars (S.state store.old) }
+    requires below { All (λ m. m < 2 ^ vars) numbers.now }
+    ensures any { MayHoldAny vars (S.state store.new) }
+    ensures known { IfOk result (Knows (S.state store.new)) }
+{
+    let mut all = Handle(0);
+    for &m in numbers {
+        let next = one(store, Mono(m))?;
+        all = union(store, all, next)?;
+    }
+    Ok(all)
+}
+
+// The standard monomials of the points, and their leads.
+fn both_of<S: Store>(store: &mut S, vars: u32, points: &[u64]) -> Result<(Handle, Handle), Full>
+    requires any { MayHoldAny vars (S.state store.old) }
+    requires below { All (λ m. m < 2 ^ vars) points.now }
+    ensures { IfOk result (λ p. Knows (S.state store.new) p.0 × Knows (S.state store.new) p.1) }
+{
+    let points = family_of(store, vars, points)?;
+    let monos = standard(store, points)?;
+    let leads = leads(store, monos, 1)?;
+    Ok((monos, leads))
+}
+
+// The standard monomials of the points and their leads, each list from the greatest down.
+fn found(alloc: Global, vars: u32, points: &[u64]) -> Result<(Monos, Monos), Fail>
+    requires vars { (1 ≤ vars) × (vars ≤ 62) }
+    requires below { All (λ m. m < 2 ^ vars) points.now }
+{
+    let mut store = store_for_any(alloc, vars)?;
+    let (monos, leads) = both_of(&mut store, vars, points)?;
+    let standards = walk_upto(alloc, &mut store, monos, 8)?;
+    let leads = walk_upto(alloc, &mut store, leads, 8)?;
+    Ok((standards, leads))
+}
+
+// Points over two and three variables. Over two, x1 is 2 and x2 is 1.
+#[test]
+fn small_sets(rt: HostRuntime) -> Result<(), Fail> {
+    let (standards, leads) = found(rt.alloc(), 2, &[0, 2, 3])?;
+    assert_eq!(rt;
+        standards.as_slice(),
+        [Mono(2), Mono(1), Mono(0)].as_slice()
+    );
+    assert_eq!(rt; leads.as_slice(), [Mono(3)].as_slice());
+
+    let (standards, leads) = found(rt.alloc(), 2, &[0, 3])?;
+    assert_eq!(rt; standards.as_slice(), [Mono(1), Mono(0)].as_slice());
+    assert_eq!(rt; leads.as_slice(), [Mono(2)].as_slice());
+
+    let (standards, leads) = found(rt.alloc(), 2, &[])?;
+    assert!(rt; standards.as_slice().is_empty());
+    assert_eq!(rt; leads.as_slice(), [Mono(0)].as_slice());
+
+    let (standards, leads) = found(rt.alloc(), 2, &[0, 1, 2, 3])?;
+    assert_eq!(rt;
+        standards.as_slice(),
+        [Mono(3), Mono(2), Mono(1), Mono(0)].as_slice()
+    );
+    assert!(rt; leads.as_slice().is_empty());
+
+    let (standards, leads) = found(rt.alloc(), 3, &[5])?;
+    assert_eq!(rt; standards.as_slice(), [Mono(0)].as_slice());
+    assert_eq!(rt; leads.as_slice(), [Mono(4), Mono(2), Mono(1)].as_slice());
+    Ok(())
+}
