@@ -6,3 +6,7 @@ pub mod CoverSteps
 pub mod BuiltSets
 pub mod CareLemmas
 pub mod StoresForTests
+pub mod FSets
+pub mod FdSets
+pub mod FrSets
+pub mod FdrSets

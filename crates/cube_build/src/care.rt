@@ -86,7 +86,8 @@ fn sets_of_fdr<S: Store>(store: &mut S, rows: &[Row], output: u32) -> Result<Car
     Ok(CareSets { zeros, ones })
 }
 
-/// The care points of the output.
+/// The care points of the output, whose numbers begin with 1, in a store with a variable for each input. It is Full only where
+/// the plan has more families than the store has slots.
 pub fn care_sets<S: Store>(store: &mut S, p: &Pla, output: u32) -> Result<CareSets, Full>
     requires output { (1 ≤ output) × (output ≤ p.now.outputs) }
     requires vars { (S.state store.old).vars ≡ p.now.inputs }
@@ -102,7 +103,7 @@ pub fn care_sets<S: Store>(store: &mut S, p: &Pla, output: u32) -> Result<CareSe
     }
 }
 
-/// The care points of the output that have value 0. It builds all care sets of the output.
+/// The care points of value 0, as `care_sets` gives them.
 pub fn zeros<S: Store>(store: &mut S, p: &Pla, output: u32) -> Result<Handle, Full>
     requires output { (1 ≤ output) × (output ≤ p.now.outputs) }
     requires vars { (S.state store.old).vars ≡ p.now.inputs }
@@ -113,7 +114,7 @@ pub fn zeros<S: Store>(store: &mut S, p: &Pla, output: u32) -> Result<Handle, Fu
     Ok(sets.zeros)
 }
 
-/// The care points of the output that have value 1. It builds all care sets of the output.
+/// The care points of value 1, as `care_sets` gives them.
 pub fn ones<S: Store>(store: &mut S, p: &Pla, output: u32) -> Result<Handle, Full>
     requires output { (1 ≤ output) × (output ≤ p.now.outputs) }
     requires vars { (S.state store.old).vars ≡ p.now.inputs }

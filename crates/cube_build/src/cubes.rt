@@ -26,7 +26,8 @@ fn children(row: &Row, behind: u32, rest: Handle) -> (Handle, Handle)
     }
 }
 
-/// The points of the row's cube.
+/// The points of the row's cube. It interns a node for each variable that the row does not fix to 0, and is Full only where the
+/// plan has more families than the store has slots.
 pub fn cube<S: Store>(store: &mut S, row: &Row) -> Result<Handle, Full>
     requires care { row.now.care < 2 ^ (S.state store.old).vars }
     requires value { divides row.now.value row.now.care ≡ true }

@@ -13,6 +13,7 @@ use Rattle.interp_lex.specs.declared.parts.Points.{Points}
 abbrev pub common_of : ℕ → Family → Family → Family → Family → Family
 common_of n f g p q = union_of n (inter_of n f g) (inter_of n p q)
 
+-- what they need
 abbrev pub common_list : ℕ → Family → Family → Family → Family → List Family
 common_list n f g p q = inter_of n f g ∷ inter_of n p q ∷ common_of n f g p q ∷ []
 
@@ -20,6 +21,7 @@ common_list n f g p q = inter_of n f g ∷ inter_of n p q ∷ common_of n f g p 
 abbrev pub replaced_of : ℕ → Family → Family → Family → Family → Family
 replaced_of n low added high removed = union_of n (union_of n low added) (minus_of n high removed)
 
+-- what this needs
 abbrev pub replaced_list : ℕ → Family → Family → Family → Family → List Family
 replaced_list n low added high removed = union_of n low added ∷ minus_of n high removed ∷ replaced_of n low added high removed ∷ []
 

@@ -1,94 +1,37 @@
-use Rattle.std.proofs.Common.{[], ◌++◌, List, Ok, Err, sym, subst}
-use Rattle.std.specs.List.{All}
-use Rattle.lattice.specs.Family.{Family}
-use Rattle.lattice.specs.Rows.{on_rows, off_rows, on_set, off_set}
-use Rattle.lattice.specs.WorkingLists.{working_set, cover_list}
-use Rattle.lattice.specs.declared.kind.Kind.TheVariants.{Fr}
-use Rattle.node_store.specs.Stores.{Denotes}
-use Rattle.cube_build.specs.PointSets.{IsOver}
-use Rattle.cube_build.proofs.BuiltSets.{Built, built_start, plan_list, then_covers, built_covers}
-use Rattle.cube_build.proofs.CareLemmas.{list_fr, plan_fr, ones_fr, zeros_fr, sets_given, sets_failed}
+use Rattle.cube_build.proofs.FrSets.{planned_ones, failed_ones, rows_zeros, planned_zeros, failed_zeros, given}
 use Rattle.cube_build.proofs.care.sets_of_fr.Goals as goal
 
 pub cover-requires-clause-planned : goal.cover-requires-clause-planned
 cover-requires-clause-planned g c =
     let s = g.S.Store.state c.args.store.now in
-    let rows = c.args.rows.now in
-    let l0 : List Family = [] in
-    let b0 : Built s s l0 = built_start s in
-    let t0 = s in
-    plan_list s t0 l0 b0 (λ v. cover_list v (on_rows c.args.output rows)) (plan_fr s.vars rows c.args.output s.plan c.requires.planned).0
+    planned_ones s c.args.rows.now c.args.output c.requires.planned
 
 pub returns-in_err-ones : goal.returns-in_err-ones
 returns-in_err-ones g c =
     let s = g.S.Store.state c.args.store.now in
-    let rows = c.args.rows.now in
-    let l0 : List Family = [] in
-    let b0 : Built s s l0 = built_start s in
-    let t0 = s in
-    let u = g.S.Store.state c.cover.new.store in
-    let f : Family = on_set s.vars rows c.args.output in
-    sets_failed s u c.from_residual.result c.in_err-ones.field-0.0 f (working_set s.vars (l0 ++ cover_list s.vars (on_rows c.args.output rows))) s.vars Fr rows c.args.output c.from_residual.ensures.0
-    (then_covers s t0 l0 b0 u (Err c.in_err-ones.field-0.0) (on_rows c.args.output rows) c.in_err-ones.ensures)
+    failed_ones s c.args.rows.now c.args.output c.requires.planned (g.S.Store.state c.cover.new.store) c.from_residual.result c.in_err-ones.field-0.0 c.from_residual.ensures.0 c.in_err-ones.ensures
 
 pub cover-requires-2-clause-rows : goal.cover-requires-2-clause-rows
 cover-requires-2-clause-rows g c =
     let s = g.S.Store.state c.args.store.now in
-    let rows = c.args.rows.now in
-    let l0 : List Family = [] in
-    let b0 : Built s s l0 = built_start s in
-    let t0 = s in
     let t1 = g.S.Store.state c.cover.new.store in
-    let ones_is : Family = on_set s.vars rows c.args.output in
-    let l1 : List Family = cover_list s.vars (on_rows c.args.output rows) in
-    let b1 : Built s t1 l1 = built_covers s t0 l0 b0 t1 c.in_ok-ones.ones (on_rows c.args.output rows) c.in_ok-ones.ensures in
-    subst (λ v. All (IsOver v) rows) (sym b1.reads.grows.vars) c.requires.rows
+    rows_zeros s c.args.rows.now c.args.output c.requires.planned t1 c.in_ok-ones.ones c.in_ok-ones.ensures c.requires.rows
 
 pub cover-requires-2-clause-planned : goal.cover-requires-2-clause-planned
 cover-requires-2-clause-planned g c =
     let s = g.S.Store.state c.args.store.now in
-    let rows = c.args.rows.now in
-    let l0 : List Family = [] in
-    let b0 : Built s s l0 = built_start s in
-    let t0 = s in
     let t1 = g.S.Store.state c.cover.new.store in
-    let ones_is : Family = on_set s.vars rows c.args.output in
-    let l1 : List Family = cover_list s.vars (on_rows c.args.output rows) in
-    let b1 : Built s t1 l1 = built_covers s t0 l0 b0 t1 c.in_ok-ones.ones (on_rows c.args.output rows) c.in_ok-ones.ensures in
-    plan_list s t1 l1 b1 (λ v. cover_list v (off_rows c.args.output rows)) (plan_fr s.vars rows c.args.output s.plan c.requires.planned).1
+    planned_zeros s c.args.rows.now c.args.output c.requires.planned t1 c.in_ok-ones.ones c.in_ok-ones.ensures
 
 pub returns-in_err-zeros : goal.returns-in_err-zeros
 returns-in_err-zeros g c =
     let s = g.S.Store.state c.args.store.now in
-    let rows = c.args.rows.now in
-    let l0 : List Family = [] in
-    let b0 : Built s s l0 = built_start s in
-    let t0 = s in
     let t1 = g.S.Store.state c.cover.new.store in
-    let ones_is : Family = on_set s.vars rows c.args.output in
-    let l1 : List Family = cover_list s.vars (on_rows c.args.output rows) in
-    let b1 : Built s t1 l1 = built_covers s t0 l0 b0 t1 c.in_ok-ones.ones (on_rows c.args.output rows) c.in_ok-ones.ensures in
-    let u = g.S.Store.state c.cover-2.new.store in
-    let f : Family = off_set s.vars rows c.args.output in
-    sets_failed s u c.from_residual-in_err-zeros.result c.in_err-zeros.field-0.0 f (working_set s.vars (l1 ++ cover_list s.vars (off_rows c.args.output rows))) s.vars Fr rows c.args.output c.from_residual-in_err-zeros.ensures.0
-    (then_covers s t1 l1 b1 u (Err c.in_err-zeros.field-0.0) (off_rows c.args.output rows) c.in_err-zeros.ensures)
+    failed_zeros s c.args.rows.now c.args.output c.requires.planned t1 c.in_ok-ones.ones c.in_ok-ones.ensures (g.S.Store.state c.cover-2.new.store) c.from_residual-in_err-zeros.result c.in_err-zeros.field-0.0 c.from_residual-in_err-zeros.ensures.0 c.in_err-zeros.ensures
 
 pub returns : goal.returns
 returns g c =
     let s = g.S.Store.state c.args.store.now in
-    let rows = c.args.rows.now in
-    let l0 : List Family = [] in
-    let b0 : Built s s l0 = built_start s in
-    let t0 = s in
     let t1 = g.S.Store.state c.cover.new.store in
-    let ones_is : Family = on_set s.vars rows c.args.output in
-    let l1 : List Family = cover_list s.vars (on_rows c.args.output rows) in
-    let b1 : Built s t1 l1 = built_covers s t0 l0 b0 t1 c.in_ok-ones.ones (on_rows c.args.output rows) c.in_ok-ones.ensures in
-    let ones_at1 : Denotes t1 c.in_ok-ones.ones ones_is = (then_covers s t0 l0 b0 t1 (Ok c.in_ok-ones.ones) (on_rows c.args.output rows) c.in_ok-ones.ensures).ok in
     let t2 = g.S.Store.state c.cover-2.new.store in
-    let zeros_is : Family = off_set s.vars rows c.args.output in
-    let l2 : List Family = l1 ++ cover_list s.vars (off_rows c.args.output rows) in
-    let b2 : Built s t2 l2 = built_covers s t1 l1 b1 t2 c.in_ok-zeros.zeros (off_rows c.args.output rows) c.in_ok-zeros.ensures in
-    let ones_at2 : Denotes t2 c.in_ok-ones.ones ones_is = c.in_ok-zeros.ensures.grows.known c.in_ok-ones.ones.0 ones_is ones_at1 in
-    let zeros_at2 : Denotes t2 c.in_ok-zeros.zeros zeros_is = (then_covers s t1 l1 b1 t2 (Ok c.in_ok-zeros.zeros) (off_rows c.args.output rows) c.in_ok-zeros.ensures).ok in
-    sets_given s t2 c.in_ok-zeros.zeros c.in_ok-ones.ones l2 Fr rows c.args.output zeros_is ones_is b2 (list_fr s.vars rows c.args.output) zeros_at2 (zeros_fr s.vars rows c.args.output) ones_at2 (ones_fr s.vars rows c.args.output)
+    given s c.args.rows.now c.args.output c.requires.planned t1 c.in_ok-ones.ones c.in_ok-ones.ensures t2 c.in_ok-zeros.zeros c.in_ok-zeros.ensures
