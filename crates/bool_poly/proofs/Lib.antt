@@ -4,4 +4,8 @@ pub mod NodeLemmas
 pub mod AboveLemmas
 pub mod OnesLemmas
 pub mod OnesSteps
-pub mod AnyOnes
+pub mod AnyNeeds
+pub mod ProductLemmas
+pub mod VariableSteps
+pub mod ProductLists
+pub mod ProductSteps

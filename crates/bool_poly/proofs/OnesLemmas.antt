@@ -330,16 +330,16 @@ module _ (n d : ℕ) (h points : Family) (hf : IsFamily (suc d) h) (pf : IsFamil
 -- ---- a plan that has every family
 
 module _ (plan : List Family) (n : ℕ) (any : (f : Family) → IsFamily n f → Covers plan (sub n f)) where
-  any_more : (f : Family) (fs : List Family) → IsFamily n f → Covers plan (all_of (sub n) fs) → Covers plan (all_of (sub n) (f ∷ fs))
+  pub any_more : (f : Family) (fs : List Family) → IsFamily n f → Covers plan (all_of (sub n) fs) → Covers plan (all_of (sub n) (f ∷ fs))
   any_more f fs is rest k i = ⊎_elim (λ a. any f is k a) (λ a. rest k a) (Has-append_cases (sub n f) (all_of (sub n) fs) k i)
 
-  any_none : Covers plan (all_of (sub n) [])
+  pub any_none : Covers plan (all_of (sub n) [])
   any_none k i = absurd (Has-nil k i)
 
   abbrev AnyList : List Family → Type 0
   AnyList fs = Covers plan (all_of (sub n) fs)
 
-  any_both : (xs ys : List Family) → AnyList xs → AnyList ys → AnyList (xs ++ ys)
+  pub any_both : (xs ys : List Family) → AnyList xs → AnyList ys → AnyList (xs ++ ys)
   any_both xs ys one two k i =
       ⊎_elim (λ a. one k a) (λ a. two k a) (Has-append_cases (all_of (sub n) xs) (all_of (sub n) ys) k (subst (λ fs. Has fs k) (all_of-append n xs ys) i))
 

@@ -2,10 +2,12 @@
 #![tactic(auto)]
 
 mod points;
+mod products;
 mod set_ops;
 mod values;
 
 pub use crate::points::{above, ones_of};
+pub use crate::products::{product, times_var};
 pub use crate::set_ops::{Serial, SetOps};
 pub use crate::values::{lead, sum, value_of};
 

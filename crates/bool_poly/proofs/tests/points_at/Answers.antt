@@ -1,4 +1,4 @@
-use Rattle.bool_poly.proofs.AnyOnes.{any_ones}
+use Rattle.bool_poly.proofs.AnyNeeds.{any_ones}
 use Rattle.bool_poly.proofs.tests.points_at.Goals as goal
 
 pub ones_of-requires-clause-planned : goal.ones_of-requires-clause-planned

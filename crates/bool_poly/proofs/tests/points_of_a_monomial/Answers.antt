@@ -1,7 +1,7 @@
 use Rattle.node_store.specs.PlainOf.{state_of}
 use Rattle.node_store.specs.Stores.{family}
 use Rattle.node_store.proofs.AnyPlanned.{any_power, MayHoldAny-later}
-use Rattle.bool_poly.proofs.AnyOnes.{any_ones_at}
+use Rattle.bool_poly.proofs.AnyNeeds.{any_ones_at}
 use Rattle.bool_poly.proofs.tests.points_of_a_monomial.Goals as goal
 
 pub power-requires : goal.power-requires

@@ -1,0 +1,4 @@
+pub mod NormalForms
+pub mod LeadElements
+pub mod AnyElements
+pub mod ListedPoints
