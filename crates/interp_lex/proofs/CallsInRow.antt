@@ -1,7 +1,7 @@
 -- Calls one after the other, and what the store then holds.
 use Rattle.std.proofs.Common.{◌≡◌, ℕ, Bool, Result, Ok, Err, IsErr, Some, List, [], ◌∷◌, ◌++◌, refl, sym, ◌∙◌, ap, subst}
 use Rattle.std.proofs.lemmas.Bool.{false≢true}
-use Rattle.lattice.specs.Family.{Family, Covers, Has, combine, union_of, inter_of, minus_of, first_only}
+use Rattle.lattice.specs.Family.{Family, Covers, Has, combine, union_of, inter_of, minus_of}
 use Rattle.lattice.specs.Polynomial.{ones_of}
 use Rattle.lattice.specs.WorkingLists.{working_set, ones_list, operation_list, needs}
 use Rattle.lattice.specs.declared.op.Op.TheVariants.{Ones}
@@ -9,7 +9,7 @@ use Rattle.lattice.proofs.FamilyLists.{Has-head, Has-tail, Has-append_left, Has-
 use Rattle.node_store.specs.Stores.{State, Knows, Denotes, family, IsSound, IsPlanned, Grows, Reads, Gives, Builds, needs_of}
 use Rattle.node_store.specs.declared.store.Handle.{Handle}
 use Rattle.node_store.specs.declared.store.Full.{Full}
-use Rattle.node_store.proofs.StoreLemmas.{Denotes-family, Denotes-knows, Grows-family, Grows-knows, Grows-trans, Reads-trans, Gives-reads, Gives-after, Gives-failed}
+use Rattle.node_store.proofs.StoreLemmas.{Denotes-family, Denotes-knows, Grows-family, Grows-knows, Reads-trans, Gives-reads, Gives-after, Gives-failed}
 use Rattle.set_algebra.proofs.PairLemmas.{combine_later}
 use Rattle.set_algebra.specs.declared.pairs.Cofactors.{Cofactors}
 use Rattle.interp_lex.specs.Parts.{common_of, common_list, replaced_of, replaced_list, upper_list, lower_of, lower_list, AreKnown, GivesPoints}

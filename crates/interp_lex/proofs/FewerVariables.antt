@@ -1,8 +1,8 @@
 -- Families that have variables among the last d alone: what is found over n variables is found over d.
-use Rattle.std.proofs.Common.{◌≡◌, ◌≢◌, ℕ, zero, suc, ◌+◌, ◌-◌, ◌^◌, ◌<◌, ◌≤◌, Bool, true, false, cond, ◌&&◌, ◌||◌, ◌==◌, List, [], ◌∷◌, ◌++◌, refl, sym, ◌∙◌, ap, ap₂, subst, arith, ◌⊎◌, inl, inr, ⊎_elim, pow_mono}
+use Rattle.std.proofs.Common.{◌≡◌, ℕ, zero, suc, ◌+◌, ◌-◌, ◌≤◌, ◌&&◌, ◌||◌, ◌==◌, [], ◌∷◌, refl, sym, ◌∙◌, ap, ap₂, arith, pow_mono}
 use Rattle.lattice.specs.Family.{Family, IsFamily, AreDisjoint, has, union_of, inter_of, minus_of, first_only}
 use Rattle.lattice.specs.Polynomial.{value, ones_of}
-use Rattle.lattice.specs.Cofactors.{low_cofactor, high_cofactor, is_empty, is_constant}
+use Rattle.lattice.specs.Cofactors.{high_cofactor}
 use Rattle.lattice.specs.Interpolation.{interpolate}
 use Rattle.lattice.specs.WorkingLists.{ones_list, interpolation_list}
 use Rattle.lattice.proofs.Families.{same_family}

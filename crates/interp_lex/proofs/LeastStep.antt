@@ -1,8 +1,8 @@
 -- What the recursion finds for the zeros and the ones of two handles.
-use Rattle.std.proofs.Common.{◌≡◌, ◌≢◌, ℕ, zero, suc, ◌-◌, ◌<◌, ◌≤◌, max, Bool, true, false, Result, Ok, Err, Some, IsErr, List, [], ◌∷◌, refl, sym, ◌∙◌, ap, subst, arith, unwrap_or, ◌⊎◌, inl, inr, ⊎_elim}
+use Rattle.std.proofs.Common.{◌≡◌, ◌≢◌, ℕ, zero, suc, ◌-◌, ◌<◌, ◌≤◌, max, Result, Ok, Err, Some, List, [], ◌∷◌, refl, sym, ◌∙◌, ap, subst, arith, unwrap_or, ◌⊎◌, inl, inr, ⊎_elim}
 use Rattle.std.proofs.lemmas.Bool.{false≢true}
-use Rattle.lattice.specs.Family.{Family, IsFamily, AreDisjoint, Covers, Has, has}
-use Rattle.lattice.specs.Cofactors.{low_cofactor, high_cofactor, join, level, sub}
+use Rattle.lattice.specs.Family.{Family, IsFamily, AreDisjoint, Covers, Has}
+use Rattle.lattice.specs.Cofactors.{low_cofactor, high_cofactor, join, level}
 use Rattle.lattice.specs.Interpolation.{IsLeast, interpolate}
 use Rattle.lattice.specs.Operations.{answer, IsAllowed}
 use Rattle.lattice.specs.WorkingLists.{needs, operation_list, working_set, interpolation_list}
@@ -11,10 +11,10 @@ use Rattle.lattice.proofs.Cofactors.{IsFamily-low_cofactor}
 use Rattle.lattice.proofs.Existence.{IsLeast-interpolate}
 use Rattle.lattice.proofs.Families.{has_head}
 use Rattle.lattice.proofs.Subfamilies.{cases_empty, level-below, low_cofactor_whole}
-use Rattle.node_store.specs.Stores.{State, Knows, Denotes, family, IsSound, IsPlanned, AreParts, Grows, Reads, Gives, Builds, AreOperands, IsResult, needs_of}
+use Rattle.node_store.specs.Stores.{State, Knows, Denotes, family, IsSound, AreParts, Grows, Reads, Gives, Builds, AreOperands, IsResult, needs_of}
 use Rattle.node_store.specs.declared.store.Handle.{Handle}
 use Rattle.node_store.specs.declared.store.Full.{Full}
-use Rattle.node_store.proofs.StoreLemmas.{Denotes-family, Denotes-knows, Knows-denotes, Grows-family, Grows-knows, Grows-refl, Grows-trans, Reads-trans, Gives-reads, Gives-after, known_after, filled, zero_family}
+use Rattle.node_store.proofs.StoreLemmas.{Denotes-family, Denotes-knows, Grows-family, Grows-knows, Grows-refl, Grows-trans, Reads-trans, Gives-reads, known_after, filled, zero_family}
 use Rattle.node_store.proofs.GrownNodes.{grown_parts, grown_planned, grown_builds}
 use Rattle.set_algebra.proofs.PairLemmas.{top_after}
 use Rattle.set_algebra.specs.Pairs.{AreCofactors}

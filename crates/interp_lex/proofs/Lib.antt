@@ -3,3 +3,5 @@ pub mod FewerVariables
 pub mod CallsInRow
 pub mod Recursion
 pub mod LeastStep
+pub mod AnyInterpolation
+pub mod ListedPoints

@@ -1,5 +1,5 @@
 -- The recursion at the first variable of the zeros and the ones, over n variables.
-use Rattle.std.proofs.Common.{◌≡◌, ◌≢◌, ℕ, zero, suc, ◌+◌, ◌^◌, ◌<◌, ◌≤◌, Bool, true, false, cond, ◌&&◌, ◌||◌, List, [], ◌∷◌, ◌++◌, refl, sym, ◌∙◌, ap, ap₂, subst, arith, ◌⊎◌, inl, inr, ⊎_elim, append_assoc}
+use Rattle.std.proofs.Common.{◌≡◌, ◌≢◌, ℕ, suc, ◌<◌, ◌≤◌, false, ◌&&◌, ◌||◌, List, [], ◌∷◌, ◌++◌, refl, sym, ◌∙◌, ap, ap₂, arith, ◌⊎◌, inl, inr, append_assoc}
 use Rattle.lattice.specs.Family.{Family, IsFamily, AreDisjoint, Has, Covers, union_of, inter_of, minus_of}
 use Rattle.lattice.specs.Polynomial.{ones_of}
 use Rattle.lattice.specs.Cofactors.{low_cofactor, high_cofactor, join, is_empty, sub}

@@ -1,5 +1,5 @@
 -- Parts of working sets.
-use Rattle.std.proofs.Common.{◌≡◌, ℕ, List, [], ◌∷◌, ◌++◌, sym, ◌∙◌, subst, ⊎_elim}
+use Rattle.std.proofs.Common.{ℕ, List, [], ◌∷◌, ◌++◌, sym, ◌∙◌, subst, ⊎_elim}
 use Rattle.lattice.specs.Family.{Family, Has, Covers}
 use Rattle.lattice.specs.Cofactors.{sub}
 use Rattle.lattice.specs.WorkingLists.{all_of, working_set}

@@ -5,3 +5,6 @@ mod interpolation;
 mod parts;
 
 pub use crate::interpolation::least;
+
+#[cfg(test)]
+mod tests;

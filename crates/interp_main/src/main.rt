@@ -1,11 +1,20 @@
 //! `interp MODE [--workers N] [--nodes B] [--terms T] [--seed S]`: reads a description from standard input, and writes
-//! least Boolean polynomials to standard output.
+//! least Boolean polynomials to standard output and a line of progress for each of the first outputs to standard error.
 #![tactic(auto)]
+
+ghost use Rattle.std.specs.Prelude.{◌≡◌, [], All, IfOk};
+ghost use Rattle.watch.specs.Notes.{states_by};
 
 use interp_run::{Outcome, report, run};
 use lattice::{Memory, Words};
 use outside::{StdSink, StdSource};
+use std::alloc::Global;
+use std::io::Stderr;
 use std::process::ExitCode;
+use watch::{Lines, Watch};
+
+/// There are lines of progress for so many outputs.
+const PATIENCE: u32 = 16;
 
 // The words of the command line, or none where they are not all text: the run then answers how it is used.
 fn words_of(rt: &HostRuntime) -> Result<Words, Memory> {
@@ -25,12 +34,38 @@ fn words_of(rt: &HostRuntime) -> Result<Words, Memory> {
     Ok(words)
 }
 
-fn main(rt: HostRuntime) -> ExitCode {
+// A list of one watcher, who was told nothing.
+fn alone(alloc: Global, watcher: Box<dyn Watch>) -> Result<Vec<Box<dyn Watch>>, Memory>
+    requires { told watcher ≡ [] }
+    ensures { IfOk result (λ watchers. All (λ s. s.told ≡ []) (states_by told patience watchers.items)) }
+{
+    let mut watchers = Vec::with_capacity(alloc, 1)?;
+    watchers.push(watcher)?;
+    Ok(watchers)
+}
+
+// Runs on the standard streams, with one watcher that writes lines of progress to standard error; or there was no memory
+// before the run.
+fn run_on(rt: &HostRuntime, err: &mut StdSink<Stderr>) -> Result<u8, Memory> {
+    let words = words_of(rt)?;
+    let lines = Lines::new(StdSink::new(rt.stderr()), PATIENCE);
+    let mut watchers = alone(rt.alloc(), Box::new(rt.alloc(), lines)?)?;
     let mut source = StdSource::new(rt.stdin());
     let mut out = StdSink::new(rt.stdout());
+    Ok(run(
+        rt.alloc(),
+        &words,
+        &mut source,
+        &mut out,
+        err,
+        &mut watchers,
+    ))
+}
+
+fn main(rt: HostRuntime) -> ExitCode {
     let mut err = StdSink::new(rt.stderr());
-    let status = match words_of(&rt) {
-        Ok(words) => run(rt.alloc(), &words, &mut source, &mut out, &mut err),
+    let status = match run_on(&rt, &mut err) {
+        Ok(status) => status,
         Err(Memory) => report(&mut err, Outcome::Memory),
     };
     ExitCode::from(status)

@@ -1,6 +1,15 @@
-mod Elements
-mod Marked
-mod Cares
-mod Solved
-mod Pages
-mod Outcomes
+pub mod Sizes
+pub mod BasisOfOutputs
+pub mod FoundLeads
+pub mod FoundEach
+pub mod FoundOutputs
+pub mod CountedTerms
+pub mod FreshStores
+pub mod OutputLists
+pub mod PrintedAnswers
+pub mod SolvedAnswers
+pub mod Pages
+pub mod Told
+pub mod Notes
+pub mod Outcomes
+pub mod Answered

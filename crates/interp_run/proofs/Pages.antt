@@ -1,5 +1,5 @@
 -- Texts that are written one after the other.
-use Rattle.std.proofs.Common.{◌≡◌, ℕ, ◌+◌, ◌<◌, List, [], ◌∷◌, ◌++◌, length, take, drop, get_or, sym, ◌∙◌, ap, append_assoc, append-nil, Option}
+use Rattle.std.proofs.Common.{◌≡◌, ℕ, ◌+◌, ◌<◌, List, [], ◌∷◌, ◌++◌, length, take, drop, get_or, sym, ◌∙◌, ap, append_assoc, append-nil, Option, Some, None}
 use Rattle.std.specs.List.{concat}
 use Rattle.std.specs.Io.KnownBytes.{Appends}
 use Rattle.std.proofs.lemmas.List.{take_more, take-append-drop}
@@ -8,8 +8,12 @@ use Rattle.std.proofs.Math.Seq.{take-append_seam}
 use Rattle.outside.specs.Causes.{GainsFront}
 use Rattle.outside.proofs.Known.{appends_both}
 
-page_more : (pages : List (List ℕ)) (i : ℕ) (d : List ℕ) → i < length pages → concat (take (i + 1) pages) ≡ concat (take i pages) ++ get_or pages i d
+pub page_more : (pages : List (List ℕ)) (i : ℕ) (d : List ℕ) → i < length pages → concat (take (i + 1) pages) ≡ concat (take i pages) ++ get_or pages i d
 page_more pages i d within = ap concat (take_more pages i d within) ∙ (concat-append (take i pages) (get_or pages i d ∷ []) ∙ ap (λ (l : List ℕ). concat (take i pages) ++ l) (append-nil (get_or pages i d)))
+
+pub appends_nothing : (old : Option (List ℕ)) → Appends old old []
+appends_nothing None = tt
+appends_nothing (Some xs) = sym (append-nil xs)
 
 pub page_written : (old middle new : Option (List ℕ)) (pages : List (List ℕ)) (i : ℕ) (d page : List ℕ) → i < length pages → page ≡ get_or pages i d
     → Appends old middle (concat (take i pages)) → Appends middle new page → Appends old new (concat (take (i + 1) pages))

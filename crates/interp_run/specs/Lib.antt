@@ -1,4 +1,4 @@
-pub mod Marks
+pub mod Answers
 pub mod Due
-pub mod Solved
+pub mod Phases
 pub mod Run

@@ -1,40 +1,50 @@
 -- What a run owes for the words and the bytes: its outcome, its status, and what it writes.
-use Rattle.std.specs.Prelude.{◌≡◌, ◌⊎◌, ◌&&◌, ◌==◌, ◌++◌, [], ℕ, Bool, true, false, List, length, Option, codes, decimal, slice_get}
-use Rattle.std.specs.Option.{option_map_or}
-use Rattle.std.specs.Str.{bytes_eq}
+use Rattle.std.specs.Prelude.{◌≡◌, ◌≢◌, ◌⊎◌, ◌++◌, ◌≤◌, [], ℕ, List, length, take, Option, Some, codes, decimal}
+use Rattle.std.specs.List.{concat}
+use Rattle.std.specs.Io.{StartsWith}
 use Rattle.std.specs.Io.KnownBytes.{Appends, Keeps}
 use Rattle.outside.specs.Causes.{GainsFront}
 use Rattle.pla_reader.specs.declared.refusal.Why.{Why}
 use Rattle.pla_reader.specs.declared.refusal.Why.TheVariants.{BadByte, BadNumber, SizeRange, Twice, TypeLate, BadType, NamesEarly, NameCount, Unsupported, RowBeforeSize, RowLength, BadSymbol, TooManyRows, NoSize}
-use Rattle.interp_run.specs.Due.{IsDue}
+use Rattle.clap.specs.Words.{fault_of, matches_of}
+use Rattle.cli_words.specs.CommandLine.{IsJob, interp_command}
+use Rattle.cli_words.specs.declared.job.Job.{Job}
+use Rattle.watch.specs.Notes.{WatcherState, left_after_all}
+use Rattle.watch.specs.declared.note.Note.{Note}
+use Rattle.interp_run.specs.Due.{IsDue, IsExhausted}
 use Rattle.interp_run.specs.declared.outcome.Outcome.{Outcome}
 use Rattle.interp_run.specs.declared.outcome.Outcome.TheVariants as outcome
 
--- two words, of which the second is `anf`
-abbrev pub is_anf : List (List ℕ) → Bool
-is_anf words = length words == 2 && option_map_or (λ word. bytes_eq word (codes "anf")) (slice_get words 1) false
+-- the declared command refuses the words
+abbrev pub IsRefused : List (List ℕ) → Type 0
+IsRefused words = fault_of interp_command words ≢ []
+
+-- the declared command takes the words, and they ask for this job
+abbrev pub IsAsked : List (List ℕ) → Job → Type 0
+IsAsked words job = (fault_of interp_command words ≡ []) × IsJob (matches_of interp_command words) job
 
 -- the outcome that is due for the words and the bytes
 abbrev pub IsDueOutcome : List (List ℕ) → List ℕ → Outcome → Type 0
-IsDueOutcome words bytes outcome.Usage = is_anf words ≡ false
-IsDueOutcome words bytes o = (is_anf words ≡ true) × IsDue bytes o
+IsDueOutcome words bytes o = (IsRefused words × (o ≡ outcome.Usage)) ⊎ ((job : Job) × IsAsked words job × IsDue job bytes o)
 
--- the outcome is due, or yields to want of memory or to a fault
+-- the outcome is due; or it yields to want of memory or to a fault; or more nodes than slots are needed
 abbrev pub IsAllowed : List (List ℕ) → List ℕ → Outcome → Type 0
 IsAllowed words bytes o =
     IsDueOutcome words bytes o ⊎ ((o ≡ outcome.Memory) ⊎ ((o ≡ outcome.ReadFault)
-    ⊎ ((o ≡ outcome.WriteFault) × IsDueOutcome words bytes outcome.Done)))
+    ⊎ (((o ≡ outcome.WriteFault) × IsDueOutcome words bytes outcome.Done)
+    ⊎ ((job : Job) × IsAsked words job × IsExhausted job bytes o))))
 
 abbrev pub status_of : Outcome → ℕ
 status_of outcome.Done = 0
 status_of outcome.Usage = 2
 status_of (outcome.Text line why) = 3
 status_of (outcome.Contradiction output on_line off_line) = 4
+status_of (outcome.Exhausted nodes) = 5
+status_of (outcome.Terms limit) = 6
 status_of outcome.Memory = 7
 status_of outcome.ReadFault = 8
 status_of outcome.WriteFault = 9
 status_of outcome.TooLong = 10
-status_of outcome.NotBuilt = 11
 
 abbrev pub why_name : Why → List ℕ
 why_name BadByte = codes "BadByte"
@@ -58,17 +68,36 @@ line_of outcome.Done = []
 line_of outcome.Usage = codes "interp: usage: interp MODE [--workers N] [--nodes B] [--terms T] [--seed S]\n"
 line_of (outcome.Text line why) = codes "interp: line " ++ decimal line ++ codes ": " ++ why_name why ++ codes "\n"
 line_of (outcome.Contradiction output on_line off_line) = codes "interp: output " ++ decimal output ++ codes ": on line " ++ decimal on_line ++ codes ", off line " ++ decimal off_line ++ codes "\n"
+line_of (outcome.Exhausted nodes) = codes "interp: more than " ++ decimal nodes ++ codes " nodes are needed\n"
+line_of (outcome.Terms limit) = codes "interp: more than " ++ decimal limit ++ codes " terms\n"
 line_of outcome.Memory = codes "interp: out of memory\n"
 line_of outcome.ReadFault = codes "interp: read fault\n"
 line_of outcome.WriteFault = codes "interp: write fault\n"
 line_of outcome.TooLong = codes "interp: longer than 4194304 bytes\n"
-line_of outcome.NotBuilt = codes "interp: form not built\n"
 
--- what out gained of the text: all, a front part, or nothing
-abbrev pub Gains : Outcome → Option (List ℕ) → Option (List ℕ) → List ℕ → Type 0
-Gains outcome.Done old new text = Appends old new text
-Gains outcome.WriteFault old new text = GainsFront old new text
-Gains _ old new text = Keeps old new
+-- what out gained of the texts: all, a front part, or nothing
+abbrev pub Gains : Outcome → Option (List ℕ) → Option (List ℕ) → List (List ℕ) → Type 0
+Gains outcome.Done old new pages = Appends old new (concat pages)
+Gains outcome.WriteFault old new pages = GainsFront old new (concat pages)
+Gains _ old new pages = Keeps old new
+
+-- of so many texts, and no more, the whole is in what was gained
+pub record HoldsFirst (pages : List (List ℕ)) (gained : List ℕ) (count : ℕ) : Type 0 where
+  pub within : count ≤ length pages
+  pub front : StartsWith gained (concat (take count pages))
+  pub greatest : (more : ℕ) → more ≤ length pages → StartsWith gained (concat (take more pages)) → more ≤ count
+
+-- the watchers were told of so many outputs, as many as out gained whole, where it tells its bytes
+pub record TellsFirst (old new : Option (List ℕ)) (pages : List (List ℕ)) (notes : List Note) (before after : List WatcherState) : Type 0 where
+  pub count : ℕ
+  pub left : after ≡ left_after_all (take count notes) before
+  pub holds : (bytes gained : List ℕ) → old ≡ Some bytes → new ≡ Some (bytes ++ gained) → HoldsFirst pages gained count
+
+-- the watchers that are left: those with patience for all outputs, for those that were written whole, or all as before
+abbrev pub Tells : Outcome → Option (List ℕ) → Option (List ℕ) → List (List ℕ) → List Note → List WatcherState → List WatcherState → Type 0
+Tells outcome.Done old new pages notes before after = after ≡ left_after_all notes before
+Tells outcome.WriteFault old new pages notes before after = TellsFirst old new pages notes before after
+Tells _ old new pages notes before after = after ≡ before
 
 -- a source is as before, in what it has left and in its count of faults
 pub record IsUnread (left_before left_after : Option (List ℕ)) (faults_before faults_after : ℕ) : Type 0 where

@@ -1,12 +1,16 @@
 //! The top call: from the words and the bytes to the text and the status.
 #![tactic(auto)]
 
-mod care;
+mod counts;
 mod outcome;
+mod phases;
+mod plan;
+mod printed;
 mod solve;
 mod top;
 
 pub use crate::outcome::Outcome;
+pub use crate::plan::run_plan;
 pub use crate::top::{report, run};
 
 #[cfg(test)]

@@ -1,57 +1,70 @@
-//! The least polynomial of each output, and the answer's texts.
-ghost use Rattle.std.specs.Prelude.{◌≡◌, ◌≤◌, IfOk, reverse};
-ghost use Rattle.std.specs.List.{concat};
-ghost use Rattle.lattice.specs.Interpolation.{IsLeast};
-ghost use Rattle.lattice.specs.Rows.{IsConsistent, care_ones, care_zeros};
+//! A consistent description solved on a store of its own.
+ghost use Rattle.std.specs.Prelude.{◌≡◌, ◌⊎◌, ◌<◌, ◌≤◌, ◌^◌, IfOk, IfErr, IsErrOf, List, map};
+ghost use Rattle.lattice.specs.declared.kind.Mode.TheVariants.{Anf, Basis};
+ghost use Rattle.lattice.specs.Rows.{IsConsistent};
+ghost use Rattle.lattice.specs.WorkingLists.{second_phase, working_set};
 ghost use Rattle.pla_reader.specs.Reading.{description};
-ghost use Rattle.interp_run.specs.Due.{IsAnswerFor};
-ghost use Rattle.interp_run.specs.Marks.{MarksAll};
-ghost use Rattle.interp_run.specs.Solved.{SolvesFirst};
+ghost use Rattle.anf_printer.specs.Text.{Answer, answer_of};
+ghost use Rattle.interp_run.specs.Answers.{AreAnswers, last_nodes};
+ghost use Rattle.interp_run.specs.Due.{EndsUnsolved, IsEnd};
+ghost use Rattle.interp_run.specs.declared.outcome.Outcome.TheVariants as outcomes;
 
-use crate::care::{Marks, care_points, marks_of_all};
-use anf_printer::{Shown, answer_text};
-use interp_list::least_list;
-use lattice::{Memory, Mode, MonoLists, Monos, Pages};
+use crate::Outcome;
+use crate::counts::{first_count, second_count};
+use crate::phases::{Stop, first_phase, second_phase};
+use crate::plan::run_plan;
+use crate::printed::shown_of;
+use anf_printer::Shown;
+use cli_words::Job;
+use lattice::Memory;
+use node_store::{PlainStore, Store};
 use pla_reader::Pla;
 use std::alloc::Global;
 
-// The least polynomial of an output.
-fn least_of(alloc: Global, pla: &Pla, marks: &[Marks], output: u32) -> Result<Monos, Memory>
-    requires width { pla.now.inputs ≤ 12 }
+// What is printed of each output, found in a store with the plan of the run.
+fn solve_in<S: Store>(
+    alloc: Global,
+    store: &mut S,
+    pla: &Pla,
+    job: &Job,
+) -> Result<Vec<Shown>, Stop>
+    requires vars { (S.state store.old).vars ≡ pla.now.inputs }
+    requires plan { let p = pla.now in (S.state store.old).plan ≡ working_set p.inputs (second_phase p.inputs p.outputs p.kind p.rows job.now.mode) }
+    requires capacity { (S.state store.old).capacity ≡ 2 ^ job.now.nodes }
     requires consistent { IsConsistent pla.now.inputs pla.now.outputs pla.now.rows }
-    requires marks { MarksAll pla.now.inputs pla.now.rows marks.now }
-    requires first { 1 ≤ output }
-    requires last { output ≤ pla.now.outputs }
-    ensures { IfOk result (λ poly. IsLeast pla.now.inputs (care_zeros pla.now.inputs pla.now.kind pla.now.rows output) (care_ones pla.now.inputs pla.now.kind pla.now.rows output) (reverse poly)) }
+    ensures ok { IfOk result (λ shown. AreAnswers (description pla.now) job.now.mode (map answer_of shown.items) × IsEnd job.now (description pla.now) (map answer_of shown.items) outcomes.Done) }
+    ensures full { IsErrOf result Stop.Full → 2 ^ job.now.nodes < last_nodes (description pla.now) job.now.mode }
+    ensures terms { IsErrOf result Stop.Terms → (answers : List Answer) × AreAnswers (description pla.now) job.now.mode answers × IsEnd job.now (description pla.now) answers (outcomes.Terms job.now.terms) }
 {
-    let zeros = care_points(alloc, pla.kind, marks, output, false)?;
-    let ones = care_points(alloc, pla.kind, marks, output, true)?;
-    least_list(alloc, pla.inputs, &zeros, &ones)
-}
-
-// What is printed of each output.
-fn shown_of(alloc: Global, pla: &Pla) -> Result<Vec<Shown>, Memory>
-    requires width { pla.now.inputs ≤ 12 }
-    requires consistent { IsConsistent pla.now.inputs pla.now.outputs pla.now.rows }
-    ensures { IfOk result (λ shown. SolvesFirst (description pla.now) pla.now.outputs shown.items) }
-{
-    let marks = marks_of_all(alloc, pla.inputs, pla.rows.as_slice())?;
-    let mut shown = Vec::new(alloc);
-    for before in 0..pla.outputs {
-        shown.push(Shown {
-            poly: least_of(alloc, pla, &marks, before + 1)?,
-            basis: MonoLists::new(alloc),
-        })?;
+    let found = first_phase(alloc, store, pla, job.mode)?;
+    if first_count(store, &found, job.terms).is_none() {
+        return Err(Stop::Terms);
     }
-    Ok(shown)
+    let solved = second_phase(alloc, store, &found, job.terms)?;
+    if second_count(store, &solved, job.terms).is_none() {
+        return Err(Stop::Terms);
+    }
+    Ok(shown_of(alloc, store, &solved, job.terms)?)
 }
 
-/// The answer's texts, one for each output.
-pub(crate) fn texts(alloc: Global, pla: &Pla) -> Result<Pages, Memory>
-    requires width { pla.now.inputs ≤ 12 }
+/// What is printed of each output of a consistent description, or how the run ends without it.
+pub(crate) fn solve(alloc: Global, pla: &Pla, job: &Job) -> Result<Vec<Shown>, Outcome>
+    requires mode { (job.now.mode ≡ Anf) ⊎ (job.now.mode ≡ Basis) }
+    requires nodes { (4 ≤ job.now.nodes) × (job.now.nodes ≤ 19) }
     requires consistent { IsConsistent pla.now.inputs pla.now.outputs pla.now.rows }
-    ensures { IfOk result (λ pages. IsAnswerFor (description pla.now) (concat pages)) }
+    ensures ok { IfOk result (λ shown. AreAnswers (description pla.now) job.now.mode (map answer_of shown.items) × IsEnd job.now (description pla.now) (map answer_of shown.items) outcomes.Done) }
+    ensures err { IfErr result (EndsUnsolved job.now (description pla.now)) }
 {
-    let shown = shown_of(alloc, pla)?;
-    answer_text(alloc, pla, Mode::Anf, &shown)
+    let Ok(mut store) = PlainStore::make(alloc, job.nodes, pla.inputs, run_plan(pla, job.mode))
+    else {
+        return Err(Outcome::Memory);
+    };
+    match solve_in(alloc, &mut store, pla, job) {
+        Ok(shown) => Ok(shown),
+        Err(Stop::Full) => Err(Outcome::Exhausted {
+            nodes: 1 << job.nodes,
+        }),
+        Err(Stop::Terms) => Err(Outcome::Terms { limit: job.terms }),
+        Err(Stop::Memory) => Err(Outcome::Memory),
+    }
 }

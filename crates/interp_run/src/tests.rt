@@ -1,9 +1,13 @@
+ghost use Rattle.std.specs.Prelude.{◌≡◌, [], All, IfOk};
+ghost use Rattle.watch.specs.Notes.{states_by};
+
 use crate::run;
 use lattice::Words;
 use outside::{MemSink, MemSource};
-use std::alloc::Global;
+use std::alloc::{AllocError, Global};
 use std::process::Abort;
 use std::test::Fail;
+use watch::{Tally, Watch};
 
 const NEVER: u64 = 1_000_000;
 
@@ -19,33 +23,37 @@ fn words_of(alloc: Global, line: &str) -> Result<Words, Fail> {
 fn check(
     rt: &impl Abort,
     alloc: Global,
-    words: &Words,
+    line: &str,
     text: &str,
     fails: (u64, u64),
     want: (u8, &str, &str),
 ) -> Result<(), Fail> {
+    let words = words_of(alloc, line)?;
     let mut source = MemSource::make(alloc, text.as_bytes(), 4, &[fails.0]).map_err(|_| "memory")?;
     let mut out = MemSink::make(alloc, 200, 4, &[fails.1]).map_err(|_| "memory")?;
     let mut err = MemSink::make(alloc, 200, 7, &[]).map_err(|_| "memory")?;
-    assert_eq!(rt;
-        run(alloc, words, &mut source, &mut out, &mut err),
-        want.0,
-        "at {text}"
+    let status = run(
+        alloc,
+        &words,
+        &mut source,
+        &mut out,
+        &mut err,
+        &mut Vec::new(alloc),
     );
-    assert_eq!(rt; out.bytes(), want.1.as_bytes(), "at {text}");
-    assert_eq!(rt; err.bytes(), want.2.as_bytes(), "at {text}");
+    assert_eq!(rt; status, want.0, "{line} at {text}");
+    assert_eq!(rt; out.bytes(), want.1.as_bytes(), "{line} at {text}");
+    assert_eq!(rt; err.bytes(), want.2.as_bytes(), "{line} at {text}");
     Ok(())
 }
 
-fn answers(rt: &impl Abort, alloc: Global, text: &str, answer: &str) -> Result<(), Fail> {
-    check(
-        rt,
-        alloc,
-        &words_of(alloc, "interp anf")?,
-        text,
-        (NEVER, NEVER),
-        (0, answer, ""),
-    )
+fn answers(
+    rt: &impl Abort,
+    alloc: Global,
+    line: &str,
+    text: &str,
+    answer: &str,
+) -> Result<(), Fail> {
+    check(rt, alloc, line, text, (NEVER, NEVER), (0, answer, ""))
 }
 
 #[test]
@@ -63,12 +71,54 @@ fn single_outputs(rt: HostRuntime) -> Result<(), Fail> {
         ("fd", "2", "1-0\n", "f1 = 0\n"),
         ("f", "2", "1- 1\n11 0\n0- -\n", "f1 = x1\n"),
         ("fd", "2", "1- 1\n11 -\n", "f1 = x1\n"),
+        ("f", "20", "1------------------- 1\n", "f1 = x1\n"),
+        (
+            "fr",
+            "62",
+            "11111111111111111111111111111111111111111111111111111111111111 1\n",
+            "f1 = 1\n",
+        ),
     ] {
         let alloc = rt.alloc();
         let text = format!(in alloc; ".i {inputs}\n.o 1\n.type {kind}\n{rows}")?;
-        answers(&rt, alloc, text.as_str(), answer)?;
+        answers(&rt, alloc, "interp anf", text.as_str(), answer)?;
     }
     Ok(())
+}
+
+#[test]
+fn bases(rt: HostRuntime) -> Result<(), Fail> {
+    for (kind, inputs, rows, answer) in [
+        ("fd", "2", "10 1\n01 1\n", "f1 = x1 + x2\n"),
+        ("fr", "2", "", "f1 = 0\n0 = 1\n"),
+        ("fr", "2", "11 1\n00 0\n", "f1 = x2\n0 = x1 + x2\n"),
+        (
+            "fr",
+            "3",
+            "101 1\n",
+            "f1 = 1\n0 = x3 + 1\n0 = x2\n0 = x1 + 1\n",
+        ),
+        (
+            "fr",
+            "2",
+            "00 0\n10 1\n11 0\n",
+            "f1 = x1 + x2\n0 = x1*x2 + x2\n",
+        ),
+        ("fd", "2", "11 1\n10 -\n", "f1 = x1\n0 = x1*x2 + x1\n"),
+        ("fd", "2", "1- 1\n11 -\n", "f1 = x1\n0 = x1*x2\n"),
+    ] {
+        let alloc = rt.alloc();
+        let text = format!(in alloc; ".i {inputs}\n.o 1\n.type {kind}\n{rows}")?;
+        answers(&rt, alloc, "interp basis", text.as_str(), answer)?;
+    }
+    let pair = ".i 2\n.o 2\n.type fr\n11 1-\n00 00\n10 -1\n";
+    answers(
+        &rt,
+        rt.alloc(),
+        "interp basis",
+        pair,
+        "f1 = x2\n0 = x1 + x2\nf2 = x1\n0 = x2\n",
+    )
 }
 
 #[test]
@@ -78,26 +128,21 @@ fn names_and_many_outputs(rt: HostRuntime) -> Result<(), Fail> {
         "# full adder\n.i 3\n.o 2\n.ilb a b cin\n.ob s c\n.p 7\n001 10\n010 10\n100 10\n111 11\n011 01\n101 01\n110 01\n.e\n";
     let carriage_returns =
         "# full adder\r\n.i 3\r\n.o 2\r\n.ilb a b cin\r\n.ob s c\r\n.p 7\r\n001 10\r\n010 10\r\n100 10\r\n111 11\r\n011 01\r\n101 01\r\n110 01\r\n.e\r\n";
+    let sums = "s = a + b + cin\nc = a*b + a*cin + b*cin\n";
     for text in [adder, carriage_returns] {
-        answers(
-            &rt,
-            alloc,
-            text,
-            "s = a + b + cin\nc = a*b + a*cin + b*cin\n",
-        )?;
+        answers(&rt, alloc, "interp anf", text, sums)?;
     }
+    answers(&rt, alloc, "interp anf --workers 8", adder, sums)?;
     let pair = ".i 2\n.o 2\n.type fr\n11 1-\n00 00\n10 -1\n";
-    answers(&rt, alloc, pair, "f1 = x2\nf2 = x1\n")?;
+    answers(&rt, alloc, "interp anf", pair, "f1 = x2\nf2 = x1\n")?;
     let numbers = ".i 2\n.o 1\n.ilb 0 1\n10 1\n01 1\n";
-    answers(&rt, alloc, numbers, "f1 = x1 + x2\n")?;
+    answers(&rt, alloc, "interp anf", numbers, "f1 = x1 + x2\n")?;
     let unknown = ".i 2\n.o 1 # one\n.type fr\n.topology x\n1 1 | 1\n";
-    answers(&rt, alloc, unknown, "f1 = 1\n")
+    answers(&rt, alloc, "interp anf", unknown, "f1 = 1\n")
 }
 
 #[test]
 fn refusals(rt: HostRuntime) -> Result<(), Fail> {
-    let alloc = rt.alloc();
-    let words = words_of(alloc, "interp anf")?;
     for (text, status, message) in [
         ("", 3, "interp: line 0: NoSize\n"),
         (
@@ -121,12 +166,11 @@ fn refusals(rt: HostRuntime) -> Result<(), Fail> {
             4,
             "interp: output 1: on line 4, off line 5\n",
         ),
-        (".i 13\n.o 1\n", 11, "interp: form not built\n"),
     ] {
         check(
             &rt,
-            alloc,
-            &words,
+            rt.alloc(),
+            "interp anf",
             text,
             (NEVER, NEVER),
             (status, "", message),
@@ -136,14 +180,77 @@ fn refusals(rt: HostRuntime) -> Result<(), Fail> {
 }
 
 #[test]
+fn limits(rt: HostRuntime) -> Result<(), Fail> {
+    let sixteen = ".i 16\n.o 1\n.type fd\n";
+    let seventeen = ".i 17\n.o 1\n.type fd\n";
+    let union = ".i 2\n.o 1\n.type fd\n1- 1\n-1 1\n";
+    let graph = ".i 3\n.o 1\n.type fr\n101 1\n";
+    for (line, text, status, answer, message) in [
+        ("interp anf --nodes 4", sixteen, 0, "f1 = 0\n", ""),
+        ("interp basis --nodes 4", sixteen, 0, "f1 = 0\n", ""),
+        (
+            "interp anf --nodes 4",
+            seventeen,
+            5,
+            "",
+            "interp: more than 16 nodes are needed\n",
+        ),
+        (
+            "interp anf --terms 3",
+            union,
+            0,
+            "f1 = x1*x2 + x1 + x2\n",
+            "",
+        ),
+        (
+            "interp anf --terms 2",
+            union,
+            6,
+            "",
+            "interp: more than 2 terms\n",
+        ),
+        (
+            "interp basis --terms 6",
+            graph,
+            0,
+            "f1 = 1\n0 = x3 + 1\n0 = x2\n0 = x1 + 1\n",
+            "",
+        ),
+        (
+            "interp basis --terms 5",
+            graph,
+            6,
+            "",
+            "interp: more than 5 terms\n",
+        ),
+        (
+            "interp basis --terms 3",
+            graph,
+            6,
+            "",
+            "interp: more than 3 terms\n",
+        ),
+    ] {
+        check(
+            &rt,
+            rt.alloc(),
+            line,
+            text,
+            (NEVER, NEVER),
+            (status, answer, message),
+        )?;
+    }
+    Ok(())
+}
+
+#[test]
 fn words_and_faults(rt: HostRuntime) -> Result<(), Fail> {
     let alloc = rt.alloc();
     let sum = ".i 2\n.o 1\n.type fd\n10 1\n01 1\n";
-    let words = words_of(alloc, "interp anf")?;
     check(
         &rt,
         alloc,
-        &words,
+        "interp anf",
         sum,
         (2, NEVER),
         (8, "", "interp: read fault\n"),
@@ -151,15 +258,14 @@ fn words_and_faults(rt: HostRuntime) -> Result<(), Fail> {
     check(
         &rt,
         alloc,
-        &words,
+        "interp anf",
         sum,
         (NEVER, 2),
         (9, "f1 =", "interp: write fault\n"),
     )?;
     let usage = "interp: usage: interp MODE [--workers N] [--nodes B] [--terms T] [--seed S]\n";
-    for line in ["interp", "interp basis", "interp anf --nodes"] {
-        let words = words_of(alloc, line)?;
-        check(&rt, alloc, &words, sum, (NEVER, NEVER), (2, "", usage))?;
+    for line in ["interp", "interp anf --nodes 3", "interp check"] {
+        check(&rt, alloc, line, sum, (NEVER, NEVER), (2, "", usage))?;
     }
     Ok(())
 }
@@ -173,11 +279,75 @@ fn too_long(rt: HostRuntime) -> Result<(), Fail> {
     let mut source = MemSource::make(alloc, &bytes, 4_194_305, &[]).map_err(|_| "memory")?;
     let mut out = MemSink::make(alloc, 200, 4, &[]).map_err(|_| "memory")?;
     let mut err = MemSink::make(alloc, 200, 7, &[]).map_err(|_| "memory")?;
-    assert_eq!(rt; run(alloc, &words, &mut source, &mut out, &mut err), 10);
+    assert_eq!(rt;
+        run(
+            alloc,
+            &words,
+            &mut source,
+            &mut out,
+            &mut err,
+            &mut Vec::new(alloc)
+        ),
+        10
+    );
     assert_eq!(rt; out.bytes(), b"".as_slice());
     assert_eq!(rt;
         err.bytes(),
         b"interp: longer than 4194304 bytes\n".as_slice()
     );
     Ok(())
+}
+
+fn pair(
+    alloc: Global,
+    first: Box<dyn Watch>,
+    second: Box<dyn Watch>,
+) -> Result<Vec<Box<dyn Watch>>, AllocError>
+    requires first { told first ≡ [] }
+    requires second { told second ≡ [] }
+    ensures { IfOk result (λ ws. All (λ s. s.told ≡ []) (states_by told patience ws.items)) }
+{
+    let mut watchers = Vec::with_capacity(alloc, 2)?;
+    watchers.push(first)?;
+    watchers.push(second)?;
+    Ok(watchers)
+}
+
+// Runs on two outputs with two watchers, of which one has patience for one output and one for five, where one write may
+// fail, and compares the status, the number of watchers that are left and the terms that the last of them was told.
+fn check_told(
+    rt: &impl Abort,
+    alloc: Global,
+    fails: u64,
+    want: (u8, usize, u64),
+) -> Result<(), Fail> {
+    let words = words_of(alloc, "interp basis")?;
+    let text = b".i 2\n.o 2\n.type fr\n11 1-\n00 00\n10 -1\n";
+    let mut source = MemSource::make(alloc, text, 100, &[]).map_err(|_| "memory")?;
+    let mut out = MemSink::make(alloc, 200, 4, &[fails]).map_err(|_| "memory")?;
+    let mut err = MemSink::make(alloc, 200, 100, &[]).map_err(|_| "memory")?;
+    let first = Box::new(alloc, Tally::new(1))?;
+    let second = Box::new(alloc, Tally::new(5))?;
+    let mut watchers = pair(alloc, first, second)?;
+    let status = run(
+        alloc,
+        &words,
+        &mut source,
+        &mut out,
+        &mut err,
+        &mut watchers,
+    );
+    assert_eq!(rt; status, want.0);
+    assert_eq!(rt; watchers.len(), want.1);
+    if let Some(last) = watchers.last() {
+        assert_eq!(rt; last.terms(), want.2);
+    }
+    Ok(())
+}
+
+#[test]
+fn told_of_each_output(rt: HostRuntime) -> Result<(), Fail> {
+    check_told(&rt, rt.alloc(), NEVER, (0, 1, 2))?;
+    check_told(&rt, rt.alloc(), 7, (9, 2, 1))?;
+    check_told(&rt, rt.alloc(), 3, (9, 2, 0))
 }

@@ -1,41 +1,47 @@
 //! The top call: the words, the reading, the answer and the writing.
-ghost use Rattle.std.specs.Prelude.{◌≡◌, ◌≢◌, ◌↔◌, ◌⊎◌, ◌+◌, ◌≤◌, List, ℕ, OnOk, IfOk, IfErr, IfSome, IsNone, Some, false, true};
+ghost use Rattle.std.specs.Prelude.{◌≡◌, ◌≢◌, ◌⊎◌, ◌+◌, ◌≤◌, [], List, ℕ, All, OnOk, OnErr, IfOk, IfErr, IfSome, IsNone, Some, length, map};
 ghost use Rattle.std.specs.List.{concat};
 ghost use Rattle.std.specs.Io.KnownBytes.{Appends, Keeps};
 ghost use Rattle.lattice.specs.Counts.{Rose};
+ghost use Rattle.lattice.specs.declared.kind.Mode.TheVariants.{Anf, Basis};
 ghost use Rattle.lattice.specs.Rows.{IsConsistent};
 ghost use Rattle.outside.specs.Causes.{GainsFront, GainsUnlessRose, HasCause, LosesAtMost};
 ghost use Rattle.pla_reader.specs.Reading.{description};
-ghost use Rattle.interp_run.specs.Due.{EndsWithout, IsAnswer, IsDue, IsReadAs, most_bytes, most_inputs};
-ghost use Rattle.interp_run.specs.Run.{Gains, IsAllowed, IsUnread, is_anf, line_of, status_of};
+ghost use Rattle.anf_printer.specs.Text.{answer_of};
+ghost use Rattle.cli_words.specs.declared.job.Job.{Job};
+ghost use Rattle.watch.specs.Notes.{left_after_all, states_by};
+ghost use Rattle.watch.specs.declared.note.Note.{Note};
+ghost use Rattle.interp_run.specs.Answers.{notes_from};
+ghost use Rattle.interp_run.specs.Due.{EndsWithout, IsAnswer, IsDue, IsReadAs, most_bytes};
+ghost use Rattle.interp_run.specs.Run.{Gains, IsAllowed, IsAsked, IsRefused, IsUnread, Tells, TellsFirst, line_of, status_of};
 ghost use Rattle.interp_run.specs.declared.outcome.Outcome.{Outcome};
 ghost use Rattle.interp_run.specs.declared.outcome.Outcome.TheVariants as outcomes;
 
 use crate::Outcome;
-use crate::solve::texts;
+use crate::solve::solve;
+use anf_printer::{Shown, answer_text};
+use cli_words::{Job, WordsRefusal, read_words};
 use cube_sets::conflict;
 use lattice::{Memory, Pages, Text, Words};
 use outside::{Failed, ReadStop, Sink, Source, read_up_to, write_whole};
 use pla_reader::{Pla, ReadRefusal, read};
-use std::alloc::Global;
+use std::alloc::{AllocError, Global};
+use watch::{Note, Watch, tell};
 
 /// A source may give so many bytes.
 const MOST_BYTES: usize = 4_194_304;
 
-/// The forms that are built have so many inputs at most.
-const MOST_INPUTS: u32 = 12;
-
-// Whether the words ask for the one mode that is built.
-fn asks_anf(words: &Words) -> bool
-    ensures { result ≡ is_anf words.now }
-{
-    words.count() == 2 && words.word(1) == Some("anf")
+/// The texts of the outputs, and what the watchers are told of each.
+#[derive(Drop)]
+struct Answer {
+    pages: Pages,
+    notes: Vec<Note>,
 }
 
 // The description of the bytes, or how the run ends without it.
 fn description_of(alloc: Global, bytes: &[u8]) -> Result<Pla, Outcome>
     ensures ok { IfOk result (λ pla. IsReadAs bytes.now (description pla)) }
-    ensures err { IfErr result (EndsWithout bytes.now) }
+    ensures err { IfErr result (λ o. (job : Job) → EndsWithout job bytes.now o) }
 {
     if bytes.len() > MOST_BYTES {
         return Err(Outcome::TooLong);
@@ -50,48 +56,76 @@ fn description_of(alloc: Global, bytes: &[u8]) -> Result<Pla, Outcome>
     }
 }
 
-// How the run ends where the description is not to be solved.
-fn refusal_of(pla: &Pla) -> Option<Outcome>
-    ensures some { IfSome result (λ o. (bytes : List ℕ) → IsReadAs bytes (description pla.now) → EndsWithout bytes o) }
+// How the run ends where rows contradict each other.
+fn contradiction_of(pla: &Pla) -> Option<Outcome>
+    ensures some { IfSome result (λ o. (job : Job) (bytes : List ℕ) → IsReadAs bytes (description pla.now) → EndsWithout job bytes o) }
     ensures consistent { IsNone result → IsConsistent pla.now.inputs pla.now.outputs pla.now.rows }
-    ensures few { IsNone result → pla.now.inputs ≤ most_inputs }
 {
-    if let Some(clash) = conflict(pla) {
-        return Some(Outcome::Contradiction {
-            output: clash.output,
-            on_line: clash.on_line,
-            off_line: clash.off_line,
-        });
-    }
-    if pla.inputs > MOST_INPUTS {
-        return Some(Outcome::NotBuilt);
-    }
-    None
+    let clash = conflict(pla)?;
+    Some(Outcome::Contradiction {
+        output: clash.output,
+        on_line: clash.on_line,
+        off_line: clash.off_line,
+    })
 }
 
-// The answer's texts, or how the run ends without them.
-fn answer(alloc: Global, bytes: &[u8]) -> Result<Pages, Outcome>
-    ensures ok { IfOk result (λ pages. IsDue bytes.now outcomes.Done × IsAnswer bytes.now (concat pages)) }
-    ensures err { IfErr result (EndsWithout bytes.now) }
+// What the watchers are told of each output.
+fn notes_of(alloc: Global, shown: &[Shown]) -> Result<Vec<Note>, AllocError>
+    requires few { length shown.now ≤ 64 }
+    ensures { IfOk result (λ notes. notes.items ≡ notes_from 1 (map answer_of shown.now)) }
+{
+    let mut notes = Vec::new(alloc);
+    for (before, output) in shown.iter().enumerate() {
+        notes.push(Note {
+            output: before as u32 + 1,
+            terms: output.poly.as_slice().len() as u64,
+            basis: output.basis.as_slice().len() as u64,
+        })?;
+    }
+    Ok(notes)
+}
+
+// The answer to a job on the bytes, or how the run ends without it.
+fn answer_to(alloc: Global, job: &Job, bytes: &[u8]) -> Result<Answer, Outcome>
+    requires mode { (job.now.mode ≡ Anf) ⊎ (job.now.mode ≡ Basis) }
+    requires nodes { (4 ≤ job.now.nodes) × (job.now.nodes ≤ 19) }
+    ensures ok { IfOk result (λ a. IsDue job.now bytes.now outcomes.Done × IsAnswer job.now.mode bytes.now a.pages a.notes.items) }
+    ensures few { IfOk result (λ a. (length a.notes.items ≡ length a.pages) × (length a.pages ≤ 64)) }
+    ensures err { IfErr result (EndsWithout job.now bytes.now) }
 {
     let pla = description_of(alloc, bytes)?;
-    if let Some(outcome) = refusal_of(&pla) {
+    if let Some(outcome) = contradiction_of(&pla) {
         return Err(outcome);
     }
-    match texts(alloc, &pla) {
-        Ok(pages) => Ok(pages),
+    let shown = solve(alloc, &pla, job)?;
+    let Ok(notes) = notes_of(alloc, &shown) else {
+        return Err(Outcome::Memory);
+    };
+    match answer_text(alloc, &pla, job.mode, &shown) {
+        Ok(pages) => Ok(Answer { pages, notes }),
         Err(Memory) => Err(Outcome::Memory),
     }
 }
 
-// Writes the texts, one after the other.
-fn write_pages<K: Sink>(out: &mut K, pages: &[Text]) -> Result<(), Failed>
+// Writes the texts, one after the other, and tells the watchers of each as soon as it was written whole.
+fn write_pages<K: Sink>(
+    out: &mut K,
+    pages: &[Text],
+    notes: &[Note],
+    watchers: &mut Vec<Box<dyn Watch>>,
+) -> Result<(), Failed>
+    requires size { length notes.now ≡ length pages.now }
+    requires few { length pages.now ≤ 64 }
+    requires untold { All (λ s. s.told ≡ []) (states_by told patience watchers.old.items) }
     ensures whole { OnOk result (Appends (K.held out.old) (K.held out.new) (concat pages.now)) }
     ensures front { GainsFront (K.held out.old) (K.held out.new) (concat pages.now) }
     ensures cause { HasCause (K.faults out.old) (K.faults out.new) result }
+    ensures told { OnOk result (states_by told patience watchers.new.items ≡ left_after_all notes.now (states_by told patience watchers.old.items)) }
+    ensures stopped { OnErr result (TellsFirst (K.held out.old) (K.held out.new) pages.now notes.now (states_by told patience watchers.old.items) (states_by told patience watchers.new.items)) }
 {
-    for page in pages {
+    for (page, note) in pages.iter().zip(notes) {
         write_whole(out, page.as_slice())?;
+        tell(watchers, note);
     }
     Ok(())
 }
@@ -102,29 +136,37 @@ fn outcome_of<S: Source, K: Sink>(
     words: &Words,
     source: &mut S,
     out: &mut K,
+    watchers: &mut Vec<Box<dyn Watch>>,
 ) -> Outcome
-    ensures usage { result ≡ outcomes.Usage ↔ is_anf words.now ≡ false }
+    requires untold { All (λ s. s.told ≡ []) (states_by told patience watchers.old.items) }
+    ensures usage { result ≡ outcomes.Usage → IsRefused words.now }
+    ensures taken { result ≢ outcomes.Usage → result ≢ outcomes.Memory → ¬ IsRefused words.now }
     ensures read { result ≡ outcomes.ReadFault → Rose (S.faults source.old) (S.faults source.new) }
     ensures write { result ≡ outcomes.WriteFault → Rose (K.faults out.old) (K.faults out.new) }
     ensures due { (bytes : List ℕ) → S.left source.old ≡ Some bytes → IsAllowed words.now bytes result }
-    ensures text { (bytes text : List ℕ) → S.left source.old ≡ Some bytes → IsAnswer bytes text → Gains result (K.held out.old) (K.held out.new) text }
+    ensures text { (job : Job) (bytes : List ℕ) (pages : List (List ℕ)) (notes : List Note) → IsAsked words.now job → S.left source.old ≡ Some bytes → IsAnswer job.mode bytes pages notes
+        → Gains result (K.held out.old) (K.held out.new) pages
+        × Tells result (K.held out.old) (K.held out.new) pages notes (states_by told patience watchers.old.items) (states_by told patience watchers.new.items) }
     ensures nothing { result ≢ outcomes.Done → result ≢ outcomes.WriteFault → Keeps (K.held out.old) (K.held out.new) }
+    ensures nobody { result ≢ outcomes.Done → result ≢ outcomes.WriteFault → states_by told patience watchers.new.items ≡ states_by told patience watchers.old.items }
     ensures few { LosesAtMost (S.left source.old) (S.left source.new) (most_bytes + 1) }
     ensures untouched { result ≡ outcomes.Usage → IsUnread (S.left source.old) (S.left source.new) (S.faults source.old) (S.faults source.new) }
 {
-    if !asks_anf(words) {
-        return Outcome::Usage;
-    }
+    let job = match read_words(alloc, words) {
+        Ok(job) => job,
+        Err(WordsRefusal::Usage) => return Outcome::Usage,
+        Err(WordsRefusal::Memory) => return Outcome::Memory,
+    };
     let bytes = match read_up_to(alloc, source, MOST_BYTES + 1) {
         Ok(bytes) => bytes,
         Err(ReadStop::Fault) => return Outcome::ReadFault,
         Err(ReadStop::Memory) => return Outcome::Memory,
     };
-    let pages = match answer(alloc, &bytes) {
-        Ok(pages) => pages,
+    let answer = match answer_to(alloc, &job, &bytes) {
+        Ok(answer) => answer,
         Err(outcome) => return outcome,
     };
-    match write_pages(out, pages.as_slice()) {
+    match write_pages(out, answer.pages.as_slice(), &answer.notes, watchers) {
         Ok(()) => Outcome::Done,
         Err(Failed) => Outcome::WriteFault,
     }
@@ -139,35 +181,44 @@ pub fn report<E: Sink>(err: &mut E, outcome: Outcome) -> u8
     outcome.status()
 }
 
-/// Does all that the program does, and answers its status.
+/// Does all that the program does, and answers its status. The watchers are told of each output as soon as its text was
+/// written whole; those whose patience ends are dropped.
 pub fn run<S: Source, K: Sink, E: Sink>(
     alloc: Global,
     words: &Words,
     source: &mut S,
     out: &mut K,
     err: &mut E,
+    watchers: &mut Vec<Box<dyn Watch>>,
 ) -> u8
+    requires untold { All (λ s. s.told ≡ []) (states_by told patience watchers.old.items) }
+
     // Where the source tells its bytes, they are a description that is due to be answered and no fault was counted, out
-    // gained the text of the least polynomials, unless memory ran out.
-    ensures headline { (bytes text : List ℕ) → is_anf words.now ≡ true → S.left source.old ≡ Some bytes → IsDue bytes outcomes.Done → IsAnswer bytes text
+    // gained the text of the least polynomials and, in mode basis, of the reduced bases, unless memory ran out.
+    ensures headline { (job : Job) (bytes : List ℕ) (pages : List (List ℕ)) (notes : List Note) → IsAsked words.now job → S.left source.old ≡ Some bytes
+        → IsDue job bytes outcomes.Done → IsAnswer job.mode bytes pages notes
         → ¬ Rose (S.faults source.old) (S.faults source.new) → ¬ Rose (K.faults out.old) (K.faults out.new)
-        → (result ≡ 7) ⊎ ((result ≡ 0) × Appends (K.held out.old) (K.held out.new) text) }
+        → (result ≡ 7) ⊎ ((result ≡ 0) × Appends (K.held out.old) (K.held out.new) (concat pages)) }
 
     // Where the source tells its bytes, the status is that of the due outcome, or yields to memory and faults.
     ensures due { (bytes : List ℕ) → S.left source.old ≡ Some bytes
         → (outcome : Outcome) × (result ≡ status_of outcome) × IsAllowed words.now bytes outcome
-        × ((text : List ℕ) → IsAnswer bytes text → Gains outcome (K.held out.old) (K.held out.new) text)
+        × ((job : Job) (pages : List (List ℕ)) (notes : List Note) → IsAsked words.now job → IsAnswer job.mode bytes pages notes
+        → Gains outcome (K.held out.old) (K.held out.new) pages
+        × Tells outcome (K.held out.old) (K.held out.new) pages notes (states_by told patience watchers.old.items) (states_by told patience watchers.new.items))
         × GainsUnlessRose (E.held err.old) (E.held err.new) (line_of outcome) (E.faults err.old) (E.faults err.new) }
-    ensures usage { result ≡ 2 ↔ is_anf words.now ≡ false }
+    ensures usage { result ≡ 2 → IsRefused words.now }
+    ensures taken { result ≢ 2 → result ≢ 7 → ¬ IsRefused words.now }
     ensures read { result ≡ 8 → Rose (S.faults source.old) (S.faults source.new) }
     ensures write { result ≡ 9 → Rose (K.faults out.old) (K.faults out.new) }
 
     ensures nothing { result ≢ 0 → result ≢ 9 → Keeps (K.held out.old) (K.held out.new) }
+    ensures nobody { result ≢ 0 → result ≢ 9 → states_by told patience watchers.new.items ≡ states_by told patience watchers.old.items }
     ensures line { (outcome : Outcome) × (result ≡ status_of outcome)
         × GainsUnlessRose (E.held err.old) (E.held err.new) (line_of outcome) (E.faults err.old) (E.faults err.new) }
     ensures few { LosesAtMost (S.left source.old) (S.left source.new) (most_bytes + 1) }
     ensures untouched { result ≡ 2 → IsUnread (S.left source.old) (S.left source.new) (S.faults source.old) (S.faults source.new) }
 {
-    let outcome = outcome_of(alloc, words, source, out);
+    let outcome = outcome_of(alloc, words, source, out, watchers);
     report(err, outcome)
 }

@@ -1,5 +1,5 @@
 -- What a call of a source or a sink does to its count of faults.
-use Rattle.std.specs.Prelude.{◌≡◌, ◌⊎◌, ◌≤◌, ℕ, List, length, Option, Result, OnOk, OnErr}
+use Rattle.std.specs.Prelude.{◌≡◌, ◌⊎◌, ◌<◌, ◌≤◌, ℕ, List, length, Option, Result, OnOk, OnErr}
 use Rattle.std.specs.Io.{StartsWith}
 use Rattle.lattice.specs.Counts.{Rose}
 use Rattle.std.specs.Io.KnownBytes.{Appends, Consumes, IsAtEnd}
@@ -16,7 +16,14 @@ pub record GainsFront (old new : Option (List ℕ)) (text : List ℕ) : Type 0 w
   pub front : StartsWith text part
   pub gained : Appends old new part
 
--- and by the whole of it, or the count of faults rose
+-- and by less than the whole of it
+pub record GainsLess (old new : Option (List ℕ)) (text : List ℕ) : Type 0 where
+  pub part : List ℕ
+  pub front : StartsWith text part
+  pub gained : Appends old new part
+  pub less : length part < length text
+
+-- or by the whole of it, unless the count of faults rose
 pub record GainsUnlessRose (old new : Option (List ℕ)) (text : List ℕ) (before now : ℕ) : Type 0 where
   pub part : List ℕ
   pub front : StartsWith text part

@@ -1,8 +1,8 @@
 // Whole texts, through calls that take or give a part each.
-ghost use Rattle.std.specs.Prelude.{◌≡◌, ◌≤◌, ℕ, List, take, IfOk, OnOk, IsErrOf, Some};
+ghost use Rattle.std.specs.Prelude.{◌≡◌, ◌≤◌, ℕ, List, take, IfOk, OnOk, OnErr, IsErrOf, Some};
 ghost use Rattle.std.specs.Io.KnownBytes.{Appends};
 ghost use Rattle.lattice.specs.Counts.{Rose};
-ghost use Rattle.outside.specs.Causes.{GainsFront, HasCause, LosesAtMost, LosesUpTo};
+ghost use Rattle.outside.specs.Causes.{GainsFront, GainsLess, HasCause, LosesAtMost, LosesUpTo};
 ghost use Rattle.outside.specs.declared.whole.ReadStop.TheVariants.{Fault, Memory};
 
 use crate::{Failed, Sink, Source};
@@ -58,6 +58,7 @@ pub fn read_up_to<S: Source>(
 pub fn write_whole<K: Sink>(out: &mut K, text: &[u8]) -> Result<(), Failed>
     ensures whole { OnOk result (Appends (K.held out.old) (K.held out.new) text.now) }
     ensures front { GainsFront (K.held out.old) (K.held out.new) text.now }
+    ensures less { OnErr result (GainsLess (K.held out.old) (K.held out.new) text.now) }
     ensures cause { HasCause (K.faults out.old) (K.faults out.new) result }
 {
     let mut done = 0;

@@ -1,26 +1,19 @@
 -- Families of listed numbers, and leads of small sets of points by computation.
-use Rattle.std.proofs.Common.{◌≡◌, ℕ, ◌+◌, ◌<◌, true, Ok, length, take, get_or, ◌||◌, List, [], ◌∷◌, ◌++◌, refl, sym, ◌∙◌, ap}
+use Rattle.std.proofs.Common.{◌≡◌, ℕ, ◌+◌, ◌<◌, true, Ok, length, take, get_or, List, [], ◌∷◌, refl, sym, ◌∙◌, ap}
 use Rattle.std.proofs.lemmas.List.{take_more}
-use Rattle.lattice.specs.Family.{has, family_where, combine, union_of}
+use Rattle.lattice.specs.Family.{has, family_where, union_of}
 use Rattle.lattice.specs.Basis.{IsLead, standard_of, leads_of}
-use Rattle.lattice.proofs.Families.{has-append}
-use Rattle.lattice.proofs.Comprehension.{family_where_has, family_where-agree, has-family_where_below, IsFamily-family_where}
+use Rattle.lattice.proofs.Comprehension.{family_where_has, IsFamily-family_where}
 use Rattle.lattice.proofs.Subfamilies.{IsFamily-nil}
 use Rattle.lattice.proofs.Results.{leads_are_minimal}
 use Rattle.node_store.specs.Stores.{State, Knows, Denotes, family, IsSound, Grows, Builds}
 use Rattle.node_store.specs.AnyFamily.{MayHoldAny}
 use Rattle.node_store.specs.declared.store.Handle.{Handle}
+use Rattle.interp_lex.proofs.ListedPoints.{listed-next}
 use Rattle.node_store.proofs.StoreLemmas.{Denotes-family, Grows-family, zero_family}
 
 listed-none : (n : ℕ) → family_where n (has []) ≡ []
 listed-none n = sym (family_where_has n [] (IsFamily-nil n))
-
-listed-next : (n : ℕ) (xs : List ℕ) (x : ℕ)
-    → union_of n (family_where n (has xs)) (x ∷ []) ≡ family_where n (has (xs ++ x ∷ []))
-unfolding combine
-listed-next n xs x =
-    family_where-agree n (λ y. has (family_where n (has xs)) y || has (x ∷ []) y) (has (xs ++ x ∷ []))
-    (λ y l. ap (λ b. b || has (x ∷ []) y) (has-family_where_below n (has xs) y l) ∙ sym (has-append xs (x ∷ []) y))
 
 -- the family of one number more: s is the state before it, t the one with its family, and u the one with the union
 pub listed-step : (vars : ℕ) (s t u : State) (all next r : Handle) (xs : List ℕ) (i d : ℕ) → MayHoldAny vars s

@@ -1,7 +1,7 @@
 use Rattle.std.proofs.Common.{arith, Ok}
 use Rattle.node_store.proofs.StoreLemmas.{Gives-failed}
 use Rattle.interp_lex.proofs.CallsInRow.{failed_after, failed_points}
-use Rattle.interp_lex.proofs.LeastStep.{no_ones_gives, no_zeros_gives, is_least, looked_gives, kept_result, some_node, cut_reads, upper_planned, upper_reads, high_knows, high_apart, high_planned, high_falls, high_reads, lower_known, lower_h, lower_planned, lower_reads, low_knows, low_apart, low_planned, low_falls, low_reads, grow_parts, grow_planned, grow_gives}
+use Rattle.interp_lex.proofs.LeastStep.{no_ones_gives, no_zeros_gives, is_least, looked_gives, kept_result, some_node, cut_reads, upper_planned, upper_reads, high_knows, high_apart, high_planned, high_falls, high_reads, lower_known, lower_planned, lower_reads, low_knows, low_apart, low_planned, low_falls, grow_parts, grow_planned, grow_gives}
 use Rattle.interp_lex.proofs.interpolation.+least.Goals as goal
 
 pub returns-then-ones-eq0-clause-result : goal.returns-then-ones-eq0-clause-result

@@ -1,6 +1,0 @@
-use Rattle.std.proofs.Common.{take}
-use Rattle.interp_run.specs.Marks.{MarksPoint}
-use Rattle.interp_run.proofs.care.marks_of.Given as goal
-
-abbrev pub invariant-loop-row : goal.invariant-loop-row
-invariant-loop-row l = MarksPoint (take l.row-index l.rows) l.a l.marks

@@ -1,5 +1,0 @@
-use Rattle.interp_run.proofs.Marked.{MarksBelow}
-use Rattle.interp_run.proofs.care.marks_of_all.Given as goal
-
-abbrev pub invariant-loop-a : goal.invariant-loop-a
-invariant-loop-a l = MarksBelow l.a l.rows l.all.items

@@ -1,0 +1,24 @@
+//! The families that a run may ask of its store.
+ghost use Rattle.std.specs.Prelude.{◌≡◌};
+ghost use Rattle.lattice.specs.WorkingLists.{second_phase, working_set};
+ghost use Rattle.lattice.proofs.WorkingSets.{working_set_is_node_list};
+
+use lattice::{Mode, Plan, Planned, plan_of};
+use pla_reader::Pla;
+
+/// A run on a description in a mode.
+#[derive(Drop)]
+struct ModeRun<'a>(&'a Pla, Mode);
+
+impl Planned for ModeRun<'_> {
+    ghost families = { λ r. working_set r.0.now.inputs (second_phase r.0.now.inputs r.0.now.outputs r.0.now.kind r.0.now.rows r.1) };
+
+    ghost node_list = { λ r. working_set_is_node_list r.0.now.inputs (second_phase r.0.now.inputs r.0.now.outputs r.0.now.kind r.0.now.rows r.1) };
+}
+
+/// The plan of a run on the description: the working set of its last phase. It does nothing at run time.
+pub fn run_plan(pla: &Pla, mode: Mode) -> Plan
+    ensures { let p = pla.now in result.families ≡ working_set p.inputs (second_phase p.inputs p.outputs p.kind p.rows mode) }
+{
+    plan_of(&ModeRun(pla, mode))
+}
