@@ -19,9 +19,10 @@ fn numbered(alloc: Global, letter: &str, count: u32) -> Result<Names, Memory>
     Ok(names)
 }
 
-/// The names that are printed in place of the given ones, where those can't be printed.
+/// The names that are printed in place of the given ones: the letter with 1, 2 and so on, as many as `count`. None where the
+/// given names are plain, and are printed themselves.
 #[tactic(auto, unfolding(crate::specs::Text::printed_names))]
-pub(crate) fn names_in_place(
+pub fn names_in_place(
     alloc: Global,
     letter: &str,
     count: u32,
@@ -37,7 +38,7 @@ pub(crate) fn names_in_place(
 }
 
 /// The names that are printed: those in place of the given ones, or else these.
-pub(crate) fn printed<'a>(in_place: &'a Option<Names>, given: &'a Names) -> &'a [Name]
+pub fn printed<'a>(in_place: &'a Option<Names>, given: &'a Names) -> &'a [Name]
     ensures { result.now ≡ unwrap_or in_place.now given.now }
 {
     match in_place {

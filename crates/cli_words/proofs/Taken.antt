@@ -12,7 +12,6 @@ use Rattle.clap.specs.Words.{App, HasKind, HasMatchesOf, Text, fault_of, found_o
 use Rattle.clap.specs.declared.error.Error.{Error}
 use Rattle.clap.specs.declared.error.kind.ErrorKind.TheVariants.{OutOfMemory}
 use Rattle.clap.specs.declared.parser.matches.ArgMatches.{ArgMatches}
-use Rattle.std.specs.Borrow.{Bor}
 
 -- a text that reads as a number in a range is read as that number
 pub number_is : (E : Type 0) (G : List ℕ → Result ℕ E → Type 0) (f : Found) (id : List ℕ) (low high n : ℕ) (r : Option ℕ) → HasNumber f id low high
@@ -34,9 +33,8 @@ number_in f id low high n has is =
     (omega arith, omega arith)
 
 -- the text that `get_str` shows is the first of the rows
-pub first_is : (f : Found) (id : List ℕ) (o : Option (Bor (List ℕ))) (name : Bor (List ℕ)) (t : List ℕ) → option_map (λ s. s.now) o ≡ first_value f id
-    → o ≡ Some name → name.now ≡ t → first_of id (rows_of f) ≡ Some t
-first_is f id o name t shown is same = sym (first_value-rows f id) ∙ (sym shown ∙ (ap (option_map (λ s. s.now)) is ∙ ap Some same))
+pub first_is : (f : Found) (id : List ℕ) → first_of id (rows_of f) ≡ first_value f id
+first_is f id = sym (first_value-rows f id)
 
 pub is_free : (list : NameList) → is_simple_and_free (interp_command_at list) ≡ true
 is_free list = refl

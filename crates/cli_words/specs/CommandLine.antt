@@ -19,7 +19,7 @@ mode_name Gen = codes "gen"
 
 -- the values of MODE, in order
 abbrev pub modes : List Mode
-modes = Anf ∷ Basis ∷ []
+modes = Anf ∷ Basis ∷ Check ∷ []
 
 -- a list of names at its address
 abbrev pub NameList : Type 0

@@ -8,7 +8,7 @@ use clap::{Arg, ArgAction, Command, value_parser};
 use std::alloc::{AllocError, Global};
 
 /// The values of MODE.
-static MODES: [&str; 2] = ["anf", "basis"];
+static MODES: [&str; 3] = ["anf", "basis", "check"];
 
 fn mode<'a>(alloc: Global) -> Arg<'a>
     ensures rule { (list : NameList) × IsModeNames list × (rule_of result ≡ mode_rule list) }

@@ -46,6 +46,7 @@ impl From<AllocError> for WordsRefusal {
 }
 
 // The mode that a parse found.
+#[tactic(auto, using(crate::proofs::Taken::first_is))]
 fn mode_of(matches: &ArgMatches<'_>) -> Mode
     requires { HasMode (found_of matches.now) }
     ensures name { first_of (codes "mode") (rows_of (found_of matches.now)) ≡ Some (mode_name result) }
@@ -54,6 +55,7 @@ fn mode_of(matches: &ArgMatches<'_>) -> Mode
     match matches.get_str("mode") {
         Some("anf") => Mode::Anf,
         Some("basis") => Mode::Basis,
+        Some("check") => Mode::Check,
         _ => unreachable!(),
     }
 }
@@ -81,7 +83,7 @@ fn job_of(matches: &ArgMatches<'_>) -> Job
 }
 
 /// Reads the words, the program's name first, by the declared command
-/// `interp MODE [--workers N] [--nodes B] [--terms T] [--seed S]`, where MODE is `anf` or `basis`.
+/// `interp MODE [--workers N] [--nodes B] [--terms T] [--seed S]`, where MODE is `anf`, `basis` or `check`.
 /// Which words it takes, and with which values, is the rule of `clap` for a simple command.
 pub fn read_words(alloc: Global, words: &Words) -> Result<Job, WordsRefusal>
     ensures usage { IsErrOf result WordsRefusal.Usage → fault_of interp_command words.now ≢ [] }

@@ -32,6 +32,10 @@ fn words_that_are_taken(rt: HostRuntime) -> Result<(), Fail> {
         mode: Mode::Basis,
         ..plain
     };
+    let check = Job {
+        mode: Mode::Check,
+        ..plain
+    };
     let each = Job {
         mode: Mode::Basis,
         workers: 16,
@@ -45,6 +49,7 @@ fn words_that_are_taken(rt: HostRuntime) -> Result<(), Fail> {
         ("interp -- anf", plain),
         ("interp anf --", plain),
         ("interp basis", basis),
+        ("interp check", check),
         ("interp anf --workers 8", eight),
         ("interp anf --workers=8", eight),
         ("interp --workers 8 anf", eight),
@@ -70,6 +75,8 @@ fn words_that_are_refused(rt: HostRuntime) -> Result<(), Fail> {
         "",
         "interp ANF",
         "interp an",
+        "interp chec",
+        "interp gen",
         "interp anf basis",
         "interp anf --nodes 3",
         "interp anf --nodes 20",

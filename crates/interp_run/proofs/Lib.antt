@@ -11,5 +11,7 @@ pub mod SolvedAnswers
 pub mod Pages
 pub mod Told
 pub mod Notes
+pub mod Jobs
 pub mod Outcomes
+pub mod Verdicts
 pub mod Answered

@@ -6,12 +6,14 @@ use Rattle.std.specs.Io.KnownBytes.{Appends, Keeps}
 use Rattle.outside.specs.Causes.{GainsFront}
 use Rattle.pla_reader.specs.declared.refusal.Why.{Why}
 use Rattle.pla_reader.specs.declared.refusal.Why.TheVariants.{BadByte, BadNumber, SizeRange, Twice, TypeLate, BadType, NamesEarly, NameCount, Unsupported, RowBeforeSize, RowLength, BadSymbol, TooManyRows, NoSize}
+use Rattle.cert_check.specs.declared.refusal.AnswerWhy.{AnswerWhy}
+use Rattle.cert_check.specs.declared.refusal.AnswerWhy.TheVariants.{BadLine, UnknownName, TermOrder, MissingOutput}
 use Rattle.clap.specs.Words.{fault_of, matches_of}
 use Rattle.cli_words.specs.CommandLine.{IsJob, interp_command}
 use Rattle.cli_words.specs.declared.job.Job.{Job}
 use Rattle.watch.specs.Notes.{WatcherState, left_after_all}
 use Rattle.watch.specs.declared.note.Note.{Note}
-use Rattle.interp_run.specs.Due.{IsDue, IsExhausted}
+use Rattle.interp_run.specs.Due.{HasText, IsDue, IsExhausted}
 use Rattle.interp_run.specs.declared.outcome.Outcome.{Outcome}
 use Rattle.interp_run.specs.declared.outcome.Outcome.TheVariants as outcome
 
@@ -31,13 +33,31 @@ IsDueOutcome words bytes o = (IsRefused words × (o ≡ outcome.Usage)) ⊎ ((jo
 abbrev pub IsAllowed : List (List ℕ) → List ℕ → Outcome → Type 0
 IsAllowed words bytes o =
     IsDueOutcome words bytes o ⊎ ((o ≡ outcome.Memory) ⊎ ((o ≡ outcome.ReadFault)
-    ⊎ (((o ≡ outcome.WriteFault) × IsDueOutcome words bytes outcome.Done)
+    ⊎ (((o ≡ outcome.WriteFault) × ((answered : Outcome) × HasText answered × IsDueOutcome words bytes answered))
     ⊎ ((job : Job) × IsAsked words job × IsExhausted job bytes o))))
+
+-- the outcome is due for the job and the bytes; or it yields to want of memory or to a fault of the output; or more nodes than
+-- slots are needed
+abbrev pub EndsAs : Job → List ℕ → Outcome → Type 0
+EndsAs job bytes o =
+    IsDue job bytes o ⊎ ((o ≡ outcome.Memory)
+    ⊎ (((o ≡ outcome.WriteFault) × ((answered : Outcome) × HasText answered × IsDue job bytes answered))
+    ⊎ IsExhausted job bytes o))
+
+-- the outcomes on which the output may have gained something
+abbrev pub Writes : Outcome → Type 0
+Writes outcome.Done = Unit {0}
+Writes (outcome.No line why) = Unit {0}
+Writes outcome.WriteFault = Unit {0}
+Writes _ = ⊥
 
 abbrev pub status_of : Outcome → ℕ
 status_of outcome.Done = 0
+status_of (outcome.No line why) = 1
 status_of outcome.Usage = 2
 status_of (outcome.Text line why) = 3
+status_of outcome.TooWide = 3
+status_of (outcome.AnswerText line why) = 3
 status_of (outcome.Contradiction output on_line off_line) = 4
 status_of (outcome.Exhausted nodes) = 5
 status_of (outcome.Terms limit) = 6
@@ -62,11 +82,20 @@ why_name BadSymbol = codes "BadSymbol"
 why_name TooManyRows = codes "TooManyRows"
 why_name NoSize = codes "NoSize"
 
+abbrev pub answer_why_name : AnswerWhy → List ℕ
+answer_why_name BadLine = codes "BadLine"
+answer_why_name UnknownName = codes "UnknownName"
+answer_why_name TermOrder = codes "TermOrder"
+answer_why_name MissingOutput = codes "MissingOutput"
+
 -- the line on err
 abbrev pub line_of : Outcome → List ℕ
 line_of outcome.Done = []
+line_of (outcome.No line why) = []
 line_of outcome.Usage = codes "interp: usage: interp MODE [--workers N] [--nodes B] [--terms T] [--seed S]\n"
 line_of (outcome.Text line why) = codes "interp: line " ++ decimal line ++ codes ": " ++ why_name why ++ codes "\n"
+line_of outcome.TooWide = codes "interp: more than 14 inputs cannot be checked\n"
+line_of (outcome.AnswerText line why) = codes "interp: answer line " ++ decimal line ++ codes ": " ++ answer_why_name why ++ codes "\n"
 line_of (outcome.Contradiction output on_line off_line) = codes "interp: output " ++ decimal output ++ codes ": on line " ++ decimal on_line ++ codes ", off line " ++ decimal off_line ++ codes "\n"
 line_of (outcome.Exhausted nodes) = codes "interp: more than " ++ decimal nodes ++ codes " nodes are needed\n"
 line_of (outcome.Terms limit) = codes "interp: more than " ++ decimal limit ++ codes " terms\n"
@@ -78,6 +107,7 @@ line_of outcome.TooLong = codes "interp: longer than 4194304 bytes\n"
 -- what out gained of the texts: all, a front part, or nothing
 abbrev pub Gains : Outcome → Option (List ℕ) → Option (List ℕ) → List (List ℕ) → Type 0
 Gains outcome.Done old new pages = Appends old new (concat pages)
+Gains (outcome.No line why) old new pages = Appends old new (concat pages)
 Gains outcome.WriteFault old new pages = GainsFront old new (concat pages)
 Gains _ old new pages = Keeps old new
 

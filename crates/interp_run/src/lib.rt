@@ -2,6 +2,8 @@
 #![tactic(auto)]
 
 mod counts;
+mod describe;
+mod judge;
 mod outcome;
 mod phases;
 mod plan;

@@ -1,72 +1,36 @@
 //! The top call: the words, the reading, the answer and the writing.
-ghost use Rattle.std.specs.Prelude.{◌≡◌, ◌≢◌, ◌⊎◌, ◌+◌, ◌≤◌, [], List, ℕ, All, OnOk, OnErr, IfOk, IfErr, IfSome, IsNone, Some, length, map};
+ghost use Rattle.std.specs.Prelude.{◌≡◌, ◌≢◌, ◌⊎◌, ◌+◌, ◌≤◌, [], List, ℕ, All, OnOk, OnErr, IfOk, IfErr, Some, length, map, take};
 ghost use Rattle.std.specs.List.{concat};
 ghost use Rattle.std.specs.Io.KnownBytes.{Appends, Keeps};
 ghost use Rattle.lattice.specs.Counts.{Rose};
-ghost use Rattle.lattice.specs.declared.kind.Mode.TheVariants.{Anf, Basis};
-ghost use Rattle.lattice.specs.Rows.{IsConsistent};
+ghost use Rattle.lattice.specs.declared.kind.Mode.TheVariants.{Anf, Basis, Check};
 ghost use Rattle.outside.specs.Causes.{GainsFront, GainsUnlessRose, HasCause, LosesAtMost};
-ghost use Rattle.pla_reader.specs.Reading.{description};
 ghost use Rattle.anf_printer.specs.Text.{answer_of};
 ghost use Rattle.cli_words.specs.declared.job.Job.{Job};
-ghost use Rattle.watch.specs.Notes.{left_after_all, states_by};
+ghost use Rattle.watch.specs.Notes.{WatcherState, left_after_all, states_by};
 ghost use Rattle.watch.specs.declared.note.Note.{Note};
 ghost use Rattle.interp_run.specs.Answers.{notes_from};
-ghost use Rattle.interp_run.specs.Due.{EndsWithout, IsAnswer, IsDue, IsReadAs, most_bytes};
-ghost use Rattle.interp_run.specs.Run.{Gains, IsAllowed, IsAsked, IsRefused, IsUnread, Tells, TellsFirst, line_of, status_of};
+ghost use Rattle.interp_run.specs.Due.{EndsWithout, HasText, IsAnswer, IsDue, IsJudgement, IsSolution, most_bytes};
+ghost use Rattle.interp_run.specs.Run.{EndsAs, Gains, IsAllowed, IsAsked, IsRefused, IsUnread, Tells, TellsFirst, Writes, line_of, status_of};
 ghost use Rattle.interp_run.specs.declared.outcome.Outcome.{Outcome};
 ghost use Rattle.interp_run.specs.declared.outcome.Outcome.TheVariants as outcomes;
 
 use crate::Outcome;
+use crate::describe::{MOST_BYTES, contradiction_of, description_of};
+use crate::judge::{outcome_after, text_of, verdict_of};
 use crate::solve::solve;
 use anf_printer::{Shown, answer_text};
 use cli_words::{Job, WordsRefusal, read_words};
-use cube_sets::conflict;
-use lattice::{Memory, Pages, Text, Words};
+use lattice::{Memory, Mode, Pages, Text, Words};
 use outside::{Failed, ReadStop, Sink, Source, read_up_to, write_whole};
-use pla_reader::{Pla, ReadRefusal, read};
 use std::alloc::{AllocError, Global};
 use watch::{Note, Watch, tell};
-
-/// A source may give so many bytes.
-const MOST_BYTES: usize = 4_194_304;
 
 /// The texts of the outputs, and what the watchers are told of each.
 #[derive(Drop)]
 struct Answer {
     pages: Pages,
     notes: Vec<Note>,
-}
-
-// The description of the bytes, or how the run ends without it.
-fn description_of(alloc: Global, bytes: &[u8]) -> Result<Pla, Outcome>
-    ensures ok { IfOk result (λ pla. IsReadAs bytes.now (description pla)) }
-    ensures err { IfErr result (λ o. (job : Job) → EndsWithout job bytes.now o) }
-{
-    if bytes.len() > MOST_BYTES {
-        return Err(Outcome::TooLong);
-    }
-    match read(alloc, bytes) {
-        Ok((pla, _)) => Ok(pla),
-        Err(ReadRefusal::Bad(refusal)) => Err(Outcome::Text {
-            line: refusal.line,
-            why: refusal.why,
-        }),
-        Err(ReadRefusal::Memory) => Err(Outcome::Memory),
-    }
-}
-
-// How the run ends where rows contradict each other.
-fn contradiction_of(pla: &Pla) -> Option<Outcome>
-    ensures some { IfSome result (λ o. (job : Job) (bytes : List ℕ) → IsReadAs bytes (description pla.now) → EndsWithout job bytes o) }
-    ensures consistent { IsNone result → IsConsistent pla.now.inputs pla.now.outputs pla.now.rows }
-{
-    let clash = conflict(pla)?;
-    Some(Outcome::Contradiction {
-        output: clash.output,
-        on_line: clash.on_line,
-        off_line: clash.off_line,
-    })
 }
 
 // What the watchers are told of each output.
@@ -89,11 +53,11 @@ fn notes_of(alloc: Global, shown: &[Shown]) -> Result<Vec<Note>, AllocError>
 fn answer_to(alloc: Global, job: &Job, bytes: &[u8]) -> Result<Answer, Outcome>
     requires mode { (job.now.mode ≡ Anf) ⊎ (job.now.mode ≡ Basis) }
     requires nodes { (4 ≤ job.now.nodes) × (job.now.nodes ≤ 19) }
-    ensures ok { IfOk result (λ a. IsDue job.now bytes.now outcomes.Done × IsAnswer job.now.mode bytes.now a.pages a.notes.items) }
+    ensures ok { IfOk result (λ a. IsDue job.now bytes.now outcomes.Done × IsSolution job.now.mode bytes.now a.pages a.notes.items) }
     ensures few { IfOk result (λ a. (length a.notes.items ≡ length a.pages) × (length a.pages ≤ 64)) }
     ensures err { IfErr result (EndsWithout job.now bytes.now) }
 {
-    let pla = description_of(alloc, bytes)?;
+    let (pla, _) = description_of(alloc, bytes)?;
     if let Some(outcome) = contradiction_of(&pla) {
         return Err(outcome);
     }
@@ -130,6 +94,55 @@ fn write_pages<K: Sink>(
     Ok(())
 }
 
+// Solves the description, and writes the answer.
+fn solved<K: Sink>(
+    alloc: Global,
+    job: &Job,
+    bytes: &[u8],
+    out: &mut K,
+    watchers: &mut Vec<Box<dyn Watch>>,
+) -> Outcome
+    requires mode { (job.now.mode ≡ Anf) ⊎ (job.now.mode ≡ Basis) }
+    requires nodes { (4 ≤ job.now.nodes) × (job.now.nodes ≤ 19) }
+    requires untold { All (λ s. s.told ≡ []) (states_by told patience watchers.old.items) }
+    ensures solves { job.now.mode ≢ Check }
+    ensures write { result ≡ outcomes.WriteFault → Rose (K.faults out.old) (K.faults out.new) }
+    ensures ends { EndsAs job.now bytes.now result }
+    ensures text { (whole : List ℕ) (pages : List (List ℕ)) (notes : List Note) → bytes.now ≡ take (most_bytes + 1) whole → IsSolution job.now.mode whole pages notes
+        → Gains result (K.held out.old) (K.held out.new) pages
+        × Tells result (K.held out.old) (K.held out.new) pages notes (states_by told patience watchers.old.items) (states_by told patience watchers.new.items) }
+    ensures nothing { ¬ Writes result → Keeps (K.held out.old) (K.held out.new) }
+    ensures nobody { result ≢ outcomes.Done → result ≢ outcomes.WriteFault → states_by told patience watchers.new.items ≡ states_by told patience watchers.old.items }
+{
+    let answer = match answer_to(alloc, job, bytes) {
+        Ok(answer) => answer,
+        Err(outcome) => return outcome,
+    };
+    match write_pages(out, answer.pages.as_slice(), &answer.notes, watchers) {
+        Ok(()) => Outcome::Done,
+        Err(Failed) => Outcome::WriteFault,
+    }
+}
+
+// Judges the answer that stands after the description, and writes the verdict.
+fn judged<K: Sink>(alloc: Global, bytes: &[u8], out: &mut K) -> Outcome
+    ensures write { result ≡ outcomes.WriteFault → Rose (K.faults out.old) (K.faults out.new) }
+    ensures ends { (job : Job) → job.mode ≡ Check → EndsAs job bytes.now result }
+    ensures text { (whole : List ℕ) (pages : List (List ℕ)) (notes : List Note) (states : List WatcherState) → bytes.now ≡ take (most_bytes + 1) whole → IsJudgement whole pages notes
+        → Gains result (K.held out.old) (K.held out.new) pages
+        × Tells result (K.held out.old) (K.held out.new) pages notes states states }
+    ensures nothing { ¬ Writes result → Keeps (K.held out.old) (K.held out.new) }
+{
+    let verdict = match verdict_of(alloc, bytes) {
+        Ok(verdict) => verdict,
+        Err(outcome) => return outcome,
+    };
+    match write_whole(out, text_of(verdict).as_str().as_bytes()) {
+        Ok(()) => outcome_after(verdict),
+        Err(Failed) => Outcome::WriteFault,
+    }
+}
+
 // All but the line on err.
 fn outcome_of<S: Source, K: Sink>(
     alloc: Global,
@@ -147,7 +160,7 @@ fn outcome_of<S: Source, K: Sink>(
     ensures text { (job : Job) (bytes : List ℕ) (pages : List (List ℕ)) (notes : List Note) → IsAsked words.now job → S.left source.old ≡ Some bytes → IsAnswer job.mode bytes pages notes
         → Gains result (K.held out.old) (K.held out.new) pages
         × Tells result (K.held out.old) (K.held out.new) pages notes (states_by told patience watchers.old.items) (states_by told patience watchers.new.items) }
-    ensures nothing { result ≢ outcomes.Done → result ≢ outcomes.WriteFault → Keeps (K.held out.old) (K.held out.new) }
+    ensures nothing { ¬ Writes result → Keeps (K.held out.old) (K.held out.new) }
     ensures nobody { result ≢ outcomes.Done → result ≢ outcomes.WriteFault → states_by told patience watchers.new.items ≡ states_by told patience watchers.old.items }
     ensures few { LosesAtMost (S.left source.old) (S.left source.new) (most_bytes + 1) }
     ensures untouched { result ≡ outcomes.Usage → IsUnread (S.left source.old) (S.left source.new) (S.faults source.old) (S.faults source.new) }
@@ -162,13 +175,9 @@ fn outcome_of<S: Source, K: Sink>(
         Err(ReadStop::Fault) => return Outcome::ReadFault,
         Err(ReadStop::Memory) => return Outcome::Memory,
     };
-    let answer = match answer_to(alloc, &job, &bytes) {
-        Ok(answer) => answer,
-        Err(outcome) => return outcome,
-    };
-    match write_pages(out, answer.pages.as_slice(), &answer.notes, watchers) {
-        Ok(()) => Outcome::Done,
-        Err(Failed) => Outcome::WriteFault,
+    match job.mode {
+        Mode::Check => judged(alloc, &bytes, out),
+        Mode::Anf | Mode::Basis | Mode::Gen => solved(alloc, &job, &bytes, out, watchers),
     }
 }
 
@@ -193,12 +202,12 @@ pub fn run<S: Source, K: Sink, E: Sink>(
 ) -> u8
     requires untold { All (λ s. s.told ≡ []) (states_by told patience watchers.old.items) }
 
-    // Where the source tells its bytes, they are a description that is due to be answered and no fault was counted, out
-    // gained the text of the least polynomials and, in mode basis, of the reduced bases, unless memory ran out.
-    ensures headline { (job : Job) (bytes : List ℕ) (pages : List (List ℕ)) (notes : List Note) → IsAsked words.now job → S.left source.old ≡ Some bytes
-        → IsDue job bytes outcomes.Done → IsAnswer job.mode bytes pages notes
+    // Where the source tells its bytes, an answer is due for them and no fault was counted, out gained its whole text, unless
+    // memory ran out: that of the least polynomials and, in mode basis, of the reduced bases; in mode check the verdict.
+    ensures headline { (job : Job) (bytes : List ℕ) (outcome : Outcome) (pages : List (List ℕ)) (notes : List Note) → IsAsked words.now job → S.left source.old ≡ Some bytes
+        → HasText outcome → IsDue job bytes outcome → IsAnswer job.mode bytes pages notes
         → ¬ Rose (S.faults source.old) (S.faults source.new) → ¬ Rose (K.faults out.old) (K.faults out.new)
-        → (result ≡ 7) ⊎ ((result ≡ 0) × Appends (K.held out.old) (K.held out.new) (concat pages)) }
+        → (result ≡ 7) ⊎ ((result ≡ status_of outcome) × Appends (K.held out.old) (K.held out.new) (concat pages)) }
 
     // Where the source tells its bytes, the status is that of the due outcome, or yields to memory and faults.
     ensures due { (bytes : List ℕ) → S.left source.old ≡ Some bytes
@@ -212,7 +221,7 @@ pub fn run<S: Source, K: Sink, E: Sink>(
     ensures read { result ≡ 8 → Rose (S.faults source.old) (S.faults source.new) }
     ensures write { result ≡ 9 → Rose (K.faults out.old) (K.faults out.new) }
 
-    ensures nothing { result ≢ 0 → result ≢ 9 → Keeps (K.held out.old) (K.held out.new) }
+    ensures nothing { result ≢ 0 → result ≢ 1 → result ≢ 9 → Keeps (K.held out.old) (K.held out.new) }
     ensures nobody { result ≢ 0 → result ≢ 9 → states_by told patience watchers.new.items ≡ states_by told patience watchers.old.items }
     ensures line { (outcome : Outcome) × (result ≡ status_of outcome)
         × GainsUnlessRose (E.held err.old) (E.held err.new) (line_of outcome) (E.faults err.old) (E.faults err.new) }

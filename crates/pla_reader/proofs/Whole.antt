@@ -87,6 +87,7 @@ module _ (bytes rest : List ℕ) (draft : Draft) (count : ℕ) (so_far : ReadSoF
         agrees = rw lines agrees;
         counted = counted_now ∙ sym (ap length (ap (map content) whole) ∙ length-map (so_far.front ++ line ∷ []) content);
         all_taken = omega (arith, taken_is, bytes_now, ap (sum_by length) whole);
+        within = omega (arith, taken_is);
       }
 
   pub stopped : (e : LineRefusal) → Stops e (fault_of (map content so_far.front) (content line)) → Refuses (refused e (count + 1)) (first_fault [] (description_lines bytes))
@@ -107,6 +108,7 @@ whole_read bytes draft count so_far =
       agrees = rw whole so_far.agrees;
       counted = so_far.counted ∙ sym (ap length (ap (map content) whole) ∙ length-map so_far.front content);
       all_taken = omega (arith, so_far.all_bytes, ap (sum_by length) whole);
+      within = omega arith;
     }
 
 pub all_done : (bytes rest : List ℕ) (draft : Draft) (count : ℕ) → rest ≡ [] → ReadSoFar bytes rest draft count → AllRead bytes draft count (length bytes)

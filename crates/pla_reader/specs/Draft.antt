@@ -54,3 +54,4 @@ pub record AllRead (bytes : List ℕ) (draft : Draft) (count taken : ℕ) : Type
   pub agrees : Agrees draft (description_lines bytes)
   pub counted : count ≡ length (description_lines bytes)
   pub all_taken : taken ≡ bytes_taken bytes
+  pub within : taken ≤ length bytes

@@ -11,7 +11,8 @@ mod reading;
 mod refusal;
 mod row;
 
-pub use crate::names::plain_names;
+pub use crate::lines::{split_line, without_last};
+pub use crate::names::{is_plain, plain_names};
 pub use crate::pla::{Pla, Rows};
 pub use crate::reading::read;
 pub use crate::refusal::{ReadRefusal, Refusal, Why};

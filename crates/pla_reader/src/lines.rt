@@ -20,7 +20,7 @@ pub fn is_printable(line: &[u8]) -> bool
         .all(|byte| *byte == b'\t' || (b' ' <= *byte && *byte <= b'~'))
 }
 
-/// The first line, with its line feed, and what follows it.
+/// The first line, with its line feed, and what follows it. The last line may lack its line feed.
 pub fn split_line(bytes: &[u8]) -> (&[u8], &[u8])
     requires { 0 < length bytes.now }
     ensures first { lines_of bytes.now ≡ result.0.now ∷ lines_of result.1.now }
@@ -47,7 +47,7 @@ fn first_feed(bytes: &[u8]) -> usize
 }
 
 /// The bytes, less the last one if it is `last`.
-fn without_last(line: &[u8], last: u8) -> &[u8]
+pub fn without_last(line: &[u8], last: u8) -> &[u8]
     ensures { result.now ≡ without_last last line.now }
 {
     match line {

@@ -27,9 +27,10 @@ fn all_continue(bytes: &[u8]) -> bool
     bytes.iter().all(|b| continues_name(*b))
 }
 
-/// Whether the name is plain.
+/// Whether the name is plain: it has 1 to 32 bytes, begins with an ASCII letter or `_`, and goes on with ASCII letters, digits
+/// and the bytes `_ . [ ] < >`.
 #[tactic(auto, unfolding(crate::specs::PlainNames::is_plain))]
-fn is_plain(name: &[u8]) -> bool
+pub fn is_plain(name: &[u8]) -> bool
     ensures { result ≡ is_plain name.now }
 {
     match name {
@@ -67,10 +68,7 @@ fn all_plain(names: &[Name]) -> bool
     names.iter().all(|name| is_plain(name.as_slice()))
 }
 
-/// Whether there are names, all of them plain and no two of them the same.
-///
-/// A name is plain where it has 1 to 32 bytes, begins with an ASCII letter or `_`, and goes on with ASCII letters, digits and
-/// the bytes `_ . [ ] < >`.
+/// Whether there are names, all of them plain (see `is_plain`) and no two of them the same.
 #[tactic(auto, unfolding(crate::specs::PlainNames::are_plain))]
 pub fn plain_names(names: &Names) -> bool
     ensures { IsTrue result ↔ ArePlain names.now }

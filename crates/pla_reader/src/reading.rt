@@ -1,5 +1,5 @@
 //! Reading a description from bytes.
-ghost use Rattle.std.specs.Prelude.{◌≡◌, ◌<◌, ◌^◌, [], length, IfOk, MatchResult};
+ghost use Rattle.std.specs.Prelude.{◌≡◌, ◌<◌, ◌≤◌, ◌^◌, [], length, IfOk, MatchResult};
 ghost use Rattle.pla_reader.specs.Reading.{description_lines, first_fault, reading_of, bytes_taken, Answers};
 ghost use Rattle.pla_reader.specs.Parts.{Refuses};
 ghost use Rattle.pla_reader.specs.Draft.{AllRead};
@@ -58,6 +58,7 @@ pub fn read(alloc: Global, bytes: &[u8]) -> Result<(Pla, usize), ReadRefusal>
     requires { length bytes.now < 2 ^ 32 }
     ensures reading { Answers result (reading_of bytes.now) }
     ensures taken { IfOk result (λ answer. answer.1 ≡ bytes_taken bytes.now) }
+    ensures within { IfOk result (λ answer. answer.1 ≤ length bytes.now) }
 {
     let Lines {
         draft,

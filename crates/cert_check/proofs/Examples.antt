@@ -1,0 +1,85 @@
+-- Answers for two inputs and one output with the care points 0, of value 0, and 3, of value 1: read and judged by computing.
+use Rattle.std.proofs.Common.{◌≡◌, ℕ, List, [], ◌∷◌, ◌++◌, codes, Ok, Err, refl}
+use Rattle.pla_reader.specs.Lines.{lines_of}
+use Rattle.pla_reader.specs.PlainNames.{is_plain}
+use Rattle.lattice.specs.Family.{divides, has, includes, numbers_below, family_where}
+use Rattle.lattice.specs.Polynomial.{value}
+use Rattle.cert_check.specs.declared.answer.Given.{Given}
+use Rattle.cert_check.specs.declared.answer.GivenOutput.{GivenOutput}
+use Rattle.cert_check.specs.declared.refusal.AnswerWhy.TheVariants.{BadLine, UnknownName, TermOrder, MissingOutput}
+use Rattle.cert_check.specs.declared.refusal.Fault.TheVariants.{Value, NotZero, Leads, Count, Reducible}
+use Rattle.cert_check.specs.declared.refusal.Verdict.{Verdict}
+use Rattle.cert_check.specs.declared.refusal.Verdict.TheVariants.{Yes, No}
+use Rattle.cert_check.specs.Reading.{bare, is_term, is_sum, is_line, terms_of, factors_of, product_of, monomial_of, monomials_of, are_known, ascends_from, are_ordered, left_fault, right_fault, line_fault, with_element, with_line, Reading, read_on}
+use Rattle.cert_check.specs.Faults.{first_failed, misses, is_one_in, greatest_of, meets, is_below_last, has_no_lead, is_out_of_order, is_divided, miscounts, basis_checks, reduced_checks, output_checks}
+
+abbrev line : List ℕ → List ℕ
+line text = text ++ codes "\n"
+
+abbrev reading : List ℕ → Reading
+reading text = read_on (codes "x1" ∷ codes "x2" ∷ []) (codes "f1" ∷ []) 0 [] (lines_of text)
+
+abbrev given : List ℕ → ℕ → Given
+given terms number = record { terms = terms; line = number }
+
+abbrev output : Given → List Given → GivenOutput
+output poly basis = record { poly = poly; basis = basis }
+
+-- ---- what is read
+
+right_text : reading (line (codes "f1 = x2") ++ line (codes "0 = x1 + x2")) ≡ Ok
+    (output (given (1 ∷ []) 1) (given (2 ∷ 1 ∷ []) 2 ∷ []) ∷ [])
+unfolding bare is_term is_sum is_line terms_of factors_of product_of monomial_of monomials_of are_known ascends_from are_ordered left_fault right_fault line_fault with_element with_line read_on is_plain includes
+right_text = refl
+
+-- empty lines are counted, a carriage return is dropped, and the last line feed may be missing
+loose_text : reading (line [] ++ line (codes "f1 = x1*x2 + 1\r") ++ codes "0 = 0") ≡ Ok
+    (output (given (3 ∷ 0 ∷ []) 2) (given [] 3 ∷ []) ∷ [])
+unfolding bare is_term is_sum is_line terms_of factors_of product_of monomial_of monomials_of are_known ascends_from are_ordered left_fault right_fault line_fault with_element with_line read_on is_plain includes
+loose_text = refl
+
+no_lines : reading [] ≡ Err (0, MissingOutput)
+unfolding read_on
+no_lines = refl
+
+wrong_order : reading (line (codes "f1 = x2") ++ line (codes "0 = x2 + x1")) ≡ Err (2, TermOrder)
+unfolding bare is_term is_sum is_line terms_of factors_of product_of monomial_of monomials_of are_known ascends_from are_ordered left_fault right_fault line_fault with_element with_line read_on is_plain includes
+wrong_order = refl
+
+unknown_name : reading (line (codes "f1 = x2*x1*y")) ≡ Err (1, UnknownName)
+unfolding bare is_term is_sum is_line terms_of factors_of product_of monomial_of monomials_of are_known ascends_from are_ordered left_fault right_fault line_fault with_element with_line read_on is_plain includes
+unknown_name = refl
+
+no_space : reading (line (codes "f1= x2")) ≡ Err (1, BadLine)
+unfolding bare is_term is_sum is_line terms_of factors_of product_of monomial_of monomials_of are_known ascends_from are_ordered left_fault right_fault line_fault with_element with_line read_on is_plain includes
+no_space = refl
+
+-- ---- the verdicts
+
+abbrev verdict : GivenOutput → Verdict
+verdict o = first_failed (output_checks 2 (0 ∷ []) (3 ∷ []) (0 ∷ 3 ∷ []) o)
+
+right_answer : verdict (output (given (1 ∷ []) 1) (given (2 ∷ 1 ∷ []) 2 ∷ [])) ≡ Yes
+unfolding first_failed misses is_one_in greatest_of meets is_below_last has_no_lead is_out_of_order is_divided miscounts basis_checks reduced_checks output_checks value divides has family_where numbers_below
+right_answer = refl
+
+-- x1 has every given value, and is not the least polynomial that has
+reducible : verdict (output (given (2 ∷ []) 1) (given (2 ∷ 1 ∷ []) 2 ∷ [])) ≡ No 1 Reducible
+unfolding first_failed misses is_one_in greatest_of meets is_below_last has_no_lead is_out_of_order is_divided miscounts basis_checks reduced_checks output_checks value divides has family_where numbers_below
+reducible = refl
+
+no_basis : verdict (output (given (1 ∷ []) 1) []) ≡ No 1 Count
+unfolding first_failed misses is_one_in greatest_of meets is_below_last has_no_lead is_out_of_order is_divided miscounts basis_checks reduced_checks output_checks value divides has family_where numbers_below
+no_basis = refl
+
+wrong_value : verdict (output (given (0 ∷ []) 1) (given (2 ∷ 1 ∷ []) 2 ∷ [])) ≡ No 1 Value
+unfolding first_failed misses is_one_in greatest_of meets is_below_last has_no_lead is_out_of_order is_divided miscounts basis_checks reduced_checks output_checks value divides has family_where numbers_below
+wrong_value = refl
+
+not_zero : verdict (output (given (1 ∷ []) 1) (given (2 ∷ []) 2 ∷ [])) ≡ No 2 NotZero
+unfolding first_failed misses is_one_in greatest_of meets is_below_last has_no_lead is_out_of_order is_divided miscounts basis_checks reduced_checks output_checks value divides has family_where numbers_below
+not_zero = refl
+
+twice : verdict (output (given (1 ∷ []) 1) (given (2 ∷ 1 ∷ []) 2 ∷ given (2 ∷ 1 ∷ []) 3 ∷ [])) ≡ No 3 Leads
+unfolding first_failed misses is_one_in greatest_of meets is_below_last has_no_lead is_out_of_order is_divided miscounts basis_checks reduced_checks output_checks value divides has family_where numbers_below
+twice = refl

@@ -1,0 +1,159 @@
+-- Tables of all points, by halves: the points without the greatest variable, and those with it.
+use Rattle.std.proofs.Common.{◌≡◌, ◌≢◌, ℕ, zero, suc, ◌+◌, ◌-◌, ◌^◌, ◌<◌, ◌≤◌, Bool, ◌==◌, List, [], ◌∷◌, ◌++◌, length, get_or, filter, refl, sym, ap, ap₂, ◌∙◌, subst, ⊎_elim, arith, length-append}
+use Rattle.std.specs.List.{All, count_by}
+use Rattle.std.proofs.lemmas.Bool.{cases_lt}
+use Rattle.std.proofs.lemmas.Grind.{pow_more}
+use Rattle.std.proofs.lemmas.List.{get_or_append_left, get_or-append-add}
+use Rattle.std.proofs.lemmas.List.Elements.{All-head}
+use Rattle.std.proofs.lemmas.List.Sums.{count_by-le-length, length-filter}
+use Rattle.std.proofs.Math.Nat.{pow-le-pow_right}
+use Rattle.lattice.specs.Family.{Family, divides, has, IsFamily, numbers_below, family_where}
+use Rattle.lattice.specs.Cofactors.{join}
+use Rattle.lattice.proofs.Comprehension.{has-family_where_below, IsFamily-family_where, same_below}
+use Rattle.lattice.proofs.Cofactors.{has-join_low, has-join_high, IsFamily-join}
+use Rattle.lattice.proofs.Values.{count, count_join_low, count_join_high}
+use Rattle.cert_check.specs.Marks.{marked, CountsDivisors}
+
+pub length-numbers_below : (n : ℕ) → length (numbers_below n) ≡ n
+unfolding numbers_below
+length-numbers_below zero = refl
+length-numbers_below (suc n) = let before = length-numbers_below n in omega
+    (arith, length-append (numbers_below n) (n ∷ []))
+
+pub marked_family : (n : ℕ) (table : List ℕ) → IsFamily n (marked n table)
+unfolding marked
+marked_family n table = IsFamily-family_where n (λ m. get_or table m 0 == 1)
+
+has-marked : (n : ℕ) (table : List ℕ) (x : ℕ) → x < 2 ^ n → has (marked n table) x ≡ (get_or table x 0 == 1)
+unfolding marked
+has-marked n table x below = has-family_where_below n (λ m. get_or table m 0 == 1) x below
+
+-- no more monomials divide a point than there are
+counts_few : (n : ℕ) (test : ℕ → Bool) (a : ℕ) → count_by (λ m. divides m a) (family_where n test) ≤ 2 ^ n
+unfolding family_where
+counts_few n test a =
+    let one = count_by-le-length (λ m. divides m a) (filter test (numbers_below (2 ^ n))) in
+    let two = length-filter test (numbers_below (2 ^ n)) in
+    let three = count_by-le-length test (numbers_below (2 ^ n)) in
+    let four = length-numbers_below (2 ^ n) in
+    omega (arith, one, two, three, four)
+
+marked_few : (n : ℕ) (table : List ℕ) (a : ℕ) → count_by (λ m. divides m a) (marked n table) ≤ 2 ^ n
+unfolding marked
+marked_few n table a = counts_few n (λ m. get_or table m 0 == 1) a
+
+count_is : (p : Family) (a : ℕ) → count p a ≡ count_by (λ m. divides m a) p
+unfolding count
+count_is p a = refl
+
+-- one point
+unmarked_alone : (a : ℕ) → a < 1 → get_or (0 ∷ []) a 0 ≡ count_by (λ m. divides m a) (marked 0 (0 ∷ []))
+unfolding marked family_where numbers_below divides
+unmarked_alone zero below = refl
+unmarked_alone (suc a) below = absurd (omega (arith, below))
+
+marked_alone : (a : ℕ) → a < 1 → get_or (1 ∷ []) a 0 ≡ count_by (λ m. divides m a) (marked 0 (1 ∷ []))
+unfolding marked family_where numbers_below divides
+marked_alone zero below = refl
+marked_alone (suc a) below = absurd (omega (arith, below))
+
+counts_alone : (table : List ℕ) → length table ≡ 1 → All (λ mark. mark ≤ 1) table → CountsDivisors 0 (marked 0 table)
+    table
+counts_alone [] size marks = absurd (omega (arith, size))
+counts_alone (x ∷ y ∷ table) size marks = absurd (omega (arith, size))
+counts_alone (zero ∷ []) size marks = record { size = refl; each = unmarked_alone }
+counts_alone (suc zero ∷ []) size marks = record { size = refl; each = marked_alone }
+counts_alone (suc (suc x) ∷ []) size marks = let few = All-head (λ mark. mark ≤ 1) (suc (suc x)) [] marks in absurd
+    (omega (arith, few))
+
+pub counts_one : (n : ℕ) (table : List ℕ) → n ≡ 0 → length table ≡ 2 ^ n → All (λ mark. mark ≤ 1) table →
+    CountsDivisors n (marked n table) table
+counts_one n table none size marks = subst (λ (k : ℕ). CountsDivisors k (marked k table) table) (sym none)
+    (counts_alone table (size ∙ ap (λ (k : ℕ). 2 ^ k) none) marks)
+
+module _ (d : ℕ) (lo hi : List ℕ) (size : length lo ≡ 2 ^ d) where
+  marked_low : (x : ℕ) → x < 2 ^ d → has (marked (d + 1) (lo ++ hi)) x ≡ has (join d (marked d lo) (marked d hi)) x
+  marked_low x below =
+      let double = pow_more 2 d in
+      has-marked (d + 1) (lo ++ hi) x (omega arith)
+      ∙ (ap (λ (v : ℕ). v == 1) (get_or_append_left lo hi 0 x (omega arith)) ∙
+      (sym (has-marked d lo x below) ∙ sym (has-join_low d (marked d lo) (marked d hi) x below)))
+
+  marked_high : (x : ℕ) → x < 2 ^ d → has (marked (d + 1) (lo ++ hi)) (2 ^ d + x) ≡ has
+      (join d (marked d lo) (marked d hi)) (2 ^ d + x)
+  marked_high x below =
+      let double = pow_more 2 d in
+      has-marked (d + 1) (lo ++ hi) (2 ^ d + x) (omega arith)
+      ∙ (ap (λ (v : ℕ). v == 1) (ap (λ (k : ℕ). get_or (lo ++ hi) (k + x) 0) (sym size) ∙ get_or-append-add lo hi x 0)
+      ∙ (sym (has-marked d hi x below) ∙ sym (has-join_high d (marked d lo) (marked d hi) x
+      (marked_family d lo))))
+
+  marked_halves : marked (d + 1) (lo ++ hi) ≡ join d (marked d lo) (marked d hi)
+  marked_halves = same_below (d + 1) (marked (d + 1) (lo ++ hi)) (join d (marked d lo) (marked d hi))
+      (marked_family (d + 1) (lo ++ hi)) (IsFamily-join d (marked d lo) (marked d hi) (marked_family d lo)
+      (marked_family d hi))
+      (λ x below. ⊎_elim (λ less. marked_low x less)
+      (λ most. let double = pow_more 2 d in let e : 2 ^ d + (x - 2 ^ d) ≡ x = omega arith in subst
+      (λ (y : ℕ). has (marked (d + 1) (lo ++ hi)) y ≡ has (join d (marked d lo) (marked d hi)) y) e
+      (marked_high (x - 2 ^ d) (omega arith)))
+      (cases_lt x (2 ^ d)))
+
+  pub counts_halves : (low high sums : List ℕ) → CountsDivisors d (marked d lo) low → CountsDivisors d (marked d hi)
+      high → length sums ≡ length high → ((k : ℕ) → k < length low → get_or sums k 0 ≡ get_or high k 0 + get_or low k
+      0)
+      → CountsDivisors (d + 1) (marked (d + 1) (lo ++ hi)) (low ++ sums)
+  counts_halves low high sums of_low of_high same each = record {
+    size = let double = pow_more 2 d in omega (arith, length-append low sums, of_low.size, of_high.size);
+    each = λ a below. ⊎_elim
+        (λ less. get_or_append_left low sums 0 a (omega (arith, of_low.size)) ∙
+        (of_low.each a less ∙ sym (ap (count_by (λ m. divides m a)) marked_halves
+        ∙ (sym (count_is (join d (marked d lo) (marked d hi)) a) ∙
+        (count_join_low d (marked d lo) (marked d hi) a (marked_family d lo) (marked_family d hi) less ∙ count_is
+        (marked d lo) a)))))
+        (λ most. let double = pow_more 2 d in let e : 2 ^ d + (a - 2 ^ d) ≡ a = omega arith in
+        subst (λ (y : ℕ). get_or (low ++ sums) y 0 ≡ count_by (λ m. divides m y) (marked (d + 1) (lo ++ hi))) e
+        (at_high (a - 2 ^ d) (omega arith)))
+        (cases_lt a (2 ^ d));
+  }
+    where
+      at_high : (x : ℕ) → x < 2 ^ d → get_or (low ++ sums) (2 ^ d + x) 0 ≡ count_by (λ m. divides m (2 ^ d + x))
+          (marked (d + 1) (lo ++ hi))
+      at_high x below =
+          let l = of_low.each x below in
+          let h = of_high.each x below in
+          let s = each x (omega (arith, of_low.size)) in
+          let whole = sym (count_is (join d (marked d lo) (marked d hi)) (2 ^ d + x)) ∙
+          (count_join_high d (marked d lo) (marked d hi) x (marked_family d lo) (marked_family d hi) below ∙ ap₂
+          (λ (i j : ℕ). i + j) (count_is (marked d lo) x) (count_is (marked d hi) x)) in
+          let here : get_or (low ++ sums) (2 ^ d + x) 0 ≡ get_or sums x 0 = ap
+          (λ (k : ℕ). get_or (low ++ sums) (k + x) 0) (sym of_low.size) ∙ get_or-append-add low sums x 0 in
+          let halves = ap (count_by (λ m. divides m (2 ^ d + x))) marked_halves in
+          omega (arith, l, h, s, whole, here, halves)
+
+-- the sums of two counts are small
+pub sums_fit : (d : ℕ) (lo hi low high : List ℕ) (k : ℕ) → d ≤ 13 → CountsDivisors d (marked d lo) low →
+    CountsDivisors d (marked d hi) high → k < length low → get_or high k 0 + get_or low k 0 < 65536
+sums_fit d lo hi low high k small of_low of_high below =
+    let at : k < 2 ^ d = omega (arith, of_low.size) in
+    let l = of_low.each k at in
+    let h = of_high.each k at in
+    let few_low = marked_few d lo k in
+    let few_high = marked_few d hi k in
+    let most : 2 ^ d ≤ 2 ^ 13 = pow-le-pow_right (omega arith) small in
+    omega (arith, l, h, few_low, few_high, most)
+
+-- a table over one variable more, by its halves
+pub counts_whole : (n : ℕ) (table lo hi low high sums : List ℕ) → n ≢ 0 → table ≡ lo ++ hi → length lo ≡ 2 ^ (n - 1) →
+    CountsDivisors (n - 1) (marked (n - 1) lo) low → CountsDivisors (n - 1) (marked (n - 1) hi) high → length sums ≡
+    length high
+    → ((k : ℕ) → k < length low → get_or sums k 0 ≡ get_or high k 0 + get_or low k 0) → CountsDivisors n
+    (marked n table) (low ++ sums)
+counts_whole n table lo hi low high sums some cut size of_low of_high same each =
+    let e : n - 1 + 1 ≡ n = omega arith in
+    subst (λ (t : List ℕ). CountsDivisors n (marked n t) (low ++ sums)) (sym cut)
+    (subst (λ (k : ℕ). CountsDivisors k (marked k (lo ++ hi)) (low ++ sums)) e
+    (counts_halves (n - 1) lo hi size low high sums of_low of_high same each))
+
+pub half_of : (n size : ℕ) → n ≢ 0 → size ≡ 2 ^ n → size ≡ 2 ^ (n - 1) + 2 ^ (n - 1)
+half_of n size some is = let e : n ≡ n - 1 + 1 = omega arith in let double = pow_more 2 (n - 1) in omega
+    (arith, is, ap (λ (k : ℕ). 2 ^ k) e, double)

@@ -1,0 +1,5 @@
+pub mod Reading
+pub mod Right
+pub mod Faults
+pub mod Marks
+pub mod Parts

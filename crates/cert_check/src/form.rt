@@ -1,0 +1,88 @@
+//! The form of a line: its two sides, and the terms on the right.
+ghost use Rattle.std.specs.Prelude.{◌≡◌, ◌∷◌, true, false, codes, MatchOption};
+ghost use Rattle.std.specs.List.{list_all};
+ghost use Rattle.std.specs.Str.{bytes_eq};
+ghost use Rattle.pla_reader.specs.PlainNames.{is_plain};
+ghost use Rattle.cert_check.specs.Reading.{parts, words, is_term, is_sum, is_right, is_element, is_left, is_line};
+
+use crate::lines::split_word;
+use pla_reader::is_plain;
+
+/// Whether the word is the text.
+pub(crate) fn is_word(word: &[u8], text: &str) -> bool
+    ensures { result ≡ bytes_eq word.now text.now }
+{
+    word == text.as_bytes()
+}
+
+/// Whether the names that are joined by `*` are plain.
+fn are_plain(factors: &[u8]) -> bool
+    ensures { result ≡ list_all is_plain (parts 42 factors.now) }
+{
+    factors
+        .split(|byte| *byte == b'*')
+        .all(|name| is_plain(name))
+}
+
+/// Whether the word is a term: `1`, or plain names joined by `*`.
+#[tactic(auto, unfolding(crate::specs::Reading::is_term))]
+pub(crate) fn is_term(word: &[u8]) -> bool
+    ensures { result ≡ is_term word.now }
+{
+    is_word(word, "1") || are_plain(word)
+}
+
+/// Whether the right side of a line is terms joined by ` + `.
+fn is_sum(right: &[u8]) -> bool
+    ensures { result ≡ is_sum (words right.now) }
+{
+    let mut term_next = true;
+    for word in right.split(|byte| *byte == b' ') {
+        let fits = if term_next {
+            is_term(word)
+        } else {
+            is_word(word, "+")
+        };
+        if !fits {
+            return false;
+        }
+        term_next = !term_next;
+    }
+    !term_next
+}
+
+/// Whether the right side of a line is `0`, or terms joined by ` + `.
+fn is_right(right: &[u8]) -> bool
+    ensures { result ≡ is_right (words right.now) }
+{
+    is_word(right, "0") || is_sum(right)
+}
+
+/// Whether the left side of a line is that of a basis element.
+pub(crate) fn is_element(left: &[u8]) -> bool
+    ensures { result ≡ is_element left.now }
+{
+    is_word(left, "0")
+}
+
+/// Whether the left side of a line is `0` or a plain name.
+fn is_left(left: &[u8]) -> bool
+    ensures { result ≡ is_left left.now }
+{
+    is_element(left) || is_plain(left)
+}
+
+/// The left and the right side of a line; None where it is not of the form.
+#[tactic(auto, unfolding(crate::specs::Reading::is_line))]
+pub(crate) fn sides(line: &[u8]) -> Option<(&[u8], &[u8])>
+    ensures { MatchOption result (is_line (words line.now) ≡ false)
+        (λ r. (is_line (words line.now) ≡ true) × (words line.now ≡ r.0.now ∷ codes "=" ∷ words r.1.now)) }
+{
+    let (left, rest) = split_word(line)?;
+    let (equals, right) = split_word(rest)?;
+    if is_left(left) && is_word(equals, "=") && is_right(right) {
+        Some((left, right))
+    } else {
+        None
+    }
+}

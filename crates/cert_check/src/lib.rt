@@ -1,0 +1,20 @@
+//! Answers read back, and judged by evaluation and counting.
+#![tactic(auto)]
+
+mod answer;
+mod care;
+mod checking;
+mod counts;
+mod form;
+mod lines;
+mod reading;
+mod refusal;
+mod terms;
+
+pub use crate::answer::{Answer, Given, GivenOutput};
+pub use crate::checking::{MOST_INPUTS, check};
+pub use crate::reading::read_answer;
+pub use crate::refusal::{AnswerRefusal, AnswerWhy, CheckRefusal, Fault, Verdict};
+
+#[cfg(test)]
+mod tests;

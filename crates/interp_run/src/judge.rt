@@ -1,0 +1,98 @@
+//! Mode check: an answer that stands after its description is judged.
+ghost use Rattle.std.specs.Prelude.{◌≡◌, drop, IfErr, IfOk};
+ghost use Rattle.cli_words.specs.declared.job.Job.{Job};
+ghost use Rattle.lattice.specs.declared.kind.Mode.TheVariants.{Check};
+ghost use Rattle.interp_run.specs.Due.{EndsWithout, HasVerdict, fault_name, judged_outcome, refused_outcome, verdict_text};
+
+use crate::Outcome;
+use crate::describe::{contradiction_of, description_of};
+use arrayvec::ArrayString;
+use cert_check::{AnswerRefusal, CheckRefusal, Fault, MOST_INPUTS, Verdict, check, read_answer};
+use itoa::Buffer;
+use std::alloc::Global;
+
+// `no`, a line of 10 digits, a name of 9 letters, with what joins and ends them.
+const LONGEST_VERDICT: usize = 24;
+
+// How a run ends whose answer is refused.
+fn refused(refusal: AnswerRefusal) -> Outcome
+    ensures { result ≡ refused_outcome refusal }
+{
+    match refusal {
+        AnswerRefusal::Bad { line, why } => Outcome::AnswerText { line, why },
+        AnswerRefusal::Memory => Outcome::Memory,
+    }
+}
+
+// The bytes behind the first ones, of which there may be fewer.
+fn behind(bytes: &[u8], taken: usize) -> &[u8]
+    ensures { result.now ≡ drop taken bytes.now }
+{
+    bytes.get(taken..).unwrap_or(&[])
+}
+
+/// The verdict on the answer that stands after the description, or how the run ends without it.
+pub(crate) fn verdict_of(alloc: Global, bytes: &[u8]) -> Result<Verdict, Outcome>
+    ensures ok { IfOk result (HasVerdict bytes.now) }
+    ensures err { IfErr result (λ o. (job : Job) → job.mode ≡ Check → EndsWithout job bytes.now o) }
+{
+    let (pla, taken) = description_of(alloc, bytes)?;
+    if pla.inputs > MOST_INPUTS {
+        return Err(Outcome::TooWide);
+    }
+    let answer = match read_answer(alloc, &pla, behind(bytes, taken)) {
+        Ok(answer) => answer,
+        Err(refusal) => return Err(refused(refusal)),
+    };
+    if let Some(outcome) = contradiction_of(&pla) {
+        return Err(outcome);
+    }
+    match check(alloc, &pla, &answer) {
+        Ok(verdict) => Ok(verdict),
+        Err(CheckRefusal::TooWide) => unreachable!(),
+        Err(CheckRefusal::Memory) => Err(Outcome::Memory),
+    }
+}
+
+// The name of a fault.
+fn name_of(why: Fault) -> &'static str
+    ensures { result.now ≡ fault_name why }
+{
+    match why {
+        Fault::Value => "Value",
+        Fault::NotZero => "NotZero",
+        Fault::Leads => "Leads",
+        Fault::Count => "Count",
+        Fault::Reducible => "Reducible",
+        Fault::Order => "Order",
+    }
+}
+
+/// What is written for a verdict, which takes no memory.
+pub(crate) fn text_of(verdict: Verdict) -> ArrayString<LONGEST_VERDICT>
+    ensures { result.bytes ≡ verdict_text verdict }
+{
+    let mut text = ArrayString::new();
+    match verdict {
+        Verdict::Yes => text.push_str("yes\n"),
+        Verdict::No { line, why } => {
+            let mut digits = Buffer::new();
+            text.push_str("no ");
+            text.push_str(digits.format(line));
+            text.push_str(" ");
+            text.push_str(name_of(why));
+            text.push_str("\n");
+        }
+    }
+    text
+}
+
+/// How a run ends whose verdict was written.
+pub(crate) fn outcome_after(verdict: Verdict) -> Outcome
+    ensures { result ≡ judged_outcome verdict }
+{
+    match verdict {
+        Verdict::Yes => Outcome::Done,
+        Verdict::No { line, why } => Outcome::No { line, why },
+    }
+}

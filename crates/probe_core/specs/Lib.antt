@@ -1,0 +1,5 @@
+pub mod States
+pub mod Seats
+pub mod Events
+pub mod Soundness
+pub mod TableLaws

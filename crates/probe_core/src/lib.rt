@@ -1,0 +1,15 @@
+//! The shared table of nodes as a pure machine: seats load and exchange its words, split and join, one event at a time.
+#![tactic(auto)]
+
+mod event;
+pub mod laws;
+mod machine;
+mod path;
+mod seat;
+
+pub use crate::event::{Event, Seen};
+pub use crate::machine::{Core, run};
+pub use crate::path::probe_place;
+
+#[cfg(test)]
+mod tests;

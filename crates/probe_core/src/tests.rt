@@ -1,0 +1,164 @@
+ghost use Rattle.std.specs.Prelude.{◌≡◌, IfOk};
+ghost use Rattle.probe_core.specs.Events.{start, MayTake, MayTakeAll, after, after_all};
+
+use crate::{Core, Event, Seen, run};
+use lattice::Memory;
+use std::alloc::Global;
+use std::process::Abort;
+use std::test::Fail;
+
+// The word of the node of variable 3 over {0} twice, whose path begins at place 1.
+const FIRST: u64 = 3298535931905;
+
+// The words of three nodes with the places that they take: the path of the last one leads over those of the other two.
+const NODES: [(u32, u64); 3] = [(1, FIRST), (0, 2199024304131), (2, 2199026401281)];
+
+// Takes an event that may be taken.
+fn take(rt: &impl Abort, core: &mut Core, e: &Event) -> Result<Seen, Memory>
+    ensures may { MayTake core.old e.now }
+    ensures after { IfOk result (λ _. core.new ≡ after core.old e.now) }
+{
+    assert!(rt; core.may(e));
+    core.step(e)
+}
+
+// Takes events that may be taken at their turns, over 16 places and 3 variables.
+fn take_all(rt: &impl Abort, alloc: Global, events: &[Event]) -> Result<Core, Memory>
+    ensures may { IfOk result (λ _. MayTakeAll (start 4 3) events.now) }
+    ensures after { IfOk result (λ c. c ≡ after_all (start 4 3) events.now) }
+{
+    let mut core = Core::make(alloc, 4, 3)?;
+    for e in events {
+        take(rt, &mut core, e)?;
+    }
+    Ok(core)
+}
+
+// Three seats exchange the same nodes twice over, each after all have looked at its place. Then two join the first.
+fn three_seats(alloc: Global) -> Result<Vec<Event>, Fail> {
+    let mut events = Vec::new(alloc);
+    events.push(Event::Split { seat: 0 })?;
+    events.push(Event::Split { seat: 1 })?;
+    for _ in 0..2 {
+        for (place, word) in NODES {
+            for seat in 0..3 {
+                events.push(Event::Load { seat, place })?;
+            }
+            for seat in 0..3 {
+                events.push(Event::Exchange { seat, place, word })?;
+            }
+        }
+    }
+    events.push(Event::Join { seat: 0, other: 1 })?;
+    events.push(Event::Join { seat: 0, other: 2 })?;
+    Ok(events)
+}
+
+// Of two seats that saw a vacant place and exchange one word there, the first has won, and the other one sees its word.
+#[test]
+fn one_exchange_wins(rt: HostRuntime) -> Result<(), Fail> {
+    let events = [
+        Event::Split { seat: 0 },
+        Event::Load { seat: 0, place: 1 },
+        Event::Load { seat: 1, place: 1 },
+        Event::Exchange {
+            seat: 0,
+            place: 1,
+            word: FIRST,
+        },
+        Event::Exchange {
+            seat: 1,
+            place: 1,
+            word: FIRST,
+        },
+    ];
+    let words = [0, 0, 0, FIRST, FIRST];
+    let mut core = Core::make(rt.alloc(), 4, 3)?;
+    for (k, e) in events.iter().enumerate() {
+        let seen = take(&rt, &mut core, e)?;
+        assert_eq!(rt; Some(&seen.word), words.get(k), "event {k}");
+        assert_eq!(rt; seen.won, k == 3, "event {k}");
+    }
+    let at_once = take_all(&rt, rt.alloc(), &events)?;
+    let by_run = run(rt.alloc(), 4, 3, &events)?;
+    assert_eq!(rt; at_once.words(), core.words());
+    assert_eq!(rt; by_run.words(), core.words());
+    Ok(())
+}
+
+// Whoever exchanges the same three nodes, three slots are filled.
+#[test]
+fn three_slots_for_three_nodes(rt: HostRuntime) -> Result<(), Fail> {
+    let events = three_seats(rt.alloc())?;
+    assert_eq!(rt; events.len(), 40);
+    let core = take_all(&rt, rt.alloc(), events.as_slice())?;
+    assert_eq!(rt; core.words().iter().filter(|w| **w != 0).count(), 3);
+    for (place, word) in NODES {
+        assert_eq!(rt; core.words().get(place as usize), Some(&word));
+    }
+    let by_run = run(rt.alloc(), 4, 3, events.as_slice())?;
+    assert_eq!(rt; by_run.words(), core.words());
+    Ok(())
+}
+
+// Events that may not be taken after those of `three_seats`, each for one cause, and two that may.
+#[test]
+fn refused_events(rt: HostRuntime) -> Result<(), Fail> {
+    let fresh = Core::make(rt.alloc(), 4, 3)?;
+    assert!(rt; fresh.may(&first_at(1)));
+    assert!(rt; !fresh.may(&first_at(2)), "not the next place of the path");
+    let events = three_seats(rt.alloc())?;
+    let core = take_all(&rt, rt.alloc(), events.as_slice())?;
+    assert!(rt; core.may(&Event::Load { seat: 0, place: 15 }));
+    let refused = [
+        ("an ended seat", Event::Load { seat: 1, place: 0 }),
+        ("no such seat", Event::Load { seat: 3, place: 0 }),
+        ("no such place", Event::Load { seat: 0, place: 16 }),
+        ("an ended seat splits", Event::Split { seat: 2 }),
+        ("an ended seat joins", Event::Join { seat: 0, other: 2 }),
+        ("a seat joins itself", Event::Join { seat: 0, other: 0 }),
+    ];
+    for (why, e) in refused {
+        assert!(rt; !core.may(&e), "{why}");
+    }
+    Ok(())
+}
+
+// Words that the first seat may not exchange at the places given, each for one cause, and one that it may.
+#[test]
+fn refused_words(rt: HostRuntime) -> Result<(), Fail> {
+    let events = three_seats(rt.alloc())?;
+    let core = take_all(&rt, rt.alloc(), events.as_slice())?;
+    let words = [
+        (
+            "variable 1 over the handles 2 and 3",
+            5,
+            1099513724931,
+            true,
+        ),
+        ("its own word was met before", 3, 2199026401281, false),
+        ("a child is not known", 2, 1099518967809, false),
+        ("a child has the same variable", 10, 2199025352707, false),
+        ("no high child", 1, 1099514773504, false),
+        ("no variable", 3, 1048577, false),
+        ("a variable too many", 6, 4398047559681, false),
+    ];
+    for (why, place, word, may) in words {
+        let e = Event::Exchange {
+            seat: 0,
+            place,
+            word,
+        };
+        assert_eq!(rt; core.may(&e), may, "{why}");
+    }
+    Ok(())
+}
+
+// The first seat exchanges FIRST at a place.
+fn first_at(place: u32) -> Event {
+    Event::Exchange {
+        seat: 0,
+        place,
+        word: FIRST,
+    }
+}
