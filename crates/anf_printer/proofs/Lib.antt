@@ -1,3 +1,4 @@
-pub mod Variables
-pub mod Texts
-pub mod PrintedNames
+mod Variables
+mod Texts
+mod PrintedNames
+pub mod PrintedLists

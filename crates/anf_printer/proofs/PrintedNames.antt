@@ -1,17 +1,13 @@
 -- How many names are printed.
-use Rattle.std.proofs.Common.{◌≡◌, ◌≢◌, ℕ, zero, suc, ◌+◌, ◌++◌, true, false, List, [], ◌∷◌, length, refl, ap, ◌∙◌, ⊎_elim, arith}
+use Rattle.std.proofs.Common.{◌≡◌, ◌≢◌, ℕ, ◌+◌, ◌++◌, true, false, List, [], ◌∷◌, length, ap, ◌∙◌, ⊎_elim}
 use Rattle.std.proofs.lemmas.Bool.{cases_Bool, false≢true}
-use Rattle.std.proofs.lemmas.List.{length-map, length-append}
+use Rattle.std.proofs.lemmas.List.{length-map}
 use Rattle.std.specs.Prelude.{decimal}
 use Rattle.lattice.specs.Family.{numbers_below}
 use Rattle.pla_reader.specs.PlainNames.{are_plain}
 use Rattle.pla_reader.specs.Description.{CountsNames}
 use Rattle.anf_printer.specs.Text.{numbered, printed_names}
-
-length-numbers_below : (n : ℕ) → length (numbers_below n) ≡ n
-unfolding numbers_below
-length-numbers_below zero = refl
-length-numbers_below (suc n) = let before = length-numbers_below n in omega (arith, length-append (numbers_below n) (n ∷ []))
+use Rattle.lattice.proofs.Polynomials.{length-numbers_below}
 
 length-numbered : (letter : List ℕ) (count : ℕ) → length (numbered letter count) ≡ count
 unfolding numbered
@@ -22,13 +18,14 @@ unfolding are_plain
 some_from_plain [] plain is = false≢true plain
 some_from_plain (name ∷ names) plain is = cc
 
-length-printed_names : (letter : List ℕ) (count : ℕ) (given : List (List ℕ)) → CountsNames count given → length (printed_names letter count given) ≡ count
+length-printed_names : (letter : List ℕ) (count : ℕ) (given : List (List ℕ)) → CountsNames count given
+    → length (printed_names letter count given) ≡ count
 unfolding printed_names
 length-printed_names letter count given counts = ⊎_elim
     (λ (plain : are_plain given ≡ true). rw plain (counts (some_from_plain given plain)))
-    (λ (other : are_plain given ≡ false). rw other (length-numbered letter count))
-    (cases_Bool (are_plain given))
+    (λ (other : are_plain given ≡ false). rw other (length-numbered letter count)) (cases_Bool (are_plain given))
 
 -- the names at hand are those that are printed
-pub count_printed : (letter : List ℕ) (count : ℕ) (given names chosen : List (List ℕ)) → CountsNames count given → names ≡ chosen → chosen ≡ printed_names letter count given → length names ≡ count
+pub count_printed : (letter : List ℕ) (count : ℕ) (given names chosen : List (List ℕ)) → CountsNames count given → names ≡ chosen
+    → chosen ≡ printed_names letter count given → length names ≡ count
 count_printed letter count given names chosen counts is printed = ap length (is ∙ printed) ∙ length-printed_names letter count given counts

@@ -1,5 +1,6 @@
 -- The parts of the answer's text, as the code puts them together.
-use Rattle.std.proofs.Common.{◌≡◌, ◌≢◌, ℕ, zero, suc, ◌+◌, ◌-◌, ◌^◌, ◌<◌, ◌≤◌, List, [], ◌∷◌, ◌++◌, length, get_or, take, drop, map, reverse, codes, refl, sym, ap, ◌∙◌, subst, arith, add-one, ne_eqb}
+use Rattle.std.proofs.Common.{◌≡◌, ◌≢◌, ℕ, zero, suc, ◌+◌, ◌-◌, ◌^◌, ◌<◌, ◌≤◌, List, [], ◌∷◌, ◌++◌, length, get_or, take, drop, map}
+use Rattle.std.proofs.Common.{reverse, codes, refl, sym, ap, ◌∙◌, subst, arith, add-one, ne_eqb}
 use Rattle.std.specs.Prelude.{decimal}
 use Rattle.std.specs.List.{All, flat_map}
 use Rattle.std.proofs.lemmas.List.{take_all, length-map, get_or-map, map-append, reverse-reverse, length-reverse, get_or-reverse}
@@ -7,7 +8,8 @@ use Rattle.std.proofs.lemmas.List.Elements.{All-take, All-drop}
 use Rattle.lattice.specs.Family.{numbers_below, IsFamily}
 use Rattle.lattice.specs.declared.kind.Mode.{Mode}
 use Rattle.anf_printer.specs.declared.answer.Shown.{Shown}
-use Rattle.anf_printer.specs.Text.{Answer, answer_of, output_text, texts_of, numbered, variables_of, monomial_text, sum_text, polynomial_text}
+use Rattle.anf_printer.specs.Text.{Answer, answer_of, output_text, texts_of, numbered, variables_of, monomial_text, sum_text}
+use Rattle.anf_printer.specs.Text.{polynomial_text}
 
 pub numbered_none : (letter : List ℕ) → numbered letter 0 ≡ []
 unfolding numbered numbers_below
@@ -23,7 +25,9 @@ pub monomial_text_one : (names : List (List ℕ)) → monomial_text names 0 ≡ 
 unfolding monomial_text
 monomial_text_one names = refl
 
-pub monomial_text_first : (names : List (List ℕ)) (m rest : ℕ) (name : List ℕ) → m ≢ 0 → variables_of names m ≡ name ∷ variables_of names rest → monomial_text names m ≡ name ++ flat_map (λ n. codes "*" ++ n) (variables_of names rest)
+pub monomial_text_first : (names : List (List ℕ)) (m rest : ℕ) (name : List ℕ) → m ≢ 0
+    → variables_of names m ≡ name ∷ variables_of names rest
+    → monomial_text names m ≡ name ++ flat_map (λ n. codes "*" ++ n) (variables_of names rest)
 unfolding monomial_text
 monomial_text_first names m rest name some first = rw (ne_eqb m 0 some, first) refl
 
@@ -33,7 +37,9 @@ polynomial_text_none names [] few = refl
 polynomial_text_none names (m ∷ terms) few = absurd (omega arith)
 
 -- the first term, and the others as a pattern cuts them off
-pub polynomial_text_some : (names : List (List ℕ)) (terms : List ℕ) (m : ℕ) → 1 ≤ length terms → m ≡ get_or terms 0 m → polynomial_text names (reverse terms) ≡ monomial_text names m ++ flat_map (λ m. codes " + " ++ monomial_text names m) (take (length terms - 1) (drop 1 terms))
+pub polynomial_text_some : (names : List (List ℕ)) (terms : List ℕ) (m : ℕ) → 1 ≤ length terms → m ≡ get_or terms 0 m
+    → polynomial_text names (reverse terms) ≡ monomial_text names m ++ flat_map (λ m. codes " + " ++ monomial_text names m)
+    (take (length terms - 1) (drop 1 terms))
 unfolding sum_text
 polynomial_text_some names [] first some is = absurd (omega arith)
 polynomial_text_some names (m ∷ terms) first some is =
@@ -43,34 +49,45 @@ polynomial_text_some names (m ∷ terms) first some is =
 All-from_reverse : {X : Type 0} (P : X → Type 0) (xs : List X) → All P (reverse xs) → All P xs
 All-from_reverse P xs all k d less =
     let back : length xs - 1 - (length xs - 1 - k) ≡ k = omega arith in
-    let here : get_or (reverse xs) (length xs - 1 - k) d ≡ get_or xs k d = get_or-reverse xs (length xs - 1 - k) d (omega arith) ∙ ap (λ i. get_or xs i d) back in
+    let here : get_or (reverse xs) (length xs - 1 - k) d ≡ get_or xs k d = get_or-reverse xs (length xs - 1 - k) d (omega arith)
+    ∙ ap (λ i. get_or xs i d) back in
     subst P here (all (length xs - 1 - k) d (rw length-reverse (omega arith)))
 
 pub terms_below : (n : ℕ) (terms : List ℕ) → IsFamily n (reverse terms) → All (λ m. m < 2 ^ n) terms
 terms_below n terms family = All-from_reverse (λ m. m < 2 ^ n) terms family.below
 
 pub others_below : (n : ℕ) (terms : List ℕ) → IsFamily n (reverse terms) → All (λ m. m < 2 ^ n) (take (length terms - 1) (drop 1 terms))
-others_below n terms family = All-take (λ m. m < 2 ^ n) (length terms - 1) (drop 1 terms) (All-drop (λ m. m < 2 ^ n) 1 terms (terms_below n terms family))
+others_below n terms family = All-take (λ m. m < 2 ^ n) (length terms - 1) (drop 1 terms)
+    (All-drop (λ m. m < 2 ^ n) 1 terms (terms_below n terms family))
 
-pub element_is_family : (n : ℕ) (elements : List (List ℕ)) (i : ℕ) (e : List ℕ) → All (IsFamily n) (map reverse elements) → i < length elements → e ≡ get_or elements i e → IsFamily n (reverse e)
+pub element_is_family : (n : ℕ) (elements : List (List ℕ)) (i : ℕ) (e : List ℕ) → All (IsFamily n) (map reverse elements)
+    → i < length elements → e ≡ get_or elements i e → IsFamily n (reverse e)
 element_is_family n elements i e families less is =
-    subst (IsFamily n) (get_or-map reverse elements i e (reverse e) less ∙ sym (ap reverse is)) (families i (reverse e) (rw (length-map elements reverse) less))
+    subst (IsFamily n) (get_or-map reverse elements i e (reverse e) less ∙ sym (ap reverse is))
+    (families i (reverse e) (rw (length-map elements reverse) less))
 
-pub texts_of_none : (mode : Mode) (names outputs : List (List ℕ)) (answers : List Answer) → texts_of mode names (take 0 outputs) (take 0 answers) ≡ []
+pub texts_of_none : (mode : Mode) (names outputs : List (List ℕ)) (answers : List Answer)
+    → texts_of mode names (take 0 outputs) (take 0 answers) ≡ []
 unfolding texts_of
 texts_of_none mode names outputs answers = refl
 
-pub texts_of_more : (mode : Mode) (names outputs : List (List ℕ)) (answers : List Answer) (i : ℕ) (name : List ℕ) (a : Answer) → i < length outputs → i < length answers → name ≡ get_or outputs i name → a ≡ get_or answers i a
-    → texts_of mode names (take (i + 1) outputs) (take (i + 1) answers) ≡ texts_of mode names (take i outputs) (take i answers) ++ output_text mode names name a ∷ []
+pub texts_of_more : (mode : Mode) (names outputs : List (List ℕ)) (answers : List Answer) (i : ℕ) (name : List ℕ) (a : Answer)
+    → i < length outputs → i < length answers → name ≡ get_or outputs i name → a ≡ get_or answers i a
+    → texts_of mode names (take (i + 1) outputs) (take (i + 1) answers) ≡ texts_of mode names (take i outputs) (take i answers) ++
+    output_text mode names name a ∷ []
 unfolding texts_of
 texts_of_more mode names [] answers i name a less short is same = absurd (omega arith)
 texts_of_more mode names (n ∷ outputs) [] i name a less short is same = absurd (omega arith)
 texts_of_more mode names (n ∷ outputs) (b ∷ answers) zero name a less short is same = cc
 texts_of_more mode names (n ∷ outputs) (b ∷ answers) (suc i) name a less short is same =
-    rw (add-one (suc i)) (ap (λ ts. output_text mode names n b ∷ ts) (rw add-one at (texts_of_more mode names outputs answers i name a (omega arith) (omega arith) is same)))
+    rw (add-one (suc i)) (ap (λ ts. output_text mode names n b ∷ ts)
+    (rw add-one at (texts_of_more mode names outputs answers i name a (omega arith) (omega arith) is same)))
 
 -- one more pair of a name and what is shown
-pub texts_of_next : (mode : Mode) (names outputs : List (List ℕ)) (shown : List Shown) (i j : ℕ) (name : List ℕ) (s : Shown) → i < length outputs → i < length shown → name ≡ get_or outputs i name → s ≡ get_or shown i s → j ≡ i + 1
-    → texts_of mode names (take j outputs) (take j (map answer_of shown)) ≡ texts_of mode names (take i outputs) (take i (map answer_of shown)) ++ output_text mode names name (answer_of s) ∷ []
+pub texts_of_next : (mode : Mode) (names outputs : List (List ℕ)) (shown : List Shown) (i j : ℕ) (name : List ℕ) (s : Shown)
+    → i < length outputs → i < length shown → name ≡ get_or outputs i name → s ≡ get_or shown i s → j ≡ i + 1
+    → texts_of mode names (take j outputs) (take j (map answer_of shown)) ≡ texts_of mode names (take i outputs)
+    (take i (map answer_of shown)) ++ output_text mode names name (answer_of s) ∷ []
 texts_of_next mode names outputs shown i j name s less short is same next =
-    rw next (texts_of_more mode names outputs (map answer_of shown) i name (answer_of s) less (rw (length-map shown answer_of) short) is (ap answer_of same ∙ sym (get_or-map answer_of shown i s (answer_of s) short)))
+    rw next (texts_of_more mode names outputs (map answer_of shown) i name (answer_of s) less (rw (length-map shown answer_of) short) is
+    (ap answer_of same ∙ sym (get_or-map answer_of shown i s (answer_of s) short)))

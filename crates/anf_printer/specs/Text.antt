@@ -3,7 +3,7 @@ use Rattle.std.specs.Prelude.{ℕ, ◌+◌, ◌^◌, List, [], ◌∷◌, ◌++�
 use Rattle.std.specs.List.{All, flat_map, join_by}
 use Rattle.lattice.specs.Family.{Family, divides, numbers_below, IsFamily}
 use Rattle.lattice.specs.declared.kind.Mode.{Mode}
-use Rattle.lattice.specs.declared.kind.Mode.TheVariants.{Anf, Basis, Check, Gen}
+use Rattle.lattice.specs.WorkingLists.{is_basis}
 use Rattle.pla_reader.specs.PlainNames.{are_plain}
 use Rattle.pla_reader.specs.declared.pla.Pla.{Pla}
 use Rattle.anf_printer.specs.declared.answer.Shown.{Shown}
@@ -56,10 +56,7 @@ line names left p = left ++ codes " = " ++ polynomial_text names p ++ codes "\n"
 
 -- the lines of the basis elements, in basis mode
 unfoldable pub basis_lines : Mode → List (List ℕ) → List Family → List ℕ
-basis_lines Basis names elements = flat_map (line names (codes "0")) elements
-basis_lines Anf names elements = []
-basis_lines Check names elements = []
-basis_lines Gen names elements = []
+basis_lines mode names elements = if is_basis mode then flat_map (line names (codes "0")) elements else []
 
 -- the text of the output of a name
 unfoldable pub output_text : Mode → List (List ℕ) → List ℕ → Answer → List ℕ
@@ -68,8 +65,7 @@ output_text mode names name a = line names name a.polynomial ++ basis_lines mode
 -- the texts of outputs, in order
 unfoldable pub texts_of : Mode → (names outputs : List (List ℕ)) → List Answer → List (List ℕ)
 texts_of mode names (name ∷ outputs) (a ∷ answers) = output_text mode names name a ∷ texts_of mode names outputs answers
-texts_of mode names [] answers = []
-texts_of mode names (name ∷ outputs) [] = []
+texts_of mode names _ _ = []
 
 -- the answer's text: one text for each output
 abbrev pub answer_texts : Pla → Mode → List Answer → List (List ℕ)
@@ -81,6 +77,6 @@ abbrev pub answer_of : Shown → Answer
 answer_of s = record { polynomial = reverse s.poly; basis = map reverse s.basis }
 
 -- the polynomial and the basis elements are families of monomials over so many inputs
-pub record IsAnswer (inputs : ℕ) (a : Answer) : Type 0 where
+pub record IsAnswerOver (inputs : ℕ) (a : Answer) : Type 0 where
   pub polynomial : IsFamily inputs a.polynomial
   pub basis : All (IsFamily inputs) a.basis

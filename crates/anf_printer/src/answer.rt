@@ -2,7 +2,7 @@
 ghost use Rattle.std.specs.Prelude.{◌≡◌, ◌⊎◌, ◌++◌, IfOk, OnOk, All, length, map, reverse, codes};
 ghost use Rattle.std.specs.List.{flat_map};
 ghost use Rattle.lattice.specs.Family.{IsFamily};
-ghost use Rattle.anf_printer.specs.Text.{line, basis_lines, output_text, texts_of, answer_texts, answer_of, IsAnswer};
+ghost use Rattle.anf_printer.specs.Text.{line, basis_lines, output_text, texts_of, answer_texts, answer_of, IsAnswerOver};
 
 use crate::names::{names_in_place, printed};
 use crate::polynomial::push_polynomial;
@@ -73,7 +73,7 @@ fn output_text(
     name: &[u8],
     shown: &Shown,
 ) -> Result<Text, Memory>
-    requires { IsAnswer (length names.now) (answer_of shown.now) }
+    requires { IsAnswerOver (length names.now) (answer_of shown.now) }
     ensures { IfOk result (λ text. text ≡ output_text mode names.now name.now (answer_of shown.now)) }
 {
     let mut text = Vec::new(alloc);
@@ -91,7 +91,7 @@ fn texts_of(
     shown: &[Shown],
 ) -> Result<Pages, Memory>
     requires count { length shown.now ≡ length outputs.now }
-    requires families { All (λ s. IsAnswer (length names.now) (answer_of s)) shown.now }
+    requires families { All (λ s. IsAnswerOver (length names.now) (answer_of s)) shown.now }
     ensures { IfOk result (λ pages. pages ≡ texts_of mode names.now outputs.now (map answer_of shown.now)) }
 {
     let mut pages = Pages::new(alloc);
@@ -107,7 +107,7 @@ fn texts_of(
 pub fn answer_text(alloc: Global, p: &Pla, mode: Mode, shown: &[Shown]) -> Result<Pages, Memory>
     requires mode { (mode ≡ Mode.Anf) ⊎ (mode ≡ Mode.Basis) }
     requires count { length shown.now ≡ p.now.outputs }
-    requires families { All (λ s. IsAnswer p.now.inputs (answer_of s)) shown.now }
+    requires families { All (λ s. IsAnswerOver p.now.inputs (answer_of s)) shown.now }
     ensures { IfOk result (λ pages. pages ≡ answer_texts p.now mode (map answer_of shown.now)) }
 {
     let for_inputs = names_in_place(alloc, "x", p.inputs, &p.in_names)?;

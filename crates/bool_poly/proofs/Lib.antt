@@ -1,11 +1,13 @@
-pub mod ValueLemmas
-pub mod KeptLemmas
-pub mod NodeLemmas
-pub mod AboveLemmas
 pub mod OnesLemmas
-pub mod OnesSteps
-pub mod AnyNeeds
-pub mod ProductLemmas
-pub mod VariableSteps
-pub mod ProductLists
-pub mod ProductSteps
+mod OnesFamilies
+mod CutFamilies
+mod ValueLemmas
+mod KeptLemmas
+mod CutSteps
+mod NodeLemmas
+mod AboveLemmas
+mod OnesSteps
+mod AnyNeeds
+mod ProductLemmas
+mod VariableSteps
+mod ProductSteps

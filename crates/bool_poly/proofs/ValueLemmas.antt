@@ -1,103 +1,91 @@
 -- The value of g + x·h at any point, by whether the point has x; and of a polynomial at the low part of a point.
-use Rattle.std.proofs.Common.{◌≡◌, ℕ, ◌+◌, ◌*◌, ◌%◌, ◌/◌, ◌^◌, ◌<◌, ◌≤◌, Bool, true, false, ◌==◌, inl, inr, bit_and, [], ◌∷◌, refl, sym, ap, ap₂, ◌∙◌, arith, eq-eqb, ne_eqb, zero-mul, one-mul, add-zero, ◌&&◌, map, cond}
-use Rattle.std.proofs.lemmas.Bool.{cases_eq}
-use Rattle.std.proofs.lemmas.Nat.{and_block, and_le_l, pow_pos}
+use Rattle.std.proofs.Common.{◌≡◌, ℕ, suc, ◌+◌, ◌-◌, ◌*◌, ◌%◌, ◌/◌, ◌^◌, ◌<◌, ◌≤◌, true, false, ◌==◌, ◌⊎◌, inl, inr, bit_and, [], ◌∷◌, sym}
+use Rattle.std.proofs.Common.{ap, ap₂, ◌∙◌, arith}
+use Rattle.std.proofs.lemmas.Bool.{cases_lt, false≢true}
+use Rattle.std.proofs.lemmas.Nat.{and_block, and_le_l, mod_below, pow_pos}
 use Rattle.lattice.specs.Family.{Family, divides, IsFamily}
 use Rattle.lattice.specs.Polynomial.{value, IsGreatest}
 use Rattle.lattice.specs.Cofactors.{join}
-use Rattle.lattice.proofs.Comprehension.{below_bound}
-use Rattle.lattice.proofs.Families.{has_head, has_cases, has_none, All-has, All-from_has, shifted_member}
-use Rattle.lattice.proofs.Cofactors.{has-join_high, join_member}
-use Rattle.lattice.proofs.Values.{count, value-count, count_agree, count_none, count-append, sum_by-map, sum_by_agree}
+use Rattle.lattice.proofs.Diagrams.{IsFamily-nil, join-nil, IsFamily-join_suc}
+use Rattle.lattice.proofs.Polynomials.{has_none, has_head, has_cases, All-has, All-from_has, below_bound, IsFamily_wider, has-join_high}
+use Rattle.lattice.proofs.Polynomials.{join_member, divides_high_monomial, divides_both_high, count_agree, value-count, value-lt, value-nil}
+use Rattle.lattice.proofs.Polynomials.{value_join_low, value_join_high, twice, divides_zero}
 
 -- a point is cut at 2 ^ d
 cut_point : (d a : ℕ) → a ≡ a / 2 ^ d * 2 ^ d + a % 2 ^ d
 cut_point d a = let p : 0 < 2 ^ d = pow_pos d in omega arith
 
-low_part : (d a : ℕ) → a % 2 ^ d < 2 ^ d
-low_part d a = let p : 0 < 2 ^ d = pow_pos d in omega arith
-
 and_low : (d m a : ℕ) → m < 2 ^ d → bit_and m a ≡ bit_and m (a % 2 ^ d)
 and_low d m a mb =
     let e : m ≡ 0 * 2 ^ d + m = omega arith in
-    ap₂ bit_and e (cut_point d a) ∙ and_block d 0 (a / 2 ^ d) m (a % 2 ^ d) mb (low_part d a) ∙ none (a / 2 ^ d)
+    ap₂ bit_and e (cut_point d a) ∙ and_block d 0 (a / 2 ^ d) m (a % 2 ^ d) mb (mod_below a (2 ^ d) (pow_pos d)) ∙ none (a / 2 ^ d)
   where
     none : (u : ℕ) → bit_and 0 u * 2 ^ d + bit_and m (a % 2 ^ d) ≡ bit_and m (a % 2 ^ d)
     none u = let z : bit_and 0 u ≤ 0 = and_le_l 0 u in let y : bit_and 0 u ≡ 0 = omega arith in rw y (omega arith)
 
-pub divides_low : (d m a : ℕ) → m < 2 ^ d → divides m a ≡ divides m (a % 2 ^ d)
+divides_low : (d m a : ℕ) → m < 2 ^ d → divides m a ≡ divides m (a % 2 ^ d)
 unfolding divides
 divides_low d m a mb = ap (λ (z : ℕ). z == m) (and_low d m a mb)
 
 -- the value at a point is that at its low part
 pub value_low : (d : ℕ) (p : Family) (a : ℕ) → IsFamily d p → value p a ≡ value p (a % 2 ^ d)
 value_low d p a is =
-    value-count p a ∙ ap (λ (c : ℕ). c % 2) (count_agree p a (a % 2 ^ d) (λ m h. divides_low d m a (below_bound d p m is h))) ∙ sym (value-count p (a % 2 ^ d))
+    value-count p a ∙ ap (λ (c : ℕ). c % 2) (count_agree p a (a % 2 ^ d) (λ m h. divides_low d m a (below_bound d p m is h)))
+    ∙ sym (value-count p (a % 2 ^ d))
 
--- ---- a monomial with the variable of weight 2 ^ d
+-- ---- the value of g + x·h, where x has weight 2 ^ d
 
-weights : (d v w m : ℕ) → v ≤ 1 → w ≤ m → m < 2 ^ d → (v * 2 ^ d + w == 2 ^ d + m) ≡ ((v * 2 ^ d + 0 == 2 ^ d) && (w == m))
-weights d v w m small le less = elim (cases_eq v 0) [
-  | inl e ↦
-      let z : v * 2 ^ d ≡ 0 = ap (λ x. x * 2 ^ d) e ∙ zero-mul (2 ^ d) in
-      rw (ne_eqb (v * 2 ^ d + w) (2 ^ d + m) (λ e. omega arith), ne_eqb (v * 2 ^ d + 0) (2 ^ d) (λ e. omega arith)) refl
-  | inr ne ↦
-      let o : v ≡ 1 = omega arith in
-      let z : v * 2 ^ d ≡ 2 ^ d = ap (λ x. x * 2 ^ d) o ∙ one-mul (2 ^ d) in
-      elim (cases_eq w m) [
-        | inl e ↦ rw (eq-eqb (v * 2 ^ d + w) (2 ^ d + m) (omega arith), eq-eqb (v * 2 ^ d + 0) (2 ^ d) (omega arith), eq-eqb w m e) refl
-        | inr n ↦ rw (ne_eqb (v * 2 ^ d + w) (2 ^ d + m) (λ e. n (omega arith)), eq-eqb (v * 2 ^ d + 0) (2 ^ d) (omega arith), ne_eqb w m n) refl
-      ]
-]
+-- the part of a point from x on, without x or with it
+cut_at : (d a : ℕ) → ((a % 2 ^ suc d < 2 ^ d) × (divides (2 ^ d) a ≡ false))
+    ⊎ ((b : ℕ) × (b < 2 ^ d) × (a % 2 ^ suc d ≡ 2 ^ d + b) × (divides (2 ^ d) a ≡ true))
+cut_at d a =
+    let r : ℕ = a % 2 ^ suc d in
+    let some : 0 < 2 ^ d = pow_pos d in
+    let less : r < 2 ^ suc d = mod_below a (2 ^ suc d) (pow_pos (suc d)) in
+    let same : divides (2 ^ d) a ≡ divides (2 ^ d) r = divides_low (suc d) (2 ^ d) a (omega (arith, twice d)) in
+    let weight : 2 ^ d ≡ 2 ^ d + 0 = omega arith in
+    elim (cases_lt r (2 ^ d)) [
+      | inl l ↦ inl (l, same ∙ (ap (λ m. divides m r) weight ∙ divides_high_monomial d 0 r some l))
+      | inr l ↦
+          let b : r - 2 ^ d < 2 ^ d = omega (arith, less, twice d) in
+          let sum : r ≡ 2 ^ d + (r - 2 ^ d) = omega arith in
+          inr (r - 2 ^ d, b, sum, same ∙ (ap₂ divides weight sum ∙ (divides_both_high d 0 (r - 2 ^ d) some b ∙ divides_zero (r - 2 ^ d))))
+    ]
 
-and_weight : (d m a : ℕ) → m < 2 ^ d → bit_and (2 ^ d + m) a ≡ bit_and 1 (a / 2 ^ d) * 2 ^ d + bit_and m (a % 2 ^ d)
-and_weight d m a mb =
-    let e : 2 ^ d + m ≡ 1 * 2 ^ d + m = omega arith in
-    ap₂ bit_and e (cut_point d a) ∙ and_block d 1 (a / 2 ^ d) m (a % 2 ^ d) mb (low_part d a)
-
-pub divides_weight : (d m a : ℕ) → m < 2 ^ d → divides (2 ^ d + m) a ≡ (divides (2 ^ d) a && divides m a)
-unfolding divides
-divides_weight d m a mb =
-    let v : ℕ = bit_and 1 (a / 2 ^ d) in
-    let w : ℕ = bit_and m (a % 2 ^ d) in
-    let z : bit_and 0 (a % 2 ^ d) ≤ 0 = and_le_l 0 (a % 2 ^ d) in
-    let zero_part : bit_and 0 (a % 2 ^ d) ≡ 0 = omega (arith, z) in
-    let alone : bit_and (2 ^ d) a ≡ v * 2 ^ d + 0 =
-    ap (λ x. bit_and x a) (sym (add-zero (2 ^ d))) ∙ and_weight d 0 a (pow_pos d) ∙ ap (λ x. v * 2 ^ d + x) zero_part in
-    ap (λ x. x == 2 ^ d + m) (and_weight d m a mb)
-    ∙ weights d v w m (and_le_l 1 (a / 2 ^ d)) (and_le_l m (a % 2 ^ d)) mb
-    ∙ ap₂ (λ x y. (x == 2 ^ d) && (y == m)) (sym alone) (sym (and_low d m a mb))
-
--- ---- the value of g + x·h
+-- the value of a polynomial without x does not depend on it
+value_shift : (d : ℕ) (f : Family) (b : ℕ) → IsFamily d f → b < 2 ^ d → value f (2 ^ d + b) ≡ value f b
+value_shift d f b ff l =
+    let none = value-nil b in
+    let small = value-lt f b in
+    ap (λ g. value g (2 ^ d + b)) (sym (join-nil d f)) ∙ (value_join_high d f [] b ff (IsFamily-nil d) l ∙ omega (arith, none, small))
 
 module _ (d : ℕ) (lo hi : Family) (a : ℕ) (f : IsFamily d lo) (g : IsFamily d hi) where
-  count_without : divides (2 ^ d) a ≡ false → count (join d lo hi) a ≡ count lo a
-  unfolding join
-  count_without no' =
-      count-append lo (map (λ m. 2 ^ d + m) hi) a
-      ∙ ap (λ (c : ℕ). count lo a + c)
-      (count_none (map (λ m. 2 ^ d + m) hi) a
-      (λ m h. let s = shifted_member (2 ^ d) hi m h in rw s.1 (divides_weight d s.0 a (below_bound d hi s.0 g s.2) ∙ ap (λ b. b && divides s.0 a) no')))
-      ∙ add-zero (count lo a)
+  abbrev r : ℕ
+  r = a % 2 ^ suc d
 
-  shifted_count : divides (2 ^ d) a ≡ true → count (map (λ m. 2 ^ d + m) hi) a ≡ count hi a
-  unfolding count
-  shifted_count yes' =
-      sum_by-map (λ m. cond (divides m a) 1 0) (λ m. 2 ^ d + m) hi
-      ∙ sum_by_agree (λ m. cond (divides (2 ^ d + m) a) 1 0) (λ m. cond (divides m a) 1 0) hi
-      (λ m h. ap (λ (t : Bool). cond t 1 0) (divides_weight d m a (below_bound d hi m g h) ∙ ap (λ b. b && divides m a) yes'))
+  at : (p : Family) → IsFamily d p → value p a ≡ value p r
+  at p is = value_low (suc d) p a (IsFamily_wider d (suc d) p is (omega arith))
 
-  count_with : divides (2 ^ d) a ≡ true → count (join d lo hi) a ≡ count lo a + count hi a
-  unfolding join
-  count_with yes' = count-append lo (map (λ m. 2 ^ d + m) hi) a ∙ ap (λ (c : ℕ). count lo a + c) (shifted_count yes')
+  whole_at : value (join d lo hi) a ≡ value (join d lo hi) r
+  whole_at = value_low (suc d) (join d lo hi) a (IsFamily-join_suc d lo hi f g)
 
   -- at a point without x
   pub value_without : divides (2 ^ d) a ≡ false → value (join d lo hi) a ≡ value lo a
-  value_without no' = rw (value-count (join d lo hi) a, value-count lo a, count_without no') refl
+  value_without no' = elim (cut_at d a) [
+    | inl c ↦ whole_at ∙ (value_join_low d lo hi r f g c.0 ∙ sym (at lo f))
+    | inr c ↦ absurd (false≢true (sym no' ∙ c.3))
+  ]
 
   -- at a point with x
   pub value_with : divides (2 ^ d) a ≡ true → value (join d lo hi) a ≡ (value lo a + value hi a) % 2
-  value_with yes' = rw (value-count (join d lo hi) a, value-count lo a, value-count hi a, count_with yes') (omega arith)
+  value_with yes' = elim (cut_at d a) [
+    | inl c ↦ absurd (false≢true (sym c.1 ∙ yes'))
+    | inr c ↦
+        let back : (p : Family) → IsFamily d p → value p a ≡ value p c.0 = λ p is.
+        at p is ∙ (ap (value p) c.2 ∙ value_shift d p c.0 is c.1) in
+        whole_at ∙ (ap (value (join d lo hi)) c.2 ∙ (value_join_high d lo hi c.0 f g c.1
+        ∙ ap₂ (λ (x y : ℕ). (x + y) % 2) (sym (back lo f)) (sym (back hi g))))
+  ]
 
 -- ---- the greatest monomial
 
@@ -111,4 +99,8 @@ greatest_join d lo hi r f top = record {
 }
 
 pub greatest_unit : IsGreatest (0 ∷ []) 0
-greatest_unit = record { member = has_head 0 []; top = All-from_has (λ k. k ≤ 0) (0 ∷ []) (λ k h. elim (has_cases 0 [] k h) [ inl e ↦ omega arith | inr i ↦ has_none k i ]) }
+greatest_unit = record {
+  member = has_head 0 [];
+  top = All-from_has (λ k. k ≤ 0) (0 ∷ [])
+      (λ k h. elim (has_cases 0 [] k h) [ inl e ↦ omega arith | inr i ↦ has_none k i ]);
+}

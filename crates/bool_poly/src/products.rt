@@ -73,6 +73,10 @@ pub fn product<S: Store>(store: &mut S, a: Handle, b: Handle) -> Result<Handle, 
     if b.0 == 0 || a.0 == 1 {
         return Ok(b);
     }
+    // One kept result serves both orders.
+    if b.0 < a.0 {
+        return product(store, b, a);
+    }
     if let Some(r) = store.look(Op::Product, a, b.0) {
         return Ok(r);
     }

@@ -1,34 +1,12 @@
-ghost use Rattle.std.specs.Prelude.{◌≡◌, ◌+◌, ◌<◌, ◌≤◌, ◌^◌, IfOk};
-ghost use Rattle.lattice.specs.WorkingLists.{working_set};
-ghost use Rattle.lattice.proofs.WorkingSets.{working_set_is_node_list};
-ghost use Rattle.node_store.specs.PlainOf.{state_of};
-ghost use Rattle.node_store.specs.AnyFamily.{every_family, MayHoldAny};
-ghost use Rattle.bool_poly.specs.ReadyStores.{IsReady};
+ghost use Rattle.std.specs.Prelude.{◌+◌, ◌<◌, ◌≤◌, ◌^◌, IfOk};
+ghost use Rattle.set_algebra.specs.ReadyStores.{IsReady};
 
 use crate::{Serial, SetOps, above, lead, product, sum, times_var, value_of};
-use lattice::{Memory, Mono, Planned, plan_of};
-use node_store::{Full, Handle, PlainStore, Store};
+use lattice::Mono;
+use node_store::{Full, Handle, PlainStore, Store, any_plan};
 use set_algebra::{contains, one, power};
 use std::alloc::Global;
 use std::test::Fail;
-
-// Every family over so many variables.
-#[derive(Drop)]
-struct EveryFamily(u32);
-
-impl Planned for EveryFamily {
-    ghost families = { λ p. working_set p.0 (every_family p.0) };
-
-    ghost node_list = { λ p. working_set_is_node_list p.0 (every_family p.0) };
-}
-
-// A store of 256 slots that may be asked for any family.
-fn store_for_any(alloc: Global, vars: u32) -> Result<PlainStore, Memory>
-    requires { (1 ≤ vars) × (vars ≤ 62) }
-    ensures { IfOk result (λ s. MayHoldAny vars (state_of s)) }
-{
-    PlainStore::make(alloc, 8, vars, plan_of(&EveryFamily(vars)))
-}
 
 // The monomial added to a polynomial.
 fn more<S: Store>(store: &mut S, vars: u32, a: Handle, m: u64) -> Result<Handle, Full>
@@ -95,7 +73,7 @@ fn values<S: Store>(store: &mut S, vars: u32, a: Handle, from: u64) -> [bool; 4]
 // x1*x2 + x1 + x2 at all points, and its greatest monomial.
 #[test]
 fn values_of_a_sum(rt: HostRuntime) -> Result<(), Fail> {
-    let mut store = store_for_any(rt.alloc(), 2)?;
+    let mut store = PlainStore::make(rt.alloc(), 8, 2, any_plan(2))?;
     let first = more(&mut store, 2, Handle(0), 1)?;
     let second = more(&mut store, 2, first, 2)?;
     let all = more(&mut store, 2, second, 3)?;
@@ -107,7 +85,7 @@ fn values_of_a_sum(rt: HostRuntime) -> Result<(), Fail> {
 // The points of {0, 1, 2, 3} that x1 divides.
 #[test]
 fn points_of_a_monomial(rt: HostRuntime) -> Result<(), Fail> {
-    let mut store = store_for_any(rt.alloc(), 2)?;
+    let mut store = PlainStore::make(rt.alloc(), 8, 2, any_plan(2))?;
     let all = power(&mut store)?;
     let points = above(&mut store, Mono(2), all)?;
     assert_eq!(rt; members(&mut store, 2, points), [false, false, true, true]);
@@ -117,7 +95,7 @@ fn points_of_a_monomial(rt: HostRuntime) -> Result<(), Fail> {
 // The points of {0, 1, 2, 3} where x2 is 1.
 #[test]
 fn points_of_a_polynomial(rt: HostRuntime) -> Result<(), Fail> {
-    let mut store = store_for_any(rt.alloc(), 2)?;
+    let mut store = PlainStore::make(rt.alloc(), 8, 2, any_plan(2))?;
     let all = power(&mut store)?;
     let second = one(&mut store, Mono(1))?;
     let points = points_at(&mut store, 2, second, all)?;
@@ -128,7 +106,7 @@ fn points_of_a_polynomial(rt: HostRuntime) -> Result<(), Fail> {
 // (x1 + x2)*(x1 + x2 + x3) at all points.
 #[test]
 fn values_of_a_product(rt: HostRuntime) -> Result<(), Fail> {
-    let mut store = store_for_any(rt.alloc(), 3)?;
+    let mut store = PlainStore::make(rt.alloc(), 8, 3, any_plan(3))?;
     let first = more(&mut store, 3, Handle(0), 4)?;
     let two = more(&mut store, 3, first, 2)?;
     let three = more(&mut store, 3, two, 1)?;
@@ -142,7 +120,7 @@ fn values_of_a_product(rt: HostRuntime) -> Result<(), Fail> {
 fn sum_times(alloc: Global, var: u32) -> Result<[bool; 4], Fail>
     requires { (1 ≤ var) × (var ≤ 2) }
 {
-    let mut store = store_for_any(alloc, 2)?;
+    let mut store = PlainStore::make(alloc, 8, 2, any_plan(2))?;
     let first = more(&mut store, 2, Handle(0), 1)?;
     let second = more(&mut store, 2, first, 2)?;
     let all = more(&mut store, 2, second, 3)?;

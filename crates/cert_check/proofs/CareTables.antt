@@ -1,48 +1,38 @@
 -- The care points of an output, as a table over all points.
-use Rattle.std.proofs.Common.{◌≡◌, ℕ, zero, suc, ◌^◌, ◌<◌, ◌≤◌, Bool, true, false, List, [], ◌∷◌, length, map, Some, Vec, Global, refl, sym, ap, ◌∙◌, subst, arith}
-use Rattle.std.specs.Prelude.{slice_get, Result, Ok, Err, IfOk}
+use Rattle.std.proofs.Common.{◌≡◌, ℕ, ◌^◌, ◌<◌, ◌≤◌, Bool, true, false, List, map, Vec, Global, sym}
+use Rattle.std.proofs.Common.{ap, ◌∙◌, subst, arith}
+use Rattle.std.specs.Prelude.{Result, Ok, Err, IfOk}
 use Rattle.std.proofs.lemmas.List.{length-map}
+use Rattle.std.proofs.lemmas.Option.{slice_get_within}
 use Rattle.lattice.specs.Family.{has, IsFamily}
 use Rattle.lattice.specs.Rows.{points_where, on_set, off_set, dc_set, care_zeros, care_ones, is_zero, is_one}
 use Rattle.lattice.specs.declared.row.Row.{Row}
 use Rattle.lattice.specs.declared.kind.Kind.{Kind}
-use Rattle.lattice.proofs.Comprehension.{has-family_where_below, IsFamily-family_where}
-use Rattle.cert_check.specs.declared.care.Marks.{Marks}
+use Rattle.lattice.proofs.Diagrams.{get_map}
+use Rattle.lattice.proofs.Polynomials.{IsFamily-family_where, has-family_where_below}
+use Rattle.pla_reader.specs.declared.row.Marks.{Marks}
 use Rattle.cert_check.specs.declared.care.Care.{Care}
 use Rattle.cert_check.specs.Marks.{MarksAll, MarksCare, care_by}
 use Rattle.cert_check.proofs.Marked.{is_care_of}
 
-get_map : {X Y : Type 0} (f : X → Y) (xs : List X) (k : ℕ) (y : Y) → slice_get (map f xs) k ≡ Some y → (x : X) ×
-    (slice_get xs k ≡ Some x) × (y ≡ f x)
-get_map f [] k y e = absurd cc
-get_map f (x ∷ xs) zero y e = let same : f x ≡ y = cc in (x, refl, sym same)
-get_map f (x ∷ xs) (suc k) y e = get_map f xs k y e
-
-get_within : {X : Type 0} (xs : List X) (k : ℕ) (x : X) → slice_get xs k ≡ Some x → k < length xs
-get_within [] k x e = absurd cc
-get_within (y ∷ xs) zero x e = omega arith
-get_within (y ∷ xs) (suc k) x e = let within : k < length xs = get_within xs k x e in omega arith
-
 points_at : (test : Bool → Bool → Bool → Bool) (n : ℕ) (rows : List Row) (output a : ℕ) → a < 2 ^ n → has
-    (points_where test n rows output) a ≡ test (has (on_set n rows output) a) (has (off_set n rows output) a)
-    (has (dc_set n rows output) a)
+    (points_where test n rows output) a ≡ test (has (on_set n rows output) a) (has (off_set n rows output) a) (has (dc_set n rows output) a)
 unfolding points_where
 points_at test n rows output a below = has-family_where_below n
     (λ x. test (has (on_set n rows output) x) (has (off_set n rows output) x) (has (dc_set n rows output) x)) a below
 
-points_family : (test : Bool → Bool → Bool → Bool) (n : ℕ) (rows : List Row) (output : ℕ) → IsFamily n
-    (points_where test n rows output)
+-- care points are a family
+pub points_family : (test : Bool → Bool → Bool → Bool) (n : ℕ) (rows : List Row) (output : ℕ) → IsFamily n (points_where test n rows output)
 unfolding points_where
 points_family test n rows output = IsFamily-family_where n _
 
 pub care_table : (kind : Kind) (output n : ℕ) (rows : List Row) (marks : List Marks) → 1 ≤ output → output ≤ 64 →
-    MarksAll n rows marks → MarksCare n (care_zeros n kind rows output) (care_ones n kind rows output)
-    (map (care_by kind output) marks)
+    MarksAll n rows marks → MarksCare n (care_zeros n kind rows output) (care_ones n kind rows output) (map (care_by kind output) marks)
 care_table kind output n rows marks first last all = record {
   size = length-map marks (care_by kind output) ∙ all.size;
   each = λ a c e.
       let from = get_map (care_by kind output) marks a c e in
-      let below : a < 2 ^ n = omega (arith, get_within marks a from.0 from.1, all.size) in
+      let below : a < 2 ^ n = omega (arith, slice_get_within marks a from.0 from.1, all.size) in
       let at = all.each a from.0 from.1 in (
         ap (λ (x : Care). x.zero) from.2 ∙ sym (points_at (is_zero kind) n rows output a below ∙ is_care_of n output a
             kind false rows from.0 first last below at),

@@ -1,11 +1,17 @@
 -- A text cut at a byte of one kind.
-use Rattle.std.proofs.Common.{◌≡◌, ℕ, ◌+◌, ◌-◌, ◌<◌, ◌≤◌, Bool, cond, ltb, eqb, List, [], ◌∷◌, length, take, drop, Option, Some, None, sym, ap, ◌∙◌, ⊎_elim, arith}
+use Rattle.std.proofs.Common.{◌≡◌, ℕ, ◌+◌, ◌-◌, ◌<◌, ◌≤◌, Bool, cond, ltb, eqb, List, [], ◌∷◌, length, take, drop, Option, Some, None, Bor}
+use Rattle.std.proofs.Common.{sym, ap, ◌∙◌, ⊎_elim, arith}
 use Rattle.std.specs.List.{position_or_len}
 use Rattle.std.proofs.lemmas.Bool.{cases_lt, lt-ltb, le-ltb}
 use Rattle.std.proofs.lemmas.List.{take_all, length-drop}
 use Rattle.std.proofs.lemmas.List.Sums.{fails_before_first}
 use Rattle.std.proofs.lemmas.List.Splits.{slice_split_none, slice_split_first}
 use Rattle.cert_check.specs.Reading.{parts}
+
+-- how much is left, and one more where anything is
+abbrev pub left_length : Option (Bor (List ℕ)) → ℕ
+left_length None = 0
+left_length (Some rest) = length rest.now + 1
 
 abbrev place : (byte : ℕ) → List ℕ → ℕ
 place byte text = position_or_len (λ b. eqb b byte) text
@@ -14,20 +20,15 @@ place byte text = position_or_len (λ b. eqb b byte) text
 abbrev pub FindsByte : ℕ → List ℕ → Option ℕ → Type 0
 FindsByte byte text found = found ≡ cond (ltb (place byte text) (length text)) (Some (place byte text)) None
 
-pub parts_whole : (byte : ℕ) (text : List ℕ) (found : Option ℕ) → FindsByte byte text found → found ≡ None → parts
-    byte text ≡ text ∷ []
-parts_whole byte text found is none = ⊎_elim
-    (λ (lt : place byte text < length text). let some : found ≡ Some (place byte text) = is ∙ ap
+pub parts_whole : (byte : ℕ) (text : List ℕ) (found : Option ℕ) → FindsByte byte text found → found ≡ None → parts byte text ≡ text ∷ []
+parts_whole byte text found is none = ⊎_elim (λ (lt : place byte text < length text). let some : found ≡ Some (place byte text) = is ∙ ap
     (λ (b : Bool). cond b (Some (place byte text)) None) (lt-ltb (place byte text) (length text) lt) in cc)
     (λ (le : length text ≤ place byte text). slice_split_none (λ b. eqb b byte) text
-    (λ k d h. fails_before_first (λ b. eqb b byte) text k d (omega arith)))
-    (cases_lt (place byte text) (length text))
+    (λ k d h. fails_before_first (λ b. eqb b byte) text k d (omega arith))) (cases_lt (place byte text) (length text))
 
-pub parts_first : (byte : ℕ) (text : List ℕ) (found : Option ℕ) (end : ℕ) → FindsByte byte text found → found ≡ Some
-    end
+pub parts_first : (byte : ℕ) (text : List ℕ) (found : Option ℕ) (end : ℕ) → FindsByte byte text found → found ≡ Some end
     → parts byte text ≡ take end text ∷ parts byte (take (length text - (end + 1)) (drop (end + 1) text))
-parts_first byte text found end is some = ⊎_elim
-    (λ (lt : place byte text < length text).
+parts_first byte text found end is some = ⊎_elim (λ (lt : place byte text < length text).
     let at : found ≡ Some (place byte text) = is ∙ ap (λ (b : Bool). cond b (Some (place byte text)) None)
     (lt-ltb (place byte text) (length text) lt) in
     let same : place byte text ≡ end = cc in

@@ -10,8 +10,11 @@ use Rattle.cert_check.specs.declared.refusal.AnswerWhy.TheVariants.{BadLine, Unk
 use Rattle.cert_check.specs.declared.refusal.Fault.TheVariants.{Value, NotZero, Leads, Count, Reducible}
 use Rattle.cert_check.specs.declared.refusal.Verdict.{Verdict}
 use Rattle.cert_check.specs.declared.refusal.Verdict.TheVariants.{Yes, No}
-use Rattle.cert_check.specs.Reading.{bare, is_term, is_sum, is_line, terms_of, factors_of, product_of, monomial_of, monomials_of, are_known, ascends_from, are_ordered, left_fault, right_fault, line_fault, with_element, with_line, Reading, read_on}
-use Rattle.cert_check.specs.Faults.{first_failed, misses, is_one_in, greatest_of, meets, is_below_last, has_no_lead, is_out_of_order, is_divided, miscounts, basis_checks, reduced_checks, output_checks}
+use Rattle.cert_check.specs.Reading.{bare, is_term, is_sum, is_line, terms_in, factors_of, factors_product, monomial_of, monomials_of}
+use Rattle.cert_check.specs.Reading.{are_known, ascends_from, are_ordered, left_fault, right_fault, line_fault, with_element, with_line}
+use Rattle.cert_check.specs.Reading.{Reading, read_on}
+use Rattle.cert_check.specs.Faults.{first_verdict, misses, is_one_in, greatest_of, is_comparable, is_below_last, has_no_lead}
+use Rattle.cert_check.specs.Faults.{is_out_of_order, is_divided, miscounts, basis_checks, reduced_checks, output_checks}
 
 abbrev line : List ℕ → List ℕ
 line text = text ++ codes "\n"
@@ -27,59 +30,34 @@ output poly basis = record { poly = poly; basis = basis }
 
 -- ---- what is read
 
-right_text : reading (line (codes "f1 = x2") ++ line (codes "0 = x1 + x2")) ≡ Ok
-    (output (given (1 ∷ []) 1) (given (2 ∷ 1 ∷ []) 2 ∷ []) ∷ [])
-unfolding bare is_term is_sum is_line terms_of factors_of product_of monomial_of monomials_of are_known ascends_from are_ordered left_fault right_fault line_fault with_element with_line read_on is_plain includes
-right_text = refl
-
--- empty lines are counted, a carriage return is dropped, and the last line feed may be missing
-loose_text : reading (line [] ++ line (codes "f1 = x1*x2 + 1\r") ++ codes "0 = 0") ≡ Ok
-    (output (given (3 ∷ 0 ∷ []) 2) (given [] 3 ∷ []) ∷ [])
-unfolding bare is_term is_sum is_line terms_of factors_of product_of monomial_of monomials_of are_known ascends_from are_ordered left_fault right_fault line_fault with_element with_line read_on is_plain includes
-loose_text = refl
-
-no_lines : reading [] ≡ Err (0, MissingOutput)
-unfolding read_on
-no_lines = refl
-
-wrong_order : reading (line (codes "f1 = x2") ++ line (codes "0 = x2 + x1")) ≡ Err (2, TermOrder)
-unfolding bare is_term is_sum is_line terms_of factors_of product_of monomial_of monomials_of are_known ascends_from are_ordered left_fault right_fault line_fault with_element with_line read_on is_plain includes
-wrong_order = refl
-
-unknown_name : reading (line (codes "f1 = x2*x1*y")) ≡ Err (1, UnknownName)
-unfolding bare is_term is_sum is_line terms_of factors_of product_of monomial_of monomials_of are_known ascends_from are_ordered left_fault right_fault line_fault with_element with_line read_on is_plain includes
-unknown_name = refl
-
-no_space : reading (line (codes "f1= x2")) ≡ Err (1, BadLine)
-unfolding bare is_term is_sum is_line terms_of factors_of product_of monomial_of monomials_of are_known ascends_from are_ordered left_fault right_fault line_fault with_element with_line read_on is_plain includes
-no_space = refl
+-- two lines; empty lines, which are counted, a carriage return and no last line feed; no line; terms in another order,
+-- a name that is none, and no
+-- space before =
+readings : (reading (line (codes "f1 = x2") ++ line (codes "0 = x1 + x2")) ≡ Ok
+    (output (given (1 ∷ []) 1) (given (2 ∷ 1 ∷ []) 2 ∷ []) ∷ []))
+    × (reading (line [] ++ line (codes "f1 = x1*x2 + 1\r") ++ codes "0 = 0") ≡ Ok (output (given (3 ∷ 0 ∷ []) 2) (given [] 3 ∷ []) ∷ []))
+    × (reading [] ≡ Err (0, MissingOutput))
+    × (reading (line (codes "f1 = x2") ++ line (codes "0 = x2 + x1")) ≡ Err (2, TermOrder))
+    × (reading (line (codes "f1 = x2*x1*y")) ≡ Err (1, UnknownName))
+    × (reading (line (codes "f1= x2")) ≡ Err (1, BadLine))
+unfolding bare is_term is_sum is_line terms_in factors_of factors_product monomial_of monomials_of are_known ascends_from are_ordered
+    left_fault right_fault line_fault with_element with_line read_on is_plain includes
+readings = (refl, refl, refl, refl, refl, refl)
 
 -- ---- the verdicts
 
 abbrev verdict : GivenOutput → Verdict
-verdict o = first_failed (output_checks 2 (0 ∷ []) (3 ∷ []) (0 ∷ 3 ∷ []) o)
+verdict o = first_verdict (output_checks 2 (0 ∷ []) (3 ∷ []) (0 ∷ 3 ∷ []) o)
 
-right_answer : verdict (output (given (1 ∷ []) 1) (given (2 ∷ 1 ∷ []) 2 ∷ [])) ≡ Yes
-unfolding first_failed misses is_one_in greatest_of meets is_below_last has_no_lead is_out_of_order is_divided miscounts basis_checks reduced_checks output_checks value divides has family_where numbers_below
-right_answer = refl
-
--- x1 has every given value, and is not the least polynomial that has
-reducible : verdict (output (given (2 ∷ []) 1) (given (2 ∷ 1 ∷ []) 2 ∷ [])) ≡ No 1 Reducible
-unfolding first_failed misses is_one_in greatest_of meets is_below_last has_no_lead is_out_of_order is_divided miscounts basis_checks reduced_checks output_checks value divides has family_where numbers_below
-reducible = refl
-
-no_basis : verdict (output (given (1 ∷ []) 1) []) ≡ No 1 Count
-unfolding first_failed misses is_one_in greatest_of meets is_below_last has_no_lead is_out_of_order is_divided miscounts basis_checks reduced_checks output_checks value divides has family_where numbers_below
-no_basis = refl
-
-wrong_value : verdict (output (given (0 ∷ []) 1) (given (2 ∷ 1 ∷ []) 2 ∷ [])) ≡ No 1 Value
-unfolding first_failed misses is_one_in greatest_of meets is_below_last has_no_lead is_out_of_order is_divided miscounts basis_checks reduced_checks output_checks value divides has family_where numbers_below
-wrong_value = refl
-
-not_zero : verdict (output (given (1 ∷ []) 1) (given (2 ∷ []) 2 ∷ [])) ≡ No 2 NotZero
-unfolding first_failed misses is_one_in greatest_of meets is_below_last has_no_lead is_out_of_order is_divided miscounts basis_checks reduced_checks output_checks value divides has family_where numbers_below
-not_zero = refl
-
-twice : verdict (output (given (1 ∷ []) 1) (given (2 ∷ 1 ∷ []) 2 ∷ given (2 ∷ 1 ∷ []) 3 ∷ [])) ≡ No 3 Leads
-unfolding first_failed misses is_one_in greatest_of meets is_below_last has_no_lead is_out_of_order is_divided miscounts basis_checks reduced_checks output_checks value divides has family_where numbers_below
-twice = refl
+-- the right answer; x1, which has every given value and is not least; no basis; 1, which misses a value; an element
+-- that is 1 at a care point; and
+-- an element twice
+verdicts : (verdict (output (given (1 ∷ []) 1) (given (2 ∷ 1 ∷ []) 2 ∷ [])) ≡ Yes)
+    × (verdict (output (given (2 ∷ []) 1) (given (2 ∷ 1 ∷ []) 2 ∷ [])) ≡ No 1 Reducible)
+    × (verdict (output (given (1 ∷ []) 1) []) ≡ No 1 Count)
+    × (verdict (output (given (0 ∷ []) 1) (given (2 ∷ 1 ∷ []) 2 ∷ [])) ≡ No 1 Value)
+    × (verdict (output (given (1 ∷ []) 1) (given (2 ∷ []) 2 ∷ [])) ≡ No 2 NotZero)
+    × (verdict (output (given (1 ∷ []) 1) (given (2 ∷ 1 ∷ []) 2 ∷ given (2 ∷ 1 ∷ []) 3 ∷ [])) ≡ No 3 Leads)
+unfolding first_verdict misses is_one_in greatest_of is_comparable is_below_last has_no_lead is_out_of_order is_divided miscounts
+    basis_checks reduced_checks output_checks value divides has family_where numbers_below
+verdicts = (refl, refl, refl, refl, refl, refl)

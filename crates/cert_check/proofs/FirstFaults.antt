@@ -1,47 +1,35 @@
 -- The first check that fails.
-use Rattle.std.proofs.Common.{◌≡◌, ℕ, suc, ◌-◌, ◌<◌, ◌≤◌, Bool, true, false, ◌||◌, ◌==◌, cond, ltb, List, [], ◌∷◌, ◌++◌, length, get_or, reverse, refl, sym, ap, ap₂, ◌∙◌, ⊎_elim, arith}
-use Rattle.std.proofs.lemmas.Bool.{cases_Bool}
+use Rattle.std.proofs.Common.{◌≡◌, ℕ, suc, ◌-◌, ◌<◌, ◌≤◌, Bool, true, false, ◌||◌, ◌==◌, ltb, List, [], ◌∷◌, ◌++◌, length, get_or}
+use Rattle.std.proofs.Common.{reverse, refl, sym, ap, ap₂, ◌∙◌, arith}
 use Rattle.lattice.specs.Family.{Family, has, IsFamily, family_where}
 use Rattle.lattice.specs.Polynomial.{value}
-use Rattle.lattice.proofs.Comprehension.{family_where_has, family_where-agree}
+use Rattle.lattice.proofs.Polynomials.{family_where_has, family_where-agree}
 use Rattle.cert_check.specs.declared.refusal.Fault.{Fault}
 use Rattle.cert_check.specs.declared.refusal.Verdict.TheVariants.{Yes, No}
-use Rattle.cert_check.specs.Faults.{Check, first_failed, misses, is_one_in, meets, is_below_last, has_no_lead, is_out_of_order}
+use Rattle.cert_check.specs.Faults.{Check, first_verdict, misses, is_one_in, is_comparable, is_below_last, has_no_lead, is_out_of_order}
 use Rattle.cert_check.proofs.Reversed.{has-reverse, value-reverse}
 use Rattle.cert_check.proofs.Points.{any-agree}
 
-pub stops_here : (test : Bool) (line : ℕ) (why : Fault) (rest : List Check) → test ≡ true → first_failed
-    ((test, line, why) ∷ rest) ≡ No line why
-unfolding first_failed
-stops_here test line why rest fails = ap (λ (b : Bool). cond b (No line why) (first_failed rest)) fails
+pub goes_past : (test : Bool) (line : ℕ) (why : Fault) (rest : List Check) → test ≡ false → first_verdict
+    ((test, line, why) ∷ rest) ≡ first_verdict rest
+unfolding first_verdict
+goes_past test line why rest passes = rw passes refl
 
-pub goes_past : (test : Bool) (line : ℕ) (why : Fault) (rest : List Check) → test ≡ false → first_failed
-    ((test, line, why) ∷ rest) ≡ first_failed rest
-unfolding first_failed
-goes_past test line why rest passes = ap (λ (b : Bool). cond b (No line why) (first_failed rest)) passes
-
-pub none_failed : first_failed [] ≡ Yes
-unfolding first_failed
+pub none_failed : first_verdict [] ≡ Yes
+unfolding first_verdict
 none_failed = refl
 
 -- what fails in front of other checks, and what does not
-pub fails_in_front : (checks rest : List Check) (line : ℕ) (why : Fault) → first_failed checks ≡ No line why →
-    first_failed (checks ++ rest) ≡ No line why
-unfolding first_failed
+pub fails_in_front : (checks rest : List Check) (line : ℕ) (why : Fault) → first_verdict checks ≡ No line why →
+    first_verdict (checks ++ rest) ≡ No line why
+unfolding first_verdict
 fails_in_front [] rest line why fails = cc
-fails_in_front (check ∷ checks) rest line why fails = ⊎_elim
-    (λ (here : check.0 ≡ true). rw here (rw here at fails))
-    (λ (later : check.0 ≡ false). rw later (fails_in_front checks rest line why (rw later at fails)))
-    (cases_Bool check.0)
+fails_in_front (check ∷ checks) rest line why fails = grind (arith, fails, fails_in_front checks rest line why)
 
-pub fine_in_front : (checks rest : List Check) → first_failed checks ≡ Yes → first_failed (checks ++ rest) ≡
-    first_failed rest
-unfolding first_failed
+pub fine_in_front : (checks rest : List Check) → first_verdict checks ≡ Yes → first_verdict (checks ++ rest) ≡ first_verdict rest
+unfolding first_verdict
 fine_in_front [] rest fine = refl
-fine_in_front (check ∷ checks) rest fine = ⊎_elim
-    (λ (here : check.0 ≡ true). let wrong = rw here at fine in absurd cc)
-    (λ (later : check.0 ≡ false). rw later (fine_in_front checks rest (rw later at fine)))
-    (cases_Bool check.0)
+fine_in_front (check ∷ checks) rest fine = grind (arith, fine, fine_in_front checks rest)
 
 -- ---- values of the terms, each counted once
 
@@ -74,10 +62,10 @@ no_lead_of_zero earlier [] none = refl
 no_lead_of_zero earlier (top ∷ tail) none = absurd (omega arith)
 
 pub no_lead_of : (earlier terms : List ℕ) (top : ℕ) → 1 ≤ length terms → top ≡ get_or terms 0 top → has_no_lead
-    earlier terms ≡ meets earlier top
+    earlier terms ≡ is_comparable earlier top
 unfolding has_no_lead
 no_lead_of earlier [] top some is = absurd (omega arith)
-no_lead_of earlier (t ∷ tail) top some is = ap (meets earlier) (sym is)
+no_lead_of earlier (t ∷ tail) top some is = ap (is_comparable earlier) (sym is)
 
 pub out_of_order_of : (earlier terms : List ℕ) (top : ℕ) → 1 ≤ length terms → top ≡ get_or terms 0 top →
     is_out_of_order earlier terms ≡ is_below_last earlier top
@@ -94,8 +82,7 @@ pub below_last_of : (others : List ℕ) (m last : ℕ) → 1 ≤ length others �
     → is_below_last others m ≡ ltb m last
 unfolding is_below_last
 below_last_of [] m last some is = absurd (omega arith)
-below_last_of (t ∷ []) m last some is = let e : length (t ∷ []) - 1 ≡ 0 = omega arith in ap (ltb m)
-    (sym (is ∙ ap (λ (k : ℕ). get_or (t ∷ []) k last) e))
+below_last_of (t ∷ []) m last some is = grind (arith, is)
 below_last_of (t ∷ u ∷ others) m last some is =
     let e : length (t ∷ u ∷ others) - 1 ≡ suc (length (u ∷ others) - 1) = omega arith in
     below_last_of (u ∷ others) m last (omega arith) (is ∙ ap (λ (k : ℕ). get_or (t ∷ u ∷ others) k last) e)

@@ -1,5 +1,6 @@
 -- Tables of all points, by halves: the points without the greatest variable, and those with it.
-use Rattle.std.proofs.Common.{◌≡◌, ◌≢◌, ℕ, zero, suc, ◌+◌, ◌-◌, ◌^◌, ◌<◌, ◌≤◌, Bool, ◌==◌, List, [], ◌∷◌, ◌++◌, length, get_or, filter, refl, sym, ap, ap₂, ◌∙◌, subst, ⊎_elim, arith, length-append}
+use Rattle.std.proofs.Common.{◌≡◌, ◌≢◌, ℕ, zero, suc, ◌+◌, ◌-◌, ◌^◌, ◌<◌, ◌≤◌, Bool, ◌==◌, List, [], ◌∷◌, ◌++◌, length, get_or, filter}
+use Rattle.std.proofs.Common.{refl, sym, ap, ap₂, ◌∙◌, subst, ⊎_elim, arith, length-append}
 use Rattle.std.specs.List.{All, count_by}
 use Rattle.std.proofs.lemmas.Bool.{cases_lt}
 use Rattle.std.proofs.lemmas.Grind.{pow_more}
@@ -9,16 +10,9 @@ use Rattle.std.proofs.lemmas.List.Sums.{count_by-le-length, length-filter}
 use Rattle.std.proofs.Math.Nat.{pow-le-pow_right}
 use Rattle.lattice.specs.Family.{Family, divides, has, IsFamily, numbers_below, family_where}
 use Rattle.lattice.specs.Cofactors.{join}
-use Rattle.lattice.proofs.Comprehension.{has-family_where_below, IsFamily-family_where, same_below}
-use Rattle.lattice.proofs.Cofactors.{has-join_low, has-join_high, IsFamily-join}
-use Rattle.lattice.proofs.Values.{count, count_join_low, count_join_high}
+use Rattle.lattice.proofs.Polynomials.{IsFamily-family_where, has-family_where_below, same_below, IsFamily-join, has-join_low}
+use Rattle.lattice.proofs.Polynomials.{has-join_high, count, count_join_low, count_join_high, length-numbers_below}
 use Rattle.cert_check.specs.Marks.{marked, CountsDivisors}
-
-pub length-numbers_below : (n : ℕ) → length (numbers_below n) ≡ n
-unfolding numbers_below
-length-numbers_below zero = refl
-length-numbers_below (suc n) = let before = length-numbers_below n in omega
-    (arith, length-append (numbers_below n) (n ∷ []))
 
 pub marked_family : (n : ℕ) (table : List ℕ) → IsFamily n (marked n table)
 unfolding marked
@@ -47,24 +41,17 @@ unfolding count
 count_is p a = refl
 
 -- one point
-unmarked_alone : (a : ℕ) → a < 1 → get_or (0 ∷ []) a 0 ≡ count_by (λ m. divides m a) (marked 0 (0 ∷ []))
+alone : (x a : ℕ) → x ≤ 1 → a < 1 → get_or (x ∷ []) a 0 ≡ count_by (λ m. divides m a) (marked 0 (x ∷ []))
 unfolding marked family_where numbers_below divides
-unmarked_alone zero below = refl
-unmarked_alone (suc a) below = absurd (omega (arith, below))
+alone zero zero small below = refl
+alone (suc zero) zero small below = refl
+alone (suc (suc x)) a small below = absurd (omega arith)
+alone x (suc a) small below = absurd (omega arith)
 
-marked_alone : (a : ℕ) → a < 1 → get_or (1 ∷ []) a 0 ≡ count_by (λ m. divides m a) (marked 0 (1 ∷ []))
-unfolding marked family_where numbers_below divides
-marked_alone zero below = refl
-marked_alone (suc a) below = absurd (omega (arith, below))
-
-counts_alone : (table : List ℕ) → length table ≡ 1 → All (λ mark. mark ≤ 1) table → CountsDivisors 0 (marked 0 table)
-    table
+counts_alone : (table : List ℕ) → length table ≡ 1 → All (λ mark. mark ≤ 1) table → CountsDivisors 0 (marked 0 table) table
 counts_alone [] size marks = absurd (omega (arith, size))
 counts_alone (x ∷ y ∷ table) size marks = absurd (omega (arith, size))
-counts_alone (zero ∷ []) size marks = record { size = refl; each = unmarked_alone }
-counts_alone (suc zero ∷ []) size marks = record { size = refl; each = marked_alone }
-counts_alone (suc (suc x) ∷ []) size marks = let few = All-head (λ mark. mark ≤ 1) (suc (suc x)) [] marks in absurd
-    (omega (arith, few))
+counts_alone (x ∷ []) size marks = record { size = refl; each = λ a below. alone x a (All-head (λ mark. mark ≤ 1) x [] marks) below }
 
 pub counts_one : (n : ℕ) (table : List ℕ) → n ≡ 0 → length table ≡ 2 ^ n → All (λ mark. mark ≤ 1) table →
     CountsDivisors n (marked n table) table
@@ -75,49 +62,46 @@ module _ (d : ℕ) (lo hi : List ℕ) (size : length lo ≡ 2 ^ d) where
   marked_low : (x : ℕ) → x < 2 ^ d → has (marked (d + 1) (lo ++ hi)) x ≡ has (join d (marked d lo) (marked d hi)) x
   marked_low x below =
       let double = pow_more 2 d in
-      has-marked (d + 1) (lo ++ hi) x (omega arith)
-      ∙ (ap (λ (v : ℕ). v == 1) (get_or_append_left lo hi 0 x (omega arith)) ∙
-      (sym (has-marked d lo x below) ∙ sym (has-join_low d (marked d lo) (marked d hi) x below)))
+      rw (
+        has-marked (d + 1) (lo ++ hi) x (omega arith),
+        get_or_append_left lo hi 0 x (omega arith),
+        has-join_low d (marked d lo) (marked d hi) x below,
+        has-marked d lo x below,
+      ) refl
 
-  marked_high : (x : ℕ) → x < 2 ^ d → has (marked (d + 1) (lo ++ hi)) (2 ^ d + x) ≡ has
-      (join d (marked d lo) (marked d hi)) (2 ^ d + x)
+  marked_high : (x : ℕ) → x < 2 ^ d → has (marked (d + 1) (lo ++ hi)) (2 ^ d + x) ≡ has (join d (marked d lo) (marked d hi)) (2 ^ d + x)
   marked_high x below =
       let double = pow_more 2 d in
-      has-marked (d + 1) (lo ++ hi) (2 ^ d + x) (omega arith)
-      ∙ (ap (λ (v : ℕ). v == 1) (ap (λ (k : ℕ). get_or (lo ++ hi) (k + x) 0) (sym size) ∙ get_or-append-add lo hi x 0)
-      ∙ (sym (has-marked d hi x below) ∙ sym (has-join_high d (marked d lo) (marked d hi) x
-      (marked_family d lo))))
+      let here : get_or (lo ++ hi) (2 ^ d + x) 0 ≡ get_or hi x 0 = rw size at (get_or-append-add lo hi x 0) in
+      rw (
+        has-marked (d + 1) (lo ++ hi) (2 ^ d + x) (omega arith),
+        here,
+        has-join_high d (marked d lo) (marked d hi) x (marked_family d lo),
+        has-marked d hi x below,
+      ) refl
 
   marked_halves : marked (d + 1) (lo ++ hi) ≡ join d (marked d lo) (marked d hi)
   marked_halves = same_below (d + 1) (marked (d + 1) (lo ++ hi)) (join d (marked d lo) (marked d hi))
-      (marked_family (d + 1) (lo ++ hi)) (IsFamily-join d (marked d lo) (marked d hi) (marked_family d lo)
-      (marked_family d hi))
+      (marked_family (d + 1) (lo ++ hi)) (IsFamily-join d (marked d lo) (marked d hi) (marked_family d lo) (marked_family d hi))
       (λ x below. ⊎_elim (λ less. marked_low x less)
       (λ most. let double = pow_more 2 d in let e : 2 ^ d + (x - 2 ^ d) ≡ x = omega arith in subst
-      (λ (y : ℕ). has (marked (d + 1) (lo ++ hi)) y ≡ has (join d (marked d lo) (marked d hi)) y) e
-      (marked_high (x - 2 ^ d) (omega arith)))
+      (λ (y : ℕ). has (marked (d + 1) (lo ++ hi)) y ≡ has (join d (marked d lo) (marked d hi)) y) e (marked_high (x - 2 ^ d) (omega arith)))
       (cases_lt x (2 ^ d)))
 
   pub counts_halves : (low high sums : List ℕ) → CountsDivisors d (marked d lo) low → CountsDivisors d (marked d hi)
-      high → length sums ≡ length high → ((k : ℕ) → k < length low → get_or sums k 0 ≡ get_or high k 0 + get_or low k
-      0)
+      high → length sums ≡ length high → ((k : ℕ) → k < length low → get_or sums k 0 ≡ get_or high k 0 + get_or low k 0)
       → CountsDivisors (d + 1) (marked (d + 1) (lo ++ hi)) (low ++ sums)
   counts_halves low high sums of_low of_high same each = record {
     size = let double = pow_more 2 d in omega (arith, length-append low sums, of_low.size, of_high.size);
-    each = λ a below. ⊎_elim
-        (λ less. get_or_append_left low sums 0 a (omega (arith, of_low.size)) ∙
-        (of_low.each a less ∙ sym (ap (count_by (λ m. divides m a)) marked_halves
-        ∙ (sym (count_is (join d (marked d lo) (marked d hi)) a) ∙
-        (count_join_low d (marked d lo) (marked d hi) a (marked_family d lo) (marked_family d hi) less ∙ count_is
-        (marked d lo) a)))))
+    each = λ a below. ⊎_elim (λ less. get_or_append_left low sums 0 a (omega (arith, of_low.size)) ∙
+        (of_low.each a less ∙ sym (ap (count_by (λ m. divides m a)) marked_halves ∙ (sym (count_is (join d (marked d lo) (marked d hi)) a) ∙
+        (count_join_low d (marked d lo) (marked d hi) a (marked_family d lo) (marked_family d hi) less ∙ count_is (marked d lo) a)))))
         (λ most. let double = pow_more 2 d in let e : 2 ^ d + (a - 2 ^ d) ≡ a = omega arith in
         subst (λ (y : ℕ). get_or (low ++ sums) y 0 ≡ count_by (λ m. divides m y) (marked (d + 1) (lo ++ hi))) e
-        (at_high (a - 2 ^ d) (omega arith)))
-        (cases_lt a (2 ^ d));
+        (at_high (a - 2 ^ d) (omega arith))) (cases_lt a (2 ^ d));
   }
     where
-      at_high : (x : ℕ) → x < 2 ^ d → get_or (low ++ sums) (2 ^ d + x) 0 ≡ count_by (λ m. divides m (2 ^ d + x))
-          (marked (d + 1) (lo ++ hi))
+      at_high : (x : ℕ) → x < 2 ^ d → get_or (low ++ sums) (2 ^ d + x) 0 ≡ count_by (λ m. divides m (2 ^ d + x)) (marked (d + 1) (lo ++ hi))
       at_high x below =
           let l = of_low.each x below in
           let h = of_high.each x below in
@@ -144,10 +128,8 @@ sums_fit d lo hi low high k small of_low of_high below =
 
 -- a table over one variable more, by its halves
 pub counts_whole : (n : ℕ) (table lo hi low high sums : List ℕ) → n ≢ 0 → table ≡ lo ++ hi → length lo ≡ 2 ^ (n - 1) →
-    CountsDivisors (n - 1) (marked (n - 1) lo) low → CountsDivisors (n - 1) (marked (n - 1) hi) high → length sums ≡
-    length high
-    → ((k : ℕ) → k < length low → get_or sums k 0 ≡ get_or high k 0 + get_or low k 0) → CountsDivisors n
-    (marked n table) (low ++ sums)
+    CountsDivisors (n - 1) (marked (n - 1) lo) low → CountsDivisors (n - 1) (marked (n - 1) hi) high → length sums ≡ length high
+    → ((k : ℕ) → k < length low → get_or sums k 0 ≡ get_or high k 0 + get_or low k 0) → CountsDivisors n (marked n table) (low ++ sums)
 counts_whole n table lo hi low high sums some cut size of_low of_high same each =
     let e : n - 1 + 1 ≡ n = omega arith in
     subst (λ (t : List ℕ). CountsDivisors n (marked n t) (low ++ sums)) (sym cut)

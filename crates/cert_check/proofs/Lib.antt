@@ -1,25 +1,24 @@
 mod Examples
-pub mod Elements
-pub mod Marked
-pub mod Cuts
-pub mod Factors
-pub mod Words
-pub mod Sums
-pub mod Numbers
-pub mod ReadTerms
-pub mod LineForms
-pub mod LinesRead
-pub mod Reversed
-pub mod OverInputs
-pub mod Halves
-pub mod MarkedMonomials
-pub mod CareTables
-pub mod Points
-pub mod FirstFaults
-pub mod JudgedElements
-pub mod JudgedOutputs
-pub mod Vanishing
-pub mod LeadFacts
-pub mod RightOutputs
-pub mod RightElements
-pub mod RightAnswers
+mod Elements
+mod Marked
+mod Cuts
+mod Factors
+mod Sums
+mod ReadTerms
+mod LineForms
+mod LinesRead
+mod Reversed
+mod OverInputs
+mod Halves
+mod MarkedMonomials
+mod CareTables
+mod Points
+mod FirstFaults
+mod JudgedElements
+mod JudgedOutputs
+mod Vanishing
+mod LeadFacts
+mod RightOutputs
+mod RightElements
+mod RightAnswers
+pub mod Verdicts

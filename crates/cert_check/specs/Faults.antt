@@ -1,6 +1,7 @@
 -- The faults of an answer, in the order in which they are looked for. Terms go from the greatest monomial to the least.
-use Rattle.std.specs.Prelude.{ℕ, ◌+◌, Bool, true, false, not, ◌||◌, ◌==◌, nat_lt, List, [], ◌∷◌, ◌++◌, length, map, if◌then◌else◌}
-use Rattle.std.specs.List.{list_any}
+use Rattle.std.specs.Prelude.{ℕ, ◌+◌, Bool, true, false, not, ◌||◌, ◌==◌, nat_lt, List, [], ◌∷◌, ◌++◌, length}
+use Rattle.std.specs.Prelude.{map, take, drop, if◌then◌else◌}
+use Rattle.std.specs.List.{list_any, flat_map}
 use Rattle.lattice.specs.Family.{Family, divides, family_where}
 use Rattle.lattice.specs.Polynomial.{value}
 use Rattle.lattice.specs.Rows.{care_zeros, care_ones}
@@ -18,9 +19,9 @@ abbrev pub Check : Type 0
 Check = Bool × ℕ × Fault
 
 -- the first check that fails
-unfoldable pub first_failed : List Check → Verdict
-first_failed [] = Yes
-first_failed (check ∷ checks) = if check.0 then No check.1 check.2 else first_failed checks
+unfoldable pub first_verdict : List Check → Verdict
+first_verdict [] = Yes
+first_verdict (check ∷ checks) = if check.0 then No check.1 check.2 else first_verdict checks
 
 -- whether the polynomial is not 0 at one of the zeros, or not 1 at one of the ones
 unfoldable pub misses : (zeros ones : Family) → (terms : List ℕ) → Bool
@@ -31,17 +32,12 @@ unfoldable pub is_one_in : (points : Family) → (terms : List ℕ) → Bool
 is_one_in points terms = list_any (λ a. value terms a == 1) points
 
 -- the greatest monomials of the elements
-abbrev pub greatest_in : List ℕ → List ℕ
-greatest_in [] = []
-greatest_in (top ∷ tail) = top ∷ []
-
 unfoldable pub greatest_of : List Given → List ℕ
-greatest_of [] = []
-greatest_of (element ∷ elements) = greatest_in element.terms ++ greatest_of elements
+greatest_of elements = flat_map (λ element. take 1 element.terms) elements
 
 -- whether a monomial divides one of the others, or is divided by it
-unfoldable pub meets : (others : List ℕ) → ℕ → Bool
-meets others m = list_any (λ t. divides t m || divides m t) others
+unfoldable pub is_comparable : (others : List ℕ) → ℕ → Bool
+is_comparable others m = list_any (λ t. divides t m || divides m t) others
 
 -- whether a monomial is less than the last of the others
 unfoldable pub is_below_last : (others : List ℕ) → ℕ → Bool
@@ -49,10 +45,10 @@ is_below_last [] m = false
 is_below_last (t ∷ []) m = nat_lt m t
 is_below_last (t ∷ u ∷ others) m = is_below_last (u ∷ others) m
 
--- whether an element is zero, or its greatest monomial meets one of the earlier elements
+-- whether an element is zero, or its greatest monomial is_comparable one of the earlier elements
 unfoldable pub has_no_lead : (earlier : List ℕ) → (terms : List ℕ) → Bool
 has_no_lead earlier [] = true
-has_no_lead earlier (top ∷ tail) = meets earlier top
+has_no_lead earlier (top ∷ tail) = is_comparable earlier top
 
 -- whether the greatest monomial of an element is less than that of the element before it
 unfoldable pub is_out_of_order : (earlier : List ℕ) → (terms : List ℕ) → Bool
@@ -70,25 +66,24 @@ miscounts n points tops = not (length (family_where n (λ m. not (is_divided top
 abbrev pub is_reducible : (tops : List ℕ) → (terms : List ℕ) → Bool
 is_reducible tops terms = list_any (is_divided tops) terms
 
--- the terms but the greatest
-abbrev pub tail_of : List ℕ → List ℕ
-tail_of [] = []
-tail_of (top ∷ tail) = tail
-
 -- of an element, behind those with these greatest monomials
 abbrev pub element_checks : (points : Family) → (earlier : List ℕ) → Given → List Check
 element_checks points earlier element =
-    (is_one_in points element.terms, element.line, NotZero) ∷ (has_no_lead earlier element.terms, element.line, Leads) ∷ (is_out_of_order earlier element.terms, element.line, Order) ∷ []
+    (is_one_in points element.terms, element.line, NotZero)
+    ∷ (has_no_lead earlier element.terms, element.line, Leads)
+    ∷ (is_out_of_order earlier element.terms, element.line, Order) ∷ []
 
 -- of each element in turn
 unfoldable pub basis_checks : (points : Family) → (earlier : List ℕ) → List Given → List Check
 basis_checks points earlier [] = []
-basis_checks points earlier (element ∷ elements) = element_checks points earlier element ++ basis_checks points (earlier ++ greatest_in element.terms) elements
+basis_checks points earlier (element ∷ elements) =
+    element_checks points earlier element ++ basis_checks points (earlier ++ take 1 element.terms) elements
 
 -- that nothing can be reduced: of the polynomial, and of each element in turn but for its greatest monomial
 unfoldable pub reduced_checks : (tops : List ℕ) → GivenOutput → List Check
 reduced_checks tops given =
-    (is_reducible tops given.poly.terms, given.poly.line, Reducible) ∷ map (λ element. (is_reducible tops (tail_of element.terms), element.line, Reducible)) given.basis
+    (is_reducible tops given.poly.terms, given.poly.line, Reducible)
+    ∷ map (λ element. (is_reducible tops (drop 1 element.terms), element.line, Reducible)) given.basis
 
 -- of an output with these care points
 unfoldable pub output_checks : ℕ → (zeros ones points : Family) → GivenOutput → List Check
@@ -101,9 +96,10 @@ output_checks n zeros ones points given =
 unfoldable pub checks_from : Pla → (output : ℕ) → List GivenOutput → List Check
 checks_from p output [] = []
 checks_from p output (given ∷ answer) =
-    output_checks p.inputs (care_zeros p.inputs p.kind p.rows output) (care_ones p.inputs p.kind p.rows output) (care_set p.inputs p.kind p.rows output) given
+    output_checks p.inputs (care_zeros p.inputs p.kind p.rows output) (care_ones p.inputs p.kind p.rows output)
+    (care_set p.inputs p.kind p.rows output) given
     ++ checks_from p (output + 1) answer
 
 -- the verdict on an answer: the first fault, if there is one
 abbrev pub verdict_on : Pla → List GivenOutput → Verdict
-verdict_on p answer = first_failed (checks_from p 1 answer)
+verdict_on p answer = first_verdict (checks_from p 1 answer)

@@ -3,3 +3,4 @@ pub mod Right
 pub mod Faults
 pub mod Marks
 pub mod Parts
+pub mod Causes

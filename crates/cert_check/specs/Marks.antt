@@ -5,7 +5,7 @@ use Rattle.lattice.specs.Family.{Family, divides, has, family_where, IsFamily}
 use Rattle.lattice.specs.Rows.{in_cube, is_one, is_zero}
 use Rattle.lattice.specs.declared.kind.Kind.{Kind}
 use Rattle.lattice.specs.declared.row.Row.{Row}
-use Rattle.cert_check.specs.declared.care.Marks.{Marks}
+use Rattle.pla_reader.specs.declared.row.Marks.{Marks}
 use Rattle.cert_check.specs.declared.care.Care.{Care}
 
 -- bit j of the mark is set where a row with the point has it in the mask

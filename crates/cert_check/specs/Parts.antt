@@ -1,24 +1,21 @@
 -- What the parts of the reader and of the checker answer to each other. No public clause has these words.
-use Rattle.std.specs.Prelude.{◌≡◌, ℕ, Option, Some, Result, Ok, Err}
+use Rattle.std.specs.Prelude.{◌≡◌, ℕ, List, [], Option, None, Some, Result, Ok, Err}
+use Rattle.std.specs.Borrow.{Bor}
 use Rattle.cert_check.specs.declared.refusal.AnswerWhy.{AnswerWhy}
 use Rattle.cert_check.specs.declared.refusal.AnswerRefusal.{AnswerRefusal}
 use Rattle.cert_check.specs.declared.refusal.AnswerRefusal.TheVariants as whole
-use Rattle.cert_check.specs.declared.refusal.LineRefusal.{LineRefusal}
-use Rattle.cert_check.specs.declared.refusal.LineRefusal.TheVariants.{Bad, Memory}
+use Rattle.pla_reader.specs.declared.refusal.LineRefusal.{LineRefusal}
+use Rattle.pla_reader.specs.declared.refusal.LineRefusal.TheVariants.{Bad, Memory}
+use Rattle.cert_check.specs.Reading.{parts}
 use Rattle.cert_check.specs.declared.refusal.Verdict.{Verdict}
 use Rattle.cert_check.specs.declared.refusal.Verdict.TheVariants.{Yes, No}
 use Rattle.cert_check.specs.declared.refusal.Stop.{Stop}
 use Rattle.cert_check.specs.declared.refusal.Stop.TheVariants as stop
 
--- the refusal of a line, with its number
-abbrev pub refused : LineRefusal → ℕ → AnswerRefusal
-refused (Bad why) line = whole.Bad line why
-refused Memory line = whole.Memory
-
--- the line has this fault, or memory ran out
-abbrev pub Stops : LineRefusal → Option AnswerWhy → Type 0
-Stops (Bad why) fault = fault ≡ Some why
-Stops Memory fault = Unit {0}
+-- the refusal of the line of this number
+abbrev pub answer_refusal : LineRefusal AnswerWhy → ℕ → AnswerRefusal
+answer_refusal (Bad why) line = whole.Bad line why
+answer_refusal Memory line = whole.Memory
 
 -- this is the first fault of an answer, or memory ran out
 abbrev pub Fails : Stop → Verdict → Type 0
@@ -29,3 +26,8 @@ Fails stop.Memory verdict = Unit {0}
 abbrev pub Judges : {T : Type 0} → Result T Stop → Verdict → Type 0
 Judges (Ok x) verdict = verdict ≡ Yes
 Judges (Err e) verdict = Fails e verdict
+
+-- the parts of what is left of a text, if anything is
+abbrev pub parts_left : (byte : ℕ) → Option (Bor (List ℕ)) → List (List ℕ)
+parts_left byte None = []
+parts_left byte (Some rest) = parts byte rest.now

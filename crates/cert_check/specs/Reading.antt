@@ -1,12 +1,15 @@
 -- What a text answers, or why it is refused, line by line. What stands on a line has no line feed, and no carriage return
 -- before it.
-use Rattle.std.specs.Prelude.{◌≡◌, ℕ, ◌+◌, ◌-◌, ◌^◌, Bool, true, false, not, ◌&&◌, ◌||◌, ◌==◌, nat_lt, nat_le, List, [], ◌∷◌, ◌++◌, length, map, sum_by, codes, Option, Some, None, Result, Ok, Err, if◌then◌else◌}
+use Rattle.std.specs.Prelude.{◌≡◌, ℕ, ◌+◌, ◌-◌, ◌^◌, Bool, true, false, not, ◌&&◌, ◌||◌, ◌==◌, nat_lt, nat_le, List, [], ◌∷◌, ◌++◌, length}
+use Rattle.std.specs.Prelude.{map, drop, slice_index_or, sum_by, codes, Option, Some, None, Result, Ok, Err, if◌then◌else◌}
 use Rattle.std.specs.List.{filter, list_all, slice_split, slice_get, position_or_len}
-use Rattle.std.specs.Option.{option_map_or}
+use Rattle.std.specs.Option.{option_map_or, option_or}
 use Rattle.std.specs.Str.{bytes_eq}
 use Rattle.lattice.specs.Family.{includes}
 use Rattle.lattice.specs.Cofactors.{is_empty}
-use Rattle.pla_reader.specs.Lines.{lines_of, without_last}
+use Rattle.pla_reader.specs.Lines.{lines_of}
+use Rattle.std.specs.Io.BufRead.{strip_last}
+use Rattle.pla_reader.specs.Grammar.{first_failed}
 use Rattle.pla_reader.specs.PlainNames.{is_plain}
 use Rattle.pla_reader.specs.declared.pla.Pla.{Pla}
 use Rattle.anf_printer.specs.Text.{input_names, output_names}
@@ -21,7 +24,7 @@ use Rattle.cert_check.specs.declared.refusal.AnswerRefusal.TheVariants.{Bad, Mem
 
 -- what stands on a line
 unfoldable pub bare : List ℕ → List ℕ
-bare line = without_last 13 (without_last 10 line)
+bare line = strip_last 13 (strip_last 10 line)
 
 -- the parts between single bytes of this kind
 abbrev pub parts : ℕ → List ℕ → List (List ℕ)
@@ -42,12 +45,9 @@ is_sum (term ∷ []) = is_term term
 is_sum (term ∷ joint ∷ rest) = is_term term && (bytes_eq joint (codes "+") && is_sum rest)
 
 -- the right side is 0, or a sum
-abbrev pub is_zero : List (List ℕ) → Bool
-is_zero (word ∷ []) = bytes_eq word (codes "0")
-is_zero _ = false
-
 abbrev pub is_right : List (List ℕ) → Bool
-is_right right = is_zero right || is_sum right
+is_right (word ∷ []) = bytes_eq word (codes "0") || is_sum (word ∷ [])
+is_right right = is_sum right
 
 -- the left side is 0, or a plain name
 abbrev pub is_element : List ℕ → Bool
@@ -64,16 +64,14 @@ is_line _ = false
 -- ---- what a line says
 
 abbrev pub left_of : List (List ℕ) → List ℕ
-left_of [] = []
-left_of (left ∷ rest) = left
+left_of line = slice_index_or line 0 []
 
 abbrev pub right_of : List (List ℕ) → List (List ℕ)
-right_of (left ∷ equals ∷ right) = right
-right_of _ = []
+right_of line = drop 2 line
 
 -- the terms of a right side
-unfoldable pub terms_of : List (List ℕ) → List (List ℕ)
-terms_of right = filter is_term right
+unfoldable pub terms_in : List (List ℕ) → List (List ℕ)
+terms_in right = filter is_term right
 
 -- the factors of a term; 1 has none
 unfoldable pub factors_of : List ℕ → List (List ℕ)
@@ -84,15 +82,15 @@ abbrev pub place_of : List (List ℕ) → List ℕ → ℕ
 place_of names name = position_or_len (λ other. bytes_eq other name) names
 
 -- the monomial of these factors: of n names, the one at place i is that of the variable of weight 2 ^ (n - 1 - i)
-unfoldable pub product_of : List (List ℕ) → List (List ℕ) → ℕ
-product_of names factors = sum_by (λ name. 2 ^ (length names - 1 - place_of names name)) factors
+unfoldable pub factors_product : List (List ℕ) → List (List ℕ) → ℕ
+factors_product names factors = sum_by (λ name. 2 ^ (length names - 1 - place_of names name)) factors
 
 unfoldable pub monomial_of : List (List ℕ) → List ℕ → ℕ
-monomial_of names term = product_of names (factors_of term)
+monomial_of names term = factors_product names (factors_of term)
 
 -- the monomials of a right side, in the order of its terms
 unfoldable pub monomials_of : List (List ℕ) → List (List ℕ) → List ℕ
-monomials_of names right = map (monomial_of names) (terms_of right)
+monomials_of names right = map (monomial_of names) (terms_in right)
 
 -- ---- what is wrong with a line
 
@@ -111,11 +109,6 @@ are_ordered names limit [] = true
 are_ordered names limit (term ∷ terms) =
     ascends_from names 0 (factors_of term) && (nat_lt (monomial_of names term) limit && are_ordered names (monomial_of names term) terms)
 
--- the first check that fails
-abbrev pub first_failed : List (Bool × AnswerWhy) → Option AnswerWhy
-first_failed [] = None
-first_failed (check ∷ checks) = if check.0 then Some check.1 else first_failed checks
-
 -- whether the name is that of the output behind so many
 abbrev pub is_next : (outs : List (List ℕ)) → (before : ℕ) → (name : List ℕ) → Bool
 is_next outs before name = option_map_or (λ next. bytes_eq next name) (slice_get outs before) false
@@ -125,25 +118,18 @@ unfoldable pub left_fault : (outs : List (List ℕ)) → (before : ℕ) → (lef
 left_fault outs before left = first_failed (
     (is_element left && before == 0, MissingOutput)
     ∷ (not (is_element left) && (includes outs left && not (is_next outs before left)), MissingOutput)
-    ∷ (not (is_element left) && not (includes outs left), UnknownName)
-    ∷ [])
+    ∷ (not (is_element left) && not (includes outs left), UnknownName) ∷ [])
 
 -- what is wrong with a right side
 unfoldable pub right_fault : (ins : List (List ℕ)) → (right : List (List ℕ)) → Option AnswerWhy
 right_fault ins right = first_failed (
-    (not (are_known ins (terms_of right)), UnknownName)
-    ∷ (not (are_ordered ins (2 ^ length ins) (terms_of right)), TermOrder)
-    ∷ [])
-
--- the first of the two
-abbrev pub or_else : Option AnswerWhy → Option AnswerWhy → Option AnswerWhy
-or_else None other = other
-or_else (Some why) other = Some why
+    (not (are_known ins (terms_in right)), UnknownName)
+    ∷ (not (are_ordered ins (2 ^ length ins) (terms_in right)), TermOrder) ∷ [])
 
 -- what is wrong with a line of these words
 unfoldable pub line_fault : (ins outs : List (List ℕ)) → (before : ℕ) → (line : List (List ℕ)) → Option AnswerWhy
 line_fault ins outs before line =
-    if is_line line then or_else (left_fault outs before (left_of line)) (right_fault ins (right_of line)) else Some BadLine
+    if is_line line then option_or (left_fault outs before (left_of line)) (right_fault ins (right_of line)) else Some BadLine
 
 -- ---- the whole
 
@@ -153,15 +139,11 @@ with_element [] element = []
 with_element (output ∷ []) element = record { poly = output.poly; basis = output.basis ++ element ∷ [] } ∷ []
 with_element (output ∷ next ∷ outputs) element = output ∷ with_element (next ∷ outputs) element
 
--- an output without elements so far
-abbrev pub with_output : Given → GivenOutput
-with_output given = record { poly = given; basis = [] }
-
--- what was read, with one more line of these words
+-- what was read, with one more line of these words: an element of the last output, or an output without elements so far
 unfoldable pub with_line : (ins : List (List ℕ)) → List GivenOutput → (number : ℕ) → (line : List (List ℕ)) → List GivenOutput
 with_line ins read number line =
     let given : Given = record { terms = monomials_of ins (right_of line); line = number } in
-    if is_element (left_of line) then with_element read given else read ++ with_output given ∷ []
+    if is_element (left_of line) then with_element read given else read ++ record { poly = given; basis = [] } ∷ []
 
 -- an answer, or the number of the first bad line and the first check that it fails
 abbrev pub Reading : Type 0
@@ -177,14 +159,15 @@ unfoldable pub read_on : (ins outs : List (List ℕ)) → (count : ℕ) → List
 read_on ins outs count read [] = if nat_lt (length read) (length outs) then Err (count, MissingOutput) else Ok read
 read_on ins outs count read (line ∷ lines) =
     if is_empty (bare line) then read_on ins outs (count + 1) read lines
-    else unless (line_fault ins outs (length read) (words (bare line))) (count + 1) (read_on ins outs (count + 1) (with_line ins read (count + 1) (words (bare line))) lines)
+    else unless (line_fault ins outs (length read) (words (bare line))) (count + 1)
+    (read_on ins outs (count + 1) (with_line ins read (count + 1) (words (bare line))) lines)
 
 -- what the text answers for a description, or why it is refused
-abbrev pub answer_of : Pla → List ℕ → Reading
-answer_of p text = read_on (input_names p) (output_names p) 0 [] (lines_of text)
+abbrev pub answer_reading : Pla → List ℕ → Reading
+answer_reading p text = read_on (input_names p) (output_names p) 0 [] (lines_of text)
 
 -- the result gives what was read, unless memory ran out
-abbrev pub Answers : Result (List GivenOutput) AnswerRefusal → Reading → Type 0
-Answers (Ok answer) reading = reading ≡ Ok answer
-Answers (Err (Bad line why)) reading = reading ≡ Err (line, why)
-Answers (Err Memory) reading = Unit {0}
+abbrev pub GivesAnswer : Result (List GivenOutput) AnswerRefusal → Reading → Type 0
+GivesAnswer (Ok answer) reading = reading ≡ Ok answer
+GivesAnswer (Err (Bad line why)) reading = reading ≡ Err (line, why)
+GivesAnswer (Err Memory) reading = Unit {0}

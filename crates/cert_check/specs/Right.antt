@@ -15,14 +15,14 @@ abbrev pub polynomial : Given → Family
 polynomial given = reverse given.terms
 
 -- polynomials over so many inputs
-pub record IsOver (inputs : ℕ) (output : GivenOutput) : Type 0 where
+pub record IsOutputOver (inputs : ℕ) (output : GivenOutput) : Type 0 where
   pub poly : IsFamily inputs (polynomial output.poly)
   pub basis : All (λ element. IsFamily inputs (polynomial element)) output.basis
 
 -- an answer for the outputs of a description, by polynomials over its inputs
 pub record IsAnswerFor (p : Pla) (answer : List GivenOutput) : Type 0 where
   pub count : length answer ≡ p.outputs
-  pub polynomials : All (IsOver p.inputs) answer
+  pub polynomials : All (IsOutputOver p.inputs) answer
 
 -- the polynomial of the output is least, and its list is the reduced basis of the care points
 pub record IsRightFor (p : Pla) (output : ℕ) (given : GivenOutput) : Type 0 where

@@ -31,4 +31,4 @@ pub struct GivenOutput {
 }
 
 /// An answer: what it gives for each output, in order.
-pub type Answer = Seq<GivenOutput>;
+pub type GivenAnswer = Seq<GivenOutput>;

@@ -6,15 +6,8 @@ ghost use Rattle.lattice.specs.declared.row.Row.{Row};
 ghost use Rattle.cert_check.specs.Marks.{MarksPoint, MarksAll, MarksCare, care_by};
 
 use lattice::{Kind, Mono, Row};
+use pla_reader::Marks;
 use std::alloc::{AllocError, Global};
-
-/// What the rows say of a point: the masks of the outputs that have it in ON, in OFF and in DC.
-#[derive(Clone, Copy)]
-pub(crate) struct Marks {
-    pub on: u64,
-    pub off: u64,
-    pub dc: u64,
-}
 
 /// Whether a point is a care point of value 0, and of value 1. Where rows contradict each other it may be both.
 #[derive(Clone, Copy)]
@@ -23,7 +16,7 @@ pub(crate) struct Care {
     pub one: bool,
 }
 
-/// What the rows say of the point `a`.
+/// What the rows say of the point `a`: the outputs that have it in ON, in OFF and in DC.
 fn marks_of(rows: &[Row], a: u64) -> Marks
     ensures { MarksPoint rows.now a result }
 {

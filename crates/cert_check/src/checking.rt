@@ -1,16 +1,16 @@
 //! Judging an answer.
-ghost use Rattle.std.specs.Prelude.{not, ◌||◌, ◌∷◌, ◌≡◌, ◌+◌, ◌^◌, ◌<◌, ◌≤◌, ◌↔◌, ◌++◌, [], List, ℕ, length, map, MatchResult, IfOk, OnOk};
+ghost use Rattle.std.specs.Prelude.{not, ◌||◌, ◌∷◌, ◌≡◌, ◌+◌, ◌^◌, ◌<◌, ◌≤◌, ◌↔◌, ◌++◌, [], List, ℕ, length, map, take, drop, MatchResult, IfOk, OnOk};
 ghost use Rattle.std.specs.List.{All, list_any};
 ghost use Rattle.lattice.specs.Family.{Family, IsFamily, divides, family_where, has, union_of};
 ghost use Rattle.lattice.specs.declared.row.Row.{Row};
 ghost use Rattle.lattice.specs.Rows.{care_zeros, care_ones};
 ghost use Rattle.lattice.specs.WorkingLists.{care_set};
 ghost use Rattle.cert_check.specs.Marks.{MarksAll, MarksCare, CountsDivisors};
-ghost use Rattle.cert_check.specs.Right.{polynomial, IsOver, IsAnswerFor, IsRight};
-ghost use Rattle.cert_check.specs.Faults.{first_failed, misses, is_one_in, greatest_in, greatest_of, meets, is_below_last, is_divided, miscounts, is_reducible, tail_of, element_checks, basis_checks, reduced_checks, output_checks, checks_from, verdict_on};
+ghost use Rattle.cert_check.specs.Right.{polynomial, IsOutputOver, IsAnswerFor, IsRight};
+ghost use Rattle.cert_check.specs.Faults.{first_verdict, misses, is_one_in, greatest_of, is_comparable, is_below_last, is_divided, miscounts, is_reducible, element_checks, basis_checks, reduced_checks, output_checks, checks_from, verdict_on};
 ghost use Rattle.cert_check.specs.Parts.{Judges};
 
-use crate::answer::{Answer, Given, GivenOutput};
+use crate::answer::{Given, GivenAnswer, GivenOutput};
 use crate::care::{Care, care_of, marks_of_all};
 use crate::counts::counts_of;
 use crate::refusal::{CheckRefusal, Fault, Stop, Verdict};
@@ -71,9 +71,9 @@ fn is_reducible(counts: &[u16], terms: &[Mono]) -> bool
 }
 
 /// Whether the monomial divides one of the others, or is divided by it.
-#[tactic(auto, unfolding(crate::specs::Faults::meets))]
-fn meets(others: &[Mono], m: Mono) -> bool
-    ensures { result ≡ meets others.now m }
+#[tactic(auto, unfolding(crate::specs::Faults::is_comparable))]
+fn is_comparable(others: &[Mono], m: Mono) -> bool
+    ensures { result ≡ is_comparable others.now m }
 {
     others
         .iter()
@@ -100,8 +100,8 @@ fn judge_element(
 ) -> Result<Mono, Stop>
     requires few { inputs ≤ 14 }
     requires family { IsFamily inputs (polynomial element.now) }
-    ensures top { IfOk result (λ top. greatest_in element.now.terms ≡ top ∷ []) }
-    ensures checks { (zeros ones : Family) → MarksCare inputs zeros ones care.now → Judges result (first_failed (element_checks (union_of inputs zeros ones) earlier.now element.now)) }
+    ensures top { IfOk result (λ top. take 1 element.now.terms ≡ top ∷ []) }
+    ensures checks { (zeros ones : Family) → MarksCare inputs zeros ones care.now → Judges result (first_verdict (element_checks (union_of inputs zeros ones) earlier.now element.now)) }
 {
     let terms = element.terms.as_slice();
     let counts = counts_of(alloc, inputs, terms)?;
@@ -111,7 +111,7 @@ fn judge_element(
     let [top, ..] = terms else {
         return Err(element.fault(Fault::Leads));
     };
-    if meets(earlier, *top) {
+    if is_comparable(earlier, *top) {
         return Err(element.fault(Fault::Leads));
     }
     if is_below_last(earlier, *top) {
@@ -130,7 +130,7 @@ fn judge_elements(
     requires few { inputs ≤ 14 }
     requires families { All (λ element. IsFamily inputs (polynomial element)) elements.now }
     ensures tops { IfOk result (λ tops. tops.items ≡ greatest_of elements.now) }
-    ensures checks { (zeros ones : Family) → MarksCare inputs zeros ones care.now → Judges result (first_failed (basis_checks (union_of inputs zeros ones) [] elements.now)) }
+    ensures checks { (zeros ones : Family) → MarksCare inputs zeros ones care.now → Judges result (first_verdict (basis_checks (union_of inputs zeros ones) [] elements.now)) }
 {
     let mut tops = Vec::new(alloc);
     for element in elements {
@@ -142,7 +142,7 @@ fn judge_elements(
 
 /// The terms but the greatest.
 fn tail_of(terms: &[Mono]) -> &[Mono]
-    ensures { result.now ≡ tail_of terms.now }
+    ensures { result.now ≡ drop 1 terms.now }
 {
     match terms {
         [_, tail @ ..] => tail,
@@ -154,7 +154,7 @@ fn tail_of(terms: &[Mono]) -> &[Mono]
 fn judge_reduced(counts: &[u16], given: &GivenOutput) -> Result<(), Stop>
     requires poly { All (λ m. m < length counts.now) given.now.poly.terms }
     requires basis { All (λ element. All (λ m. m < length counts.now) element.terms) given.now.basis }
-    ensures { (n : ℕ) (tops : List ℕ) → CountsDivisors n (family_where n (has tops)) counts.now → Judges result (first_failed (reduced_checks tops given.now)) }
+    ensures { (n : ℕ) (tops : List ℕ) → CountsDivisors n (family_where n (has tops)) counts.now → Judges result (first_verdict (reduced_checks tops given.now)) }
 {
     if is_reducible(counts, given.poly.terms.as_slice()) {
         return Err(given.poly.fault(Fault::Reducible));
@@ -170,8 +170,8 @@ fn judge_reduced(counts: &[u16], given: &GivenOutput) -> Result<(), Stop>
 /// Judges what is given for an output with these care points.
 fn judge_output(alloc: Global, inputs: u32, care: &[Care], given: &GivenOutput) -> Result<(), Stop>
     requires few { inputs ≤ 14 }
-    requires over { IsOver inputs given.now }
-    ensures { (zeros ones : Family) → MarksCare inputs zeros ones care.now → Judges result (first_failed (output_checks inputs zeros ones (union_of inputs zeros ones) given.now)) }
+    requires over { IsOutputOver inputs given.now }
+    ensures { (zeros ones : Family) → MarksCare inputs zeros ones care.now → Judges result (first_verdict (output_checks inputs zeros ones (union_of inputs zeros ones) given.now)) }
 {
     let values = counts_of(alloc, inputs, given.poly.terms.as_slice())?;
     if misses(care, &values) {
@@ -208,7 +208,7 @@ fn judge(alloc: Global, p: &Pla, answer: &[GivenOutput]) -> Result<(), Stop>
 /// each element in turn a value, its greatest monomial beside those of the earlier ones, and its order; the number of
 /// monomials that no greatest monomial divides; a monomial of the polynomial, and then of each element, that can be reduced.
 /// `TooWide` comes where there are more than 14 inputs.
-pub fn check(alloc: Global, p: &Pla, a: &Answer) -> Result<Verdict, CheckRefusal>
+pub fn check(alloc: Global, p: &Pla, a: &GivenAnswer) -> Result<Verdict, CheckRefusal>
     requires { IsAnswerFor p.now a.now }
     ensures right { IfOk result (λ verdict. (verdict ≡ Verdict.Yes) ↔ IsRight p.now a.now) }
     ensures first { IfOk result (λ verdict. verdict ≡ verdict_on p.now a.now) }

@@ -1,19 +1,11 @@
 //! The form of a line: its two sides, and the terms on the right.
 ghost use Rattle.std.specs.Prelude.{◌≡◌, ◌∷◌, true, false, codes, MatchOption};
 ghost use Rattle.std.specs.List.{list_all};
-ghost use Rattle.std.specs.Str.{bytes_eq};
 ghost use Rattle.pla_reader.specs.PlainNames.{is_plain};
 ghost use Rattle.cert_check.specs.Reading.{parts, words, is_term, is_sum, is_right, is_element, is_left, is_line};
 
-use crate::lines::split_word;
-use pla_reader::is_plain;
-
-/// Whether the word is the text.
-pub(crate) fn is_word(word: &[u8], text: &str) -> bool
-    ensures { result ≡ bytes_eq word.now text.now }
-{
-    word == text.as_bytes()
-}
+use crate::lines::split_first;
+use pla_reader::{is_plain, is_word};
 
 /// Whether the names that are joined by `*` are plain.
 fn are_plain(factors: &[u8]) -> bool
@@ -36,19 +28,22 @@ pub(crate) fn is_term(word: &[u8]) -> bool
 fn is_sum(right: &[u8]) -> bool
     ensures { result ≡ is_sum (words right.now) }
 {
-    let mut term_next = true;
-    for word in right.split(|byte| *byte == b' ') {
-        let fits = if term_next {
-            is_term(word)
-        } else {
-            is_word(word, "+")
-        };
-        if !fits {
+    let mut rest = Some(right);
+    while let Some(text) = rest {
+        let (term, after) = split_first(text, b' ');
+        if !is_term(term) {
             return false;
         }
-        term_next = !term_next;
+        let Some(after) = after else {
+            return true;
+        };
+        let (joint, next) = split_first(after, b' ');
+        if !is_word(joint, "+") {
+            return false;
+        }
+        rest = next;
     }
-    !term_next
+    false
 }
 
 /// Whether the right side of a line is `0`, or terms joined by ` + `.
@@ -78,8 +73,9 @@ pub(crate) fn sides(line: &[u8]) -> Option<(&[u8], &[u8])>
     ensures { MatchOption result (is_line (words line.now) ≡ false)
         (λ r. (is_line (words line.now) ≡ true) × (words line.now ≡ r.0.now ∷ codes "=" ∷ words r.1.now)) }
 {
-    let (left, rest) = split_word(line)?;
-    let (equals, right) = split_word(rest)?;
+    let (left, rest) = split_first(line, b' ');
+    let (equals, right) = split_first(rest?, b' ');
+    let right = right?;
     if is_left(left) && is_word(equals, "=") && is_right(right) {
         Some((left, right))
     } else {

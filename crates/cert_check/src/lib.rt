@@ -11,7 +11,7 @@ mod reading;
 mod refusal;
 mod terms;
 
-pub use crate::answer::{Answer, Given, GivenOutput};
+pub use crate::answer::{Given, GivenAnswer, GivenOutput};
 pub use crate::checking::{MOST_INPUTS, check};
 pub use crate::reading::read_answer;
 pub use crate::refusal::{AnswerRefusal, AnswerWhy, CheckRefusal, Fault, Verdict};

@@ -1,6 +1,7 @@
 //! What stands on a line of an answer, and its words.
-ghost use Rattle.std.specs.Prelude.{◌≡◌, ◌∷◌, [], MatchOption};
-ghost use Rattle.cert_check.specs.Reading.{bare, words};
+ghost use Rattle.std.specs.Prelude.{◌≡◌, ◌<◌, ◌∷◌, IfSome, length};
+ghost use Rattle.cert_check.specs.Reading.{bare, parts};
+ghost use Rattle.cert_check.specs.Parts.{parts_left};
 
 use pla_reader::without_last;
 
@@ -12,10 +13,13 @@ pub(crate) fn bare(line: &[u8]) -> &[u8]
     without_last(without_last(line, b'\n'), b'\r')
 }
 
-/// The first word of a line, and what follows the space behind it; None where there is no space.
-pub(crate) fn split_word(line: &[u8]) -> Option<(&[u8], &[u8])>
-    ensures { MatchOption result (words line.now ≡ line.now ∷ []) (λ r. words line.now ≡ r.0.now ∷ words r.1.now) }
+/// The text up to the first such byte, and what follows it; None where there is no such byte.
+pub(crate) fn split_first(text: &[u8], byte: u8) -> (&[u8], Option<&[u8]>)
+    ensures first { parts byte text.now ≡ result.0.now ∷ parts_left byte result.1 }
+    ensures less { IfSome result.1 (λ rest. length rest.now < length text.now) }
 {
-    let end = line.iter().position(|byte| *byte == b' ')?;
-    Some((&line[..end], &line[end + 1..]))
+    match text.iter().position(|b| *b == byte) {
+        Some(end) => (&text[..end], Some(&text[end + 1..])),
+        None => (text, None),
+    }
 }

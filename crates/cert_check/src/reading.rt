@@ -1,18 +1,19 @@
 //! Reading an answer from bytes.
 ghost use Rattle.std.specs.Prelude.{◌≡◌, ◌<◌, ◌≤◌, ◌^◌, [], length, IfOk, MatchResult, Some, None};
-ghost use Rattle.cert_check.specs.Reading.{words, is_next, left_fault, line_fault, with_element, with_line, read_on, answer_of, Answers};
+ghost use Rattle.cert_check.specs.Reading.{words, is_next, left_fault, line_fault, with_element, with_line, read_on, answer_reading, GivesAnswer};
 ghost use Rattle.pla_reader.specs.Lines.{lines_of};
 ghost use Rattle.cert_check.specs.Right.{IsAnswerFor};
-ghost use Rattle.cert_check.specs.Parts.{Stops};
+ghost use Rattle.pla_reader.specs.Parts.{Stops};
+ghost use Rattle.lattice.specs.declared.limits.TheConstants.{MAX_VARS};
 
-use crate::answer::{Answer, Given, GivenOutput};
+use crate::answer::{Given, GivenAnswer, GivenOutput};
 use crate::form::{is_element, sides};
 use crate::lines::bare;
-use crate::refusal::{AnswerRefusal, AnswerWhy, LineRefusal};
-use crate::terms::{includes, read_right};
+use crate::refusal::{AnswerRefusal, AnswerWhy};
+use crate::terms::read_right;
 use anf_printer::{names_in_place, printed};
 use lattice::{Memory, Name, Seq};
-use pla_reader::{Pla, split_line};
+use pla_reader::{LineRefusal, Pla, includes, split_line};
 use std::alloc::Global;
 
 /// Whether the name is that of the output behind so many.
@@ -64,8 +65,8 @@ fn add_line(
     outputs: &mut Vec<GivenOutput>,
     number: u32,
     line: &[u8],
-) -> Result<(), LineRefusal>
-    requires { length ins.now ≤ 62 }
+) -> Result<(), LineRefusal<AnswerWhy>>
+    requires { length ins.now ≤ MAX_VARS }
     ensures { MatchResult result
         (λ _. (line_fault ins.now outs.now (length outputs.old.items) (words line.now) ≡ None) × (outputs.new.items ≡ with_line ins.now outputs.old.items number (words line.now)))
         (λ e. Stops e (line_fault ins.now outs.now (length outputs.old.items) (words line.now))) }
@@ -95,10 +96,10 @@ fn read_lines(
     ins: &[Name],
     outs: &[Name],
     text: &[u8],
-) -> Result<Answer, AnswerRefusal>
-    requires few { length ins.now ≤ 62 }
+) -> Result<GivenAnswer, AnswerRefusal>
+    requires few { length ins.now ≤ MAX_VARS }
     requires short { length text.now < 2 ^ 32 }
-    ensures { Answers result (read_on ins.now outs.now 0 [] (lines_of text.now)) }
+    ensures { GivesAnswer result (read_on ins.now outs.now 0 [] (lines_of text.now)) }
 {
     let mut outputs = Vec::new(alloc);
     let mut count = 0;
@@ -111,7 +112,7 @@ fn read_lines(
         if !line.is_empty() {
             match add_line(alloc, ins, outs, &mut outputs, count, line) {
                 Ok(()) => {}
-                Err(refusal) => return Err(refusal.at(count)),
+                Err(refusal) => return Err(AnswerRefusal::of_line(refusal, count)),
             }
         }
     }
@@ -121,7 +122,7 @@ fn read_lines(
             why: AnswerWhy::MissingOutput,
         });
     }
-    Ok(Answer::from_vec(outputs))
+    Ok(GivenAnswer::from_vec(outputs))
 }
 
 /// Reads an answer for the description: for each output in order its line, and behind it the lines of its basis elements.
@@ -130,9 +131,9 @@ fn read_lines(
 /// element. R is `0`, or terms joined by ` + `, from the greatest to the least. A term is `1`, or printed names of inputs
 /// joined by `*`, in the order of the inputs. Empty lines are skipped and counted. `Bad` has the first bad line and the first
 /// check that it fails.
-pub fn read_answer(alloc: Global, p: &Pla, text: &[u8]) -> Result<Answer, AnswerRefusal>
+pub fn read_answer(alloc: Global, p: &Pla, text: &[u8]) -> Result<GivenAnswer, AnswerRefusal>
     requires { length text.now < 2 ^ 32 }
-    ensures reading { Answers result (answer_of p.now text.now) }
+    ensures reading { GivesAnswer result (answer_reading p.now text.now) }
     ensures polynomials { IfOk result (IsAnswerFor p.now) }
 {
     let for_inputs = names_in_place(alloc, "x", p.inputs, &p.in_names)?;

@@ -1,7 +1,9 @@
 //! Why an answer was not read or not judged, and what is wrong with one.
 ghost use Rattle.std.specs.Prelude.{◌≡◌};
-ghost use Rattle.cert_check.specs.Parts.{refused};
+ghost use Rattle.cert_check.specs.Causes.{answer_why_name, fault_name};
+ghost use Rattle.cert_check.specs.Parts.{answer_refusal};
 
+use pla_reader::LineRefusal;
 use std::alloc::{AllocError, AllocFailed};
 use thiserror::Error;
 
@@ -19,6 +21,20 @@ pub enum AnswerWhy {
     MissingOutput,
 }
 
+impl AnswerWhy {
+    /// The name of the cause, by which a line of the status tells of it.
+    pub fn name(self) -> &'static str
+        ensures { result.now ≡ answer_why_name self }
+    {
+        match self {
+            AnswerWhy::BadLine => "BadLine",
+            AnswerWhy::UnknownName => "UnknownName",
+            AnswerWhy::TermOrder => "TermOrder",
+            AnswerWhy::MissingOutput => "MissingOutput",
+        }
+    }
+}
+
 /// Why an answer was not read: its first bad line, counted from 1, and the first check that it fails; or there was no memory.
 ///
 /// For an answer that ends before the last output it is the number of lines.
@@ -28,66 +44,26 @@ pub enum AnswerRefusal {
     Memory,
 }
 
-/// Why a line was not read.
-#[derive(Clone, Copy)]
-pub enum LineRefusal {
-    Bad(AnswerWhy),
-    Memory,
-}
-
-impl LineRefusal {
-    /// The refusal, at the line of this number.
-    pub fn at(self, line: u32) -> AnswerRefusal
-        ensures { result ≡ refused self line }
+impl AnswerRefusal {
+    /// The refusal of the line of this number.
+    pub(crate) fn of_line(refusal: LineRefusal<AnswerWhy>, line: u32) -> AnswerRefusal
+        ensures { result ≡ answer_refusal refusal line }
     {
-        match self {
+        match refusal {
             LineRefusal::Bad(why) => AnswerRefusal::Bad { line, why },
             LineRefusal::Memory => AnswerRefusal::Memory,
         }
     }
 }
 
-impl From<AnswerWhy> for LineRefusal {
+impl From<AnswerWhy> for LineRefusal<AnswerWhy> {
     ghost use Rattle.std.specs.Prelude.{◌≡◌};
-    ghost use Rattle.cert_check.specs.declared.refusal.LineRefusal.TheVariants.{Bad};
+    ghost use Rattle.pla_reader.specs.declared.refusal.LineRefusal.TheVariants.{Bad};
 
     ghost from_gives = { λ why e. e ≡ Bad why };
 
-    fn from(why: AnswerWhy) -> LineRefusal {
+    fn from(why: AnswerWhy) -> LineRefusal<AnswerWhy> {
         LineRefusal::Bad(why)
-    }
-}
-
-impl From<AllocError> for LineRefusal {
-    ghost use Rattle.std.specs.Prelude.{◌≡◌};
-    ghost use Rattle.cert_check.specs.declared.refusal.LineRefusal.TheVariants.{Memory};
-
-    ghost from_gives = { λ _ e. e ≡ Memory };
-
-    fn from(_e: AllocError) -> LineRefusal {
-        LineRefusal::Memory
-    }
-}
-
-impl<T: Drop> From<AllocFailed<T>> for LineRefusal {
-    ghost use Rattle.std.specs.Prelude.{◌≡◌};
-    ghost use Rattle.cert_check.specs.declared.refusal.LineRefusal.TheVariants.{Memory};
-
-    ghost from_gives = { λ _ e. e ≡ Memory };
-
-    fn from(_e: AllocFailed<T>) -> LineRefusal {
-        LineRefusal::Memory
-    }
-}
-
-impl From<lattice::Memory> for LineRefusal {
-    ghost use Rattle.std.specs.Prelude.{◌≡◌};
-    ghost use Rattle.cert_check.specs.declared.refusal.LineRefusal.TheVariants.{Memory};
-
-    ghost from_gives = { λ _ e. e ≡ Memory };
-
-    fn from(_e: lattice::Memory) -> LineRefusal {
-        LineRefusal::Memory
     }
 }
 
@@ -117,6 +93,22 @@ pub enum Fault {
     Reducible,
     /// The greatest monomial of an element is less than that of the element before it.
     Order,
+}
+
+impl Fault {
+    /// The name of the fault, by which the verdict tells of it.
+    pub fn name(self) -> &'static str
+        ensures { result.now ≡ fault_name self }
+    {
+        match self {
+            Fault::Value => "Value",
+            Fault::NotZero => "NotZero",
+            Fault::Leads => "Leads",
+            Fault::Count => "Count",
+            Fault::Reducible => "Reducible",
+            Fault::Order => "Order",
+        }
+    }
 }
 
 /// Whether an answer is right: it is, or it has this as its first fault, on this line, counted from 1.

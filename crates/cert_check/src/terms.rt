@@ -2,21 +2,16 @@
 ghost use Rattle.std.specs.Prelude.{◌≡◌, ◌+◌, ◌-◌, ◌^◌, ◌<◌, ◌≤◌, true, false, length, MatchOption, MatchResult, Some, None, if◌then◌else◌};
 ghost use Rattle.std.specs.List.{list_all};
 ghost use Rattle.lattice.specs.Family.{includes};
-ghost use Rattle.cert_check.specs.Reading.{parts, words, terms_of, factors_of, place_of, product_of, monomial_of, monomials_of, are_known, ascends_from, are_ordered, right_fault};
-ghost use Rattle.cert_check.specs.Parts.{Stops};
+ghost use Rattle.cert_check.specs.Reading.{parts, words, terms_in, factors_of, place_of, factors_product, monomial_of, monomials_of, are_known, ascends_from, are_ordered, right_fault};
+ghost use Rattle.pla_reader.specs.Parts.{Stops};
+ghost use Rattle.lattice.specs.declared.limits.TheConstants.{MAX_VARS};
 
-use crate::form::{is_term, is_word};
-use crate::refusal::{AnswerWhy, LineRefusal};
+use crate::form::is_term;
+use crate::lines::split_first;
+use crate::refusal::AnswerWhy;
 use lattice::{Mono, Monos, Name};
+use pla_reader::{LineRefusal, includes, is_word};
 use std::alloc::Global;
-
-/// Whether the name is one of the names.
-#[tactic(auto, unfolding(lattice::specs::Family::includes))]
-pub(crate) fn includes(names: &[Name], name: &[u8]) -> bool
-    ensures { result ≡ includes names.now name.now }
-{
-    names.iter().any(|other| other.as_slice() == name)
-}
 
 /// The place of a name, or the number of names.
 fn place_of(names: &[Name], name: &[u8]) -> usize
@@ -41,7 +36,7 @@ fn is_known(names: &[Name], term: &[u8]) -> bool
 
 /// Whether each factor on the right side of a line is one of the names.
 fn are_known(names: &[Name], right: &[u8]) -> bool
-    ensures { result ≡ are_known names.now (terms_of (words right.now)) }
+    ensures { result ≡ are_known names.now (terms_in (words right.now)) }
 {
     right
         .split(|byte| *byte == b' ')
@@ -50,19 +45,22 @@ fn are_known(names: &[Name], right: &[u8]) -> bool
 
 /// The product of the factors that are joined by `*`; None where they do not ascend strictly.
 fn product_of(names: &[Name], factors: &[u8]) -> Option<u64>
-    requires few { length names.now ≤ 62 }
+    requires few { length names.now ≤ MAX_VARS }
     requires known { list_all (includes names.now) (parts 42 factors.now) ≡ true }
-    ensures { MatchOption result (ascends_from names.now 0 (parts 42 factors.now) ≡ false) (λ m. (ascends_from names.now 0 (parts 42 factors.now) ≡ true) × (m ≡ product_of names.now (parts 42 factors.now))) }
+    ensures { MatchOption result (ascends_from names.now 0 (parts 42 factors.now) ≡ false) (λ m. (ascends_from names.now 0 (parts 42 factors.now) ≡ true) × (m ≡ factors_product names.now (parts 42 factors.now))) }
 {
     let mut product = 0;
     let mut least = 0;
-    for name in factors.split(|byte| *byte == b'*') {
+    let mut rest = Some(factors);
+    while let Some(text) = rest {
+        let (name, after) = split_first(text, b'*');
         let place = place_of(names, name);
         if place < least {
             return None;
         }
         product += 1u64 << (names.len() - 1 - place);
         least = place + 1;
+        rest = after;
     }
     Some(product)
 }
@@ -70,7 +68,7 @@ fn product_of(names: &[Name], factors: &[u8]) -> Option<u64>
 /// The monomial of a term; None where its factors do not ascend strictly.
 #[tactic(auto, unfolding(crate::specs::Reading::factors_of, crate::specs::Reading::monomial_of))]
 fn monomial_of(names: &[Name], term: &[u8]) -> Option<u64>
-    requires few { length names.now ≤ 62 }
+    requires few { length names.now ≤ MAX_VARS }
     requires known { list_all (includes names.now) (factors_of term.now) ≡ true }
     ensures { MatchOption result (ascends_from names.now 0 (factors_of term.now) ≡ false) (λ m. (ascends_from names.now 0 (factors_of term.now) ≡ true) × (m ≡ monomial_of names.now term.now)) }
 {
@@ -82,16 +80,22 @@ fn monomial_of(names: &[Name], term: &[u8]) -> Option<u64>
 }
 
 /// The monomials of the right side of a line, whose factors are all known.
-fn monomials_of(alloc: Global, names: &[Name], right: &[u8]) -> Result<Monos, LineRefusal>
-    requires few { length names.now ≤ 62 }
-    requires known { are_known names.now (terms_of (words right.now)) ≡ true }
+fn monomials_of(
+    alloc: Global,
+    names: &[Name],
+    right: &[u8],
+) -> Result<Monos, LineRefusal<AnswerWhy>>
+    requires few { length names.now ≤ MAX_VARS }
+    requires known { are_known names.now (terms_in (words right.now)) ≡ true }
     ensures { MatchResult result
-        (λ monos. (are_ordered names.now (2 ^ length names.now) (terms_of (words right.now)) ≡ true) × (monos ≡ monomials_of names.now (words right.now)))
-        (λ e. Stops e (if are_ordered names.now (2 ^ length names.now) (terms_of (words right.now)) then None else Some AnswerWhy.TermOrder)) }
+        (λ monos. (are_ordered names.now (2 ^ length names.now) (terms_in (words right.now)) ≡ true) × (monos ≡ monomials_of names.now (words right.now)))
+        (λ e. Stops e (if are_ordered names.now (2 ^ length names.now) (terms_in (words right.now)) then None else Some AnswerWhy.TermOrder)) }
 {
     let mut monos = Monos::new(alloc);
     let mut limit = 1u64 << names.len();
-    for word in right.split(|byte| *byte == b' ') {
+    let mut rest = Some(right);
+    while let Some(text) = rest {
+        let (word, after) = split_first(text, b' ');
         if is_term(word) {
             let Some(m) = monomial_of(names, word) else {
                 return Err(LineRefusal::Bad(AnswerWhy::TermOrder));
@@ -102,14 +106,19 @@ fn monomials_of(alloc: Global, names: &[Name], right: &[u8]) -> Result<Monos, Li
             monos.push(Mono(m))?;
             limit = m;
         }
+        rest = after;
     }
     Ok(monos)
 }
 
 /// The monomials of the right side of a line.
 #[tactic(auto, unfolding(crate::specs::Reading::right_fault))]
-pub(crate) fn read_right(alloc: Global, names: &[Name], right: &[u8]) -> Result<Monos, LineRefusal>
-    requires { length names.now ≤ 62 }
+pub(crate) fn read_right(
+    alloc: Global,
+    names: &[Name],
+    right: &[u8],
+) -> Result<Monos, LineRefusal<AnswerWhy>>
+    requires { length names.now ≤ MAX_VARS }
     ensures { MatchResult result
         (λ monos. (right_fault names.now (words right.now) ≡ None) × (monos ≡ monomials_of names.now (words right.now)))
         (λ e. Stops e (right_fault names.now (words right.now))) }

@@ -1,10 +1,12 @@
 -- A parse of the declared command that succeeds has a value of each argument.
-use Rattle.std.proofs.Common.{◌≡◌, ◌∙◌, ◌<◌, ◌≤◌, ◌||◌, ap, arith, Bool, List, ℕ, zero, suc, [], ◌∷◌, codes, length, map, Option, Some, None, is_some, refl, subst, sym, true, false, true≢false, inl, inr}
+use Rattle.std.proofs.Common.{◌≡◌, ◌∙◌, ◌<◌, ◌≤◌, ap, arith, Bool, List, ℕ, zero, suc, [], ◌∷◌, codes, length, map, Option, Some}
+use Rattle.std.proofs.Common.{None, is_some, refl, subst, sym, true, false, true≢false, inl, inr}
 use Rattle.std.specs.Prelude.{find, option_map}
 use Rattle.std.specs.List.{Any, list_all, list_any, slice_index_or}
 use Rattle.std.specs.Str.{bytes_eq}
 use Rattle.std.specs.Borrow.{Bor}
 use Rattle.std.proofs.lemmas.List.{get_or-map, length-map}
+use Rattle.std.proofs.lemmas.Bool.{or_cases}
 use Rattle.std.proofs.lemmas.Slice.Eq.{bytes_eq-Decides}
 use Rattle.clap.specs.Built.{IsAuto, IsParsedFrom, IsPlain}
 use Rattle.clap.specs.Facts.{Entry, IsParsed, args_of, unwrap_or_range}
@@ -26,7 +28,9 @@ use Rattle.clap.proofs.FaultLemmas.{free_args}
 use Rattle.clap.proofs.SimpleLemmas.{all_simple, ready_simple, simple_groups}
 use Rattle.clap.proofs.WalkLemmas.{list_any-map}
 use Rattle.lattice.specs.declared.Mode.{Mode}
-use Rattle.cli_words.specs.CommandLine.{HasEach, HasNumber, IsModeNames, NameList, interp_command_at, mode_name, mode_rule, modes, nodes_rule, seed_rule, terms_rule, workers_rule}
+use Rattle.lattice.specs.declared.limits.TheConstants.{MIN_BITS, MAX_BITS}
+use Rattle.cli_words.specs.CommandLine.{HasEach, HasNumber, IsModeNames, NameList, interp_command_at, mode_name, mode_rule, modes}
+use Rattle.cli_words.specs.CommandLine.{nodes_rule, seed_rule, terms_rule, workers_rule}
 use Rattle.cli_words.proofs.Found.{HasValue, IsOnly, TakesOne, value_found}
 
 -- ---- entries and texts
@@ -38,30 +42,24 @@ some_entry : (xs : List Entry) (id : Text) (i : ℕ) → i < length xs → ((d :
     → is_some (option_map (λ (e : Entry). e.1) (find (λ (e : Entry). bytes_eq e.0.now id) xs)) ≡ true
 some_entry [] id i lt same = absurd (omega arith)
 some_entry (x ∷ xs) id zero lt same = rw (same x) refl
-some_entry (x ∷ xs) id (suc i) lt same = go (bytes_eq x.0.now id) refl (some_entry xs id i (omega arith) same)
-  where
-    go : (b : Bool) → bytes_eq x.0.now id ≡ b → is_some (option_map (λ (e : Entry). e.1) (find (λ (e : Entry). bytes_eq e.0.now id) xs)) ≡ true
-        → is_some (option_map (λ (e : Entry). e.1) (find (λ (e : Entry). bytes_eq e.0.now id) (x ∷ xs))) ≡ true
-    go true is rest = rw is refl
-    go false is rest = rw is rest
+some_entry (x ∷ xs) id (suc i) lt same = grind (arith, some_entry xs id i)
 
 differs : (s t : Text) → bytes_eq s t ≡ false → s ≡ t → ⊥
 differs s t other same = true≢false (sym ((bytes_eq-Decides s t).1 same) ∙ other)
 
 -- a text that is one of the names is the name of some mode
-mode_among : (P : Text → Type 0) (text : Text) (ms : List Mode) → P text → list_any (λ (name : Text). bytes_eq name text) (map mode_name ms) ≡ true
+mode_among : (P : Text → Type 0) (text : Text) (ms : List Mode) → P text
+    → list_any (λ (name : Text). bytes_eq name text) (map mode_name ms) ≡ true
     → Any (λ mode. P (mode_name mode)) ms
 mode_among P text [] holds among = never among
-mode_among P text (x ∷ xs) holds among = go (bytes_eq (mode_name x) text) refl (λ rest. mode_among P text xs holds rest) among
-  where
-    later : Any (λ mode. P (mode_name mode)) xs → Any (λ mode. P (mode_name mode)) (x ∷ xs)
-    later any = (suc any.0, any.1, (let lt = any.2 in omega arith), any.3, any.4)
-
-    go : (b : Bool) → bytes_eq (mode_name x) text ≡ b
-        → (list_any (λ (name : Text). bytes_eq name text) (map mode_name xs) ≡ true → Any (λ mode. P (mode_name mode)) xs) → (b || list_any (λ (name : Text). bytes_eq name text) (map mode_name xs)) ≡ true
-        → Any (λ mode. P (mode_name mode)) (x ∷ xs)
-    go true is rest among = (0, x, omega arith, refl, subst P (sym ((bytes_eq-Decides (mode_name x) text).0 is)) holds)
-    go false is rest among = later (rest among)
+mode_among P text (x ∷ xs) holds among =
+    elim (or_cases (bytes_eq (mode_name x) text) (list_any (λ (name : Text). bytes_eq name text) (map mode_name xs)) among) [
+      | inl is ↦ (0, x, omega arith, refl, subst P (sym ((bytes_eq-Decides (mode_name x) text).0 is)) holds)
+      | inr later ↦
+          let any = mode_among P text xs holds later in
+          let lt = any.2 in
+          (suc any.0, any.1, omega arith, any.3, any.4)
+    ]
 
 -- ---- the five arguments
 
@@ -82,7 +80,8 @@ module _ (a : Arg) (r : Rule) (is : rule_of a ≡ r) (simple : IsSimpleArg a) (q
   takes_one set one parser named = record {
     set = ap (λ (x : Rule). x.action) is ∙ set;
     whole = simple.delimiter;
-    least = subst (λ (o : Option ValueRange). 1 ≤ (unwrap_or_range o).start_inclusive) (sym (ap (λ (x : Rule). x.range) is ∙ one)) (omega arith);
+    least = subst (λ (o : Option ValueRange). 1 ≤ (unwrap_or_range o).start_inclusive) (sym (ap (λ (x : Rule). x.range) is ∙ one))
+        (omega arith);
     parser_is = ap (λ (x : Rule). x.parser) is ∙ parser;
     named = λ empty. differs r.id [] named (sym (ap (λ (x : Rule). x.id) is) ∙ empty);
   }
@@ -95,8 +94,8 @@ abbrev ids : List Text
 ids = codes "mode" ∷ codes "workers" ∷ codes "nodes" ∷ codes "terms" ∷ codes "seed" ∷ []
 
 -- the k-th id is the only one that is this id
-abbrev IsOnlyId : ℕ → Text → Type 0
-IsOnlyId k id = (j : ℕ) → j < 5 → bytes_eq (slice_index_or ids j []) id ≡ true → j ≡ k
+abbrev IsOnlyAt : ℕ → Text → ℕ → Type 0
+IsOnlyAt k id j = bytes_eq (slice_index_or ids j []) id ≡ true → j ≡ k
 
 -- what the rule of one of the five says
 record IsRuleOfOne (k : ℕ) (r : Rule) (q : ValueParser) : Type 0 where
@@ -108,7 +107,13 @@ record IsRuleOfOne (k : ℕ) (r : Rule) (q : ValueParser) : Type 0 where
   named : bytes_eq r.id [] ≡ false
   no_help : bytes_eq r.id (codes "help") ≡ false
   no_version : bytes_eq r.id (codes "version") ≡ false
-  only : IsOnlyId k r.id
+  only : (j : ℕ) → j < 5 → IsOnlyAt k r.id j
+
+rule_of_one : {k : ℕ} {r : Rule} {q : ValueParser} → k < 5 → r.action ≡ Some Set → r.range ≡ None → r.parser ≡ Some q
+    → r.ignore_case ≡ false → bytes_eq r.id [] ≡ false → bytes_eq r.id (codes "help") ≡ false
+    → bytes_eq r.id (codes "version") ≡ false → ((j : ℕ) → j < 5 → IsOnlyAt k r.id j) → IsRuleOfOne k r q
+rule_of_one a b c d e f g h i =
+    record { low = a; set = b; one = c; parser_is = d; case = e; named = f; no_help = g; no_version = h; only = i }
 
 module _ (list : NameList) (c : Command) (m : ArgMatches) (is : app_of c ≡ interp_command_at list) (p : IsParsedFrom c m) where
   shape : shape_of c ≡ (interp_command_at list).top
@@ -142,7 +147,8 @@ module _ (list : NameList) (c : Command) (m : ArgMatches) (is : app_of c ≡ int
   id_is : (k : ℕ) (d : Arg) → k < 5 → (slice_index_or (args_of c) k d).id.now ≡ slice_index_or ids k []
   unfolding rules_at
   id_is k d lt = ap (λ (x : Rule). x.id) (rule_is k d (mode_rule list) lt)
-      ∙ below_five (λ (j : ℕ). (slice_index_or (rules_at list) j (mode_rule list)).id ≡ slice_index_or ids j []) refl refl refl refl refl k lt
+      ∙ below_five (λ (j : ℕ). (slice_index_or (rules_at list) j (mode_rule list)).id ≡ slice_index_or ids j []) refl refl refl refl refl k
+      lt
 
   module _ (k : ℕ) (d : Arg) (r : Rule) (q : ValueParser) (one : IsRuleOfOne k r q) (at : slice_index_or (rules_at list) k r ≡ r) where
     abbrev arg : Arg
@@ -197,65 +203,20 @@ module _ (list : NameList) (c : Command) (m : ArgMatches) (is : app_of c ≡ int
   each_from : IsModeNames list → Arg → HasEach (found_of m)
   unfolding rules_at
   each_from names d =
-      let mode = required_at 0 d (mode_rule list) (parser.Names list) (record {
-        low = omega arith;
-        set = refl;
-        one = refl;
-        parser_is = refl;
-        case = refl;
-        named = refl;
-        no_help = refl;
-        no_version = refl;
-        only = below_five (λ (j : ℕ). bytes_eq (slice_index_or ids j []) (codes "mode") ≡ true → j ≡ 0) (λ _. refl) never never never never;
-      }) refl refl in
+      let mode = required_at 0 d (mode_rule list) (parser.Names list) (rule_of_one (omega arith) refl refl refl refl refl refl refl
+      (below_five (λ (j : ℕ). IsOnlyAt 0 (codes "mode") j) (λ _. refl) never never never never)) refl refl in
       record {
         mode = mode_among (λ (name : Text). first_value (found_of m) (codes "mode") ≡ Some name) mode.text modes mode.first
             (ap (list_any (λ (name : Text). bytes_eq name mode.text)) (sym names)
             ∙ (sym (list_any-map (λ (name : Text). bytes_eq name mode.text) (λ (name : Bor Text). name.now) list.now) ∙ mode.accepted));
-        workers = number_at 1 workers_rule 1 16 (record {
-          low = omega arith;
-          set = refl;
-          one = refl;
-          parser_is = refl;
-          case = refl;
-          named = refl;
-          no_help = refl;
-          no_version = refl;
-          only = below_five (λ (j : ℕ). bytes_eq (slice_index_or ids j []) (codes "workers") ≡ true → j ≡ 1) never (λ _. refl) never never never;
-        }) refl (omega arith) d;
-        nodes = number_at 2 nodes_rule 4 19 (record {
-          low = omega arith;
-          set = refl;
-          one = refl;
-          parser_is = refl;
-          case = refl;
-          named = refl;
-          no_help = refl;
-          no_version = refl;
-          only = below_five (λ (j : ℕ). bytes_eq (slice_index_or ids j []) (codes "nodes") ≡ true → j ≡ 2) never never (λ _. refl) never never;
-        }) refl (omega arith) d;
-        terms = number_at 3 terms_rule 1 1000000 (record {
-          low = omega arith;
-          set = refl;
-          one = refl;
-          parser_is = refl;
-          case = refl;
-          named = refl;
-          no_help = refl;
-          no_version = refl;
-          only = below_five (λ (j : ℕ). bytes_eq (slice_index_or ids j []) (codes "terms") ≡ true → j ≡ 3) never never never (λ _. refl) never;
-        }) refl (omega arith) d;
-        seed = number_at 4 seed_rule 0 18446744073709551615 (record {
-          low = omega arith;
-          set = refl;
-          one = refl;
-          parser_is = refl;
-          case = refl;
-          named = refl;
-          no_help = refl;
-          no_version = refl;
-          only = below_five (λ (j : ℕ). bytes_eq (slice_index_or ids j []) (codes "seed") ≡ true → j ≡ 4) never never never never (λ _. refl);
-        }) refl (omega arith) d;
+        workers = number_at 1 workers_rule 1 16 (rule_of_one (omega arith) refl refl refl refl refl refl refl
+            (below_five (λ (j : ℕ). IsOnlyAt 1 (codes "workers") j) never (λ _. refl) never never never)) refl (omega arith) d;
+        nodes = number_at 2 nodes_rule MIN_BITS MAX_BITS (rule_of_one (omega arith) refl refl refl refl refl refl refl
+            (below_five (λ (j : ℕ). IsOnlyAt 2 (codes "nodes") j) never never (λ _. refl) never never)) refl (omega arith) d;
+        terms = number_at 3 terms_rule 1 1000000 (rule_of_one (omega arith) refl refl refl refl refl refl refl
+            (below_five (λ (j : ℕ). IsOnlyAt 3 (codes "terms") j) never never never (λ _. refl) never)) refl (omega arith) d;
+        seed = number_at 4 seed_rule 0 18446744073709551615 (rule_of_one (omega arith) refl refl refl refl refl refl refl
+            (below_five (λ (j : ℕ). IsOnlyAt 4 (codes "seed") j) never never never never (λ _. refl))) refl (omega arith) d;
       }
 
   pub each_found : IsModeNames list → HasEach (found_of m)

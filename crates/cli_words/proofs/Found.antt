@@ -1,12 +1,14 @@
 -- What a parse that succeeds has of an argument that takes one value.
-use Rattle.std.proofs.Common.{◌≡◌, ◌⊎◌, ◌∙◌, ◌<◌, ◌≤◌, ap, arith, Bool, List, ℕ, [], ◌∷◌, length, Option, Some, None, is_some, refl, subst, sym, unwrap_or, true, true≢false, inl, inr}
+use Rattle.std.proofs.Common.{◌≡◌, ◌⊎◌, ◌∙◌, ◌<◌, ◌≤◌, ap, arith, Bool, List, ℕ, [], ◌∷◌, length, Option, Some, None, is_some, refl, subst}
+use Rattle.std.proofs.Common.{sym, unwrap_or, true, true≢false, inl, inr, ⊎_elim}
 use Rattle.std.specs.List.{All, slice_index_or}
 use Rattle.std.specs.Str.{bytes_eq}
 use Rattle.std.specs.Borrow.{Bor}
 use Rattle.std.proofs.lemmas.List.Elements.{All-get_or}
 use Rattle.std.proofs.lemmas.Slice.Eq.{bytes_eq-Decides}
 use Rattle.clap.specs.Built.{SameRules}
-use Rattle.clap.specs.Facts.{AllowsNone, Entry, EntryPasses, HasReading, IsCountArg, IsGroupEntry, IsKnownGroup, MayBeEmpty, PassesArg, ValuesPass, args_of, groups_of, least_values, parser_of, parser_of_value}
+use Rattle.clap.specs.Facts.{AllowsNone, Entry, EntryPasses, HasReading, IsCountArg, IsGroupEntry, IsKnownGroup, PassesArg}
+use Rattle.clap.specs.Facts.{ValuesPass, args_of, groups_of, least_values, parser_of, parser_of_value}
 use Rattle.clap.specs.Matches.{first_value, matched_of, one_text}
 use Rattle.clap.specs.Values.{Accepts, read_as, reading_of}
 use Rattle.clap.specs.declared.builder.action.ArgAction.{ArgAction}
@@ -39,13 +41,8 @@ pub record TakesOne (a : Arg) (parser : ValueParser) : Type 0 where
   pub parser_is : a.value_parser ≡ Some parser
   pub named : a.id.now ≡ [] → ⊥
 
-not_least : (n : ℕ) → 1 ≤ n → n ≡ 0 → ⊥
-not_least n some none = omega arith
-
-set_is_not_count : Set ≡ Count → ⊥
-set_is_not_count e = cc
-
-accepted_by : (c : Command) (a : Arg) (q : ValueParser) (t : List ℕ) → IsOnly c a → TakesOne a q → PassesArg c a.id.now t → Accepts a.ignore_case q t
+accepted_by : (c : Command) (a : Arg) (q : ValueParser) (t : List ℕ) → IsOnly c a → TakesOne a q → PassesArg c a.id.now t
+    → Accepts a.ignore_case q t
 accepted_by c a q t only takes pass =
     let s = only pass.0 pass.1 pass.2 pass.3 pass.4.0 in
     let is_q : parser_of pass.1 ≡ q = ap parser_of_value (s.parser q takes.parser_is) in
@@ -58,49 +55,47 @@ read_by c a q r only takes has =
     let is_q : parser_of has.1 ≡ q = ap parser_of_value (s.parser q takes.parser_is) in
     sym has.4.1 ∙ ap reading_of is_q
 
-from_entry : (c : Command) (f : Found) (a : Arg) (q : ValueParser) (x : MatchedArg) → IsOnly c a → TakesOne a q → matched_of f a.id.now ≡ Some x
+from_entry : (c : Command) (f : Found) (a : Arg) (q : ValueParser) (x : MatchedArg) → IsOnly c a → TakesOne a q
+    → matched_of f a.id.now ≡ Some x
     → 0 < length x.vals.items → All (λ v. PassesArg c a.id.now v.now) x.vals.items → HasReading c a.id.now x.reading
     → HasValue f a.id.now a.ignore_case q
 from_entry c f a q x only takes is some pass has = go x.vals.items refl some pass
   where
-    go : (vs : List (Bor (List ℕ))) → x.vals.items ≡ vs → 0 < length vs → All (λ v. PassesArg c a.id.now v.now) vs → HasValue f a.id.now a.ignore_case q
+    go : (vs : List (Bor (List ℕ))) → x.vals.items ≡ vs → 0 < length vs → All (λ v. PassesArg c a.id.now v.now) vs
+        → HasValue f a.id.now a.ignore_case q
     go [] vals some pass = absurd (omega arith)
     go (v ∷ vs) vals some pass = record {
       text = v.now;
       first = rw (is, vals) refl;
       one = rw (is, vals) (ap (λ (how : Reading). Some (read_as how v.now)) (read_by c a q x.reading only takes has));
-      accepted = accepted_by c a q v.now only takes (All-get_or (λ (w : Bor (List ℕ)). PassesArg c a.id.now w.now) (v ∷ vs) 0 v (omega arith) pass);
+      accepted = accepted_by c a q v.now only takes
+          (All-get_or (λ (w : Bor (List ℕ)). PassesArg c a.id.now w.now) (v ∷ vs) 0 v (omega arith) pass);
     }
 
 is_no_group : (c : Command) (e : Entry) → groups_of c ≡ [] → (e.0.now ≡ [] → ⊥) → IsGroupEntry c e → e.1.is_group ≡ true → ⊥
-is_no_group c e no_groups named known group = go (known group)
-  where
-    go : IsKnownGroup c e.0.now → ⊥
-    go (inl empty) = named empty
-    go (inr some) = let none : length (groups_of c) ≡ 0 = ap length no_groups in omega arith
+is_no_group c e no_groups named known group =
+    ⊎_elim named (λ some. let none : length (groups_of c) ≡ 0 = ap length no_groups in absurd (omega arith)) (known group)
 
 no_count : (c : Command) (a : Arg) (q : ValueParser) → IsOnly c a → TakesOne a q → IsCountArg c a.id.now → ⊥
 no_count c a q only takes count =
     let s = only count.0 count.1 count.2 count.3 count.4.0 in
-    let is_set : count.1.action ≡ Some Set = s.action Set takes.set in
-    set_is_not_count (sym (ap (λ (o : Option ArgAction). unwrap_or o Set) is_set) ∙ count.4.1)
+    let is_set = ap (λ (o : Option ArgAction). unwrap_or o Set) (s.action Set takes.set) in
+    let both : Set ≡ Count = sym is_set ∙ count.4.1 in
+    cc
 
 not_none : (c : Command) (a : Arg) (q : ValueParser) → IsOnly c a → TakesOne a q → AllowsNone c a.id.now → ⊥
-not_none c a q only takes none = go (only none.0 none.1 none.2 none.3 none.4.0) none.4.1
-  where
-    go : SameRules a none.1 → MayBeEmpty none.1 → ⊥
-    go s (inl least) = not_least (least_values none.1) (s.least takes.set takes.least) least
-    go s (inr delim) = true≢false (sym delim ∙ ap is_some (s.val_delim ∙ takes.whole))
+not_none c a q only takes none =
+    let s = only none.0 none.1 none.2 none.3 none.4.0 in
+    ⊎_elim (λ least. let some = s.least takes.set takes.least in absurd (omega arith))
+    (λ delim. true≢false (sym delim ∙ ap is_some (s.val_delim ∙ takes.whole))) none.4.1
 
 abbrev FilledAs : Command → MatchedArg → List ℕ → Type 0
 FilledAs c x id = ((x.is_group ≡ true) × IsKnownGroup c id)
     ⊎ ((0 < length x.vals.items) ⊎ (((is_some x.count ≡ true) × IsCountArg c id) ⊎ AllowsNone c id))
 
-has_values : (c : Command) (a : Arg) (q : ValueParser) (x : MatchedArg) → IsOnly c a → TakesOne a q → (x.is_group ≡ true → ⊥) → FilledAs c x a.id.now → 0 < length x.vals.items
-has_values c a q x only takes no_group (inl group) = absurd (no_group group.0)
-has_values c a q x only takes no_group (inr (inl some)) = some
-has_values c a q x only takes no_group (inr (inr (inl count))) = absurd (no_count c a q only takes count.1)
-has_values c a q x only takes no_group (inr (inr (inr none))) = absurd (not_none c a q only takes none)
+has_values : (c : Command) (a : Arg) (q : ValueParser) (x : MatchedArg) → IsOnly c a → TakesOne a q → (x.is_group ≡ true → ⊥)
+    → FilledAs c x a.id.now → 0 < length x.vals.items
+has_values c a q x only takes no_group filled = grind (arith, no_count c a q only takes, not_none c a q only takes)
 
 no_other : {P Q : Type 0} → P ⊎ Q → (P → ⊥) → Q
 no_other (inl p) not = absurd (not p)

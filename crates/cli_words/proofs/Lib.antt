@@ -1,6 +1,6 @@
-pub mod EachFound
-pub mod Found
-pub mod NamesMoved
-pub mod ParsersChanged
-pub mod Taken
-pub mod Worked
+mod EachFound
+mod Found
+mod NamesMoved
+mod ParsersChanged
+mod Taken
+mod Worked

@@ -1,5 +1,6 @@
 -- What the declared command makes of words does not depend on where its list of names lies.
 use Rattle.std.proofs.Common.{◌≡◌, ◌∙◌, ◌∷◌, ap, Bool, List, [], map, drop, Option, Some, None, refl, sym, pos, negsuc}
+use Rattle.std.proofs.lemmas.Simd.{map-map}
 use Rattle.std.specs.Prelude.{if◌then◌else◌}
 use Rattle.std.specs.Borrow.{Bor}
 use Rattle.clap.specs.Facts.{parser_of_value}
@@ -26,47 +27,28 @@ erase None = None
 erase (Some p) = Some (erased p)
 
 reads : (p : Option ValueParser) → reading_of (parser_of_value (erase p)) ≡ reading_of (parser_of_value p)
-reads None = refl
-reads (Some vp.String) = refl
-reads (Some vp.NonEmptyString) = refl
-reads (Some vp.Bool) = refl
-reads (Some vp.Boolish) = refl
-reads (Some vp.Falsey) = refl
 reads (Some (vp.Signed (pos low) high)) = refl
 reads (Some (vp.Signed (negsuc low) high)) = refl
-reads (Some (vp.Unsigned low high)) = refl
-reads (Some vp.Float) = refl
-reads (Some vp.Char) = refl
-reads (Some (vp.Names list)) = refl
-reads (Some (vp.Values list)) = refl
+reads p = refl
 
-faults : (ic : Bool) (p : Option ValueParser) (t : Text) → value_kinds ic (parser_of_value (erase p)) t ≡ value_kinds ic (parser_of_value p) t
-faults ic None t = refl
-faults ic (Some vp.String) t = refl
-faults ic (Some vp.NonEmptyString) t = refl
-faults ic (Some vp.Bool) t = refl
-faults ic (Some vp.Boolish) t = refl
-faults ic (Some vp.Falsey) t = refl
-faults ic (Some (vp.Signed low high)) t = refl
-faults ic (Some (vp.Unsigned low high)) t = refl
-faults ic (Some vp.Float) t = refl
-faults ic (Some vp.Char) t = refl
+faults : (ic : Bool) (p : Option ValueParser) (t : Text)
+    → value_kinds ic (parser_of_value (erase p)) t ≡ value_kinds ic (parser_of_value p) t
 faults ic (Some (vp.Names list)) t =
     ap (λ (b : Bool). if b then [] else refused_kind (vp.Names list) ∷ [])
     (sym (list_any-map (λ (name : Bor Text). same_text ic name.now t) (λ (name : Bor Text). at_zero name.now) list.now))
-faults ic (Some (vp.Values list)) t = refl
-
-map_map : {X Y Z : Type 0} (f : X → Y) (g : Y → Z) (xs : List X) → map (λ x. g (f x)) xs ≡ map g (map f xs)
-map_map f g [] = refl
-map_map f g (x ∷ xs) = ap (λ l. g (f x) ∷ l) (map_map f g xs)
+faults ic p t = refl
 
 moved_is : (list : NameList) → IsModeNames list → moved list ≡ at_zero (map at_zero (map mode_name modes))
-moved_is list texts = ap at_zero (map_map (λ (name : Bor Text). name.now) at_zero list.now ∙ ap (map at_zero) texts)
+moved_is list texts = ap at_zero (sym (map-map at_zero (λ (name : Bor Text). name.now) list.now) ∙ ap (map at_zero) texts)
 
-pub fault_is : (list : NameList) (words : List Text) → IsModeNames list → fault_of (interp_command_at list) words ≡ fault_of interp_command words
+pub fault_is : (list : NameList) (words : List Text) → IsModeNames list
+    → fault_of (interp_command_at list) words ≡ fault_of interp_command words
 fault_is list words texts = sym (app_faults_same erase reads faults (built (interp_command_at list)) nothing_held (drop 1 words))
     ∙ ap (λ (l : NameList). fault_of (interp_command_at l) words) (moved_is list texts)
 
-pub matches_is : (list : NameList) (words : List Text) → IsModeNames list → matches_of (interp_command_at list) words ≡ matches_of interp_command words
-matches_is list words texts = sym (rows_same erase reads faults (built (interp_command_at list)).top.rules (names_of (built (interp_command_at list))) nothing_held (drop 1 words))
+pub matches_is : (list : NameList) (words : List Text) → IsModeNames list
+    → matches_of (interp_command_at list) words ≡ matches_of interp_command words
+matches_is list words texts = sym
+    (rows_same erase reads faults (built (interp_command_at list)).top.rules (names_of (built (interp_command_at list))) nothing_held
+    (drop 1 words))
     ∙ ap (λ (l : NameList). matches_of (interp_command_at l) words) (moved_is list texts)

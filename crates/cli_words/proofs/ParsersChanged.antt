@@ -1,6 +1,7 @@
 -- What a parse makes of the words stays the same where the parsers of a command's arguments are
 -- changed for others that take the same texts.
-use Rattle.std.proofs.Common.{◌≡◌, ◌∙◌, ◌∷◌, ◌&&◌, not, ap, ap₂, ℕ, zero, suc, Bool, List, [], map, length, fold, Option, Some, None, option_map, refl, sym, ◌==◌, ◌||◌, false}
+use Rattle.std.proofs.Common.{◌≡◌, ◌∙◌, ◌∷◌, ◌&&◌, not, ap, ap₂, ℕ, zero, suc, Bool, List, [], map, length, fold, Option, Some, None}
+use Rattle.std.proofs.Common.{arith, option_map, refl, sym, ◌==◌, ◌||◌, false}
 use Rattle.std.specs.Prelude.{if◌then◌else◌, encode_utf8, drop, slice_get, is_some}
 use Rattle.std.specs.List.{list_any}
 use Rattle.std.specs.Option.{option_map_or}
@@ -9,14 +10,20 @@ use Rattle.clap.specs.Lexer.{long_of, short_of}
 use Rattle.clap.specs.Facts.{explicit_source, parser_of_value, unwrap_or_range}
 use Rattle.clap.specs.Values.{reading_of}
 use Rattle.clap.specs.Walk.{Held, Names, Outcome, Row, Rule, Step, Text, Waiting, Walk, action_of, has_long, has_short, has_row}
-use Rattle.clap.specs.Walk.{done, waits, plain, refused, idle, option, positional, next, trailing, subcommand, value}
-use Rattle.clap.specs.Walk.{arg_by_id, arg_by_index, arg_by_long, arg_by_short, attached_value, default_rows, pushed, is_pending, is_multiple, is_empty, next_position, most_values, reacted, settled, settled_rows}
-use Rattle.clap.specs.Walk.{takes_several, takes_values, used, used_as, used_by_id, values_or_missing, option_met, flag_met, long_met, short_met, bundle_step, bundle_met, option_word, plain_word, after_flag}
-use Rattle.clap.specs.Walk.{short_or_plain, long_or_other, subcommand_met, subcommand_or_other, word_met, positional_held, to_positional, after_step, walked, walked_from, walk, walk_from, with_default, finished}
+use Rattle.clap.specs.Walk.{done, waits, plain, idle, option, positional, next, trailing, value}
+use Rattle.clap.specs.Walk.{arg_by_id, arg_by_index, arg_by_long, arg_by_short, attached_value, default_rows, pushed, is_pending}
+use Rattle.clap.specs.Walk.{is_multiple, is_empty, next_position, most_values, reacted, settled, settled_rows}
+use Rattle.clap.specs.Walk.{takes_several, takes_values, used, used_as, used_by_id, values_or_missing, option_met, flag_met, long_met}
+use Rattle.clap.specs.Walk.{short_met, bundle_step, bundle_met, option_word, plain_word, after_flag}
+use Rattle.clap.specs.Walk.{short_or_plain, long_or_other, subcommand_met, subcommand_or_other, word_met, positional_held, to_positional}
+use Rattle.clap.specs.Walk.{after_step, walked, walked_from, walk, walk_from, with_default, finished}
 use Rattle.clap.specs.Simple.{App, Shape, entered, names_of}
 use Rattle.clap.specs.Takes.{is_given}
 use Rattle.clap.specs.Kinds.{Kinds, check_kinds, or_else, range_kinds, request_kinds, value_kinds, values_kinds}
-use Rattle.clap.specs.Faults.{count_fault, repeat_fault, action_fault, use_fault, settle_fault, react_fault, option_fault, long_fault, short_fault, bundle_step_fault, flags_fault, bundle_fault, flag_word_fault, other_fault, positional_fault, step_fault, stray_fault, turn_fault, walk_fault, given_default_fault, default_fault, defaults_fault, check_fault, level_fault, entered_fault, built_fault}
+use Rattle.clap.specs.Faults.{count_fault, action_fault, use_fault, settle_fault, react_fault, option_fault, long_fault}
+use Rattle.clap.specs.Faults.{short_fault, bundle_step_fault, flags_fault, bundle_fault, flag_word_fault, other_fault, positional_fault}
+use Rattle.clap.specs.Faults.{step_fault, stray_fault, turn_fault, walk_fault, given_default_fault, default_fault, defaults_fault}
+use Rattle.clap.specs.Faults.{check_fault, level_fault, entered_fault, built_fault}
 use Rattle.clap.specs.declared.builder.action.ArgAction.{ArgAction}
 use Rattle.clap.specs.declared.builder.action.ArgAction.TheVariants as act
 use Rattle.clap.specs.declared.builder.value_parser.ValueParser.{ValueParser}
@@ -29,7 +36,8 @@ fold_same F G same a (b ∷ bs) = fold_same F G same (F a b) bs ∙ ap (λ x. fo
 
 module _ (g : Option ValueParser → Option ValueParser)
     (reads : (p : Option ValueParser) → reading_of (parser_of_value (g p)) ≡ reading_of (parser_of_value p))
-    (faults : (ic : Bool) (p : Option ValueParser) (t : Text) → value_kinds ic (parser_of_value (g p)) t ≡ value_kinds ic (parser_of_value p) t) where
+    (faults : (ic : Bool) (p : Option ValueParser) (t : Text)
+    → value_kinds ic (parser_of_value (g p)) t ≡ value_kinds ic (parser_of_value p) t) where
   abbrev pub other : Rule → Rule
   other a = record a { parser = g a.parser }
 
@@ -48,13 +56,13 @@ module _ (g : Option ValueParser → Option ValueParser)
   by_index : (c : List Rule) (i : ℕ) → arg_by_index (others c) i ≡ option_map other (arg_by_index c i)
   by_index c i = sym (find-map (λ (a : Rule). option_map_or (λ k. k == i) a.index false) other c)
 
-  values_same : (ic : Bool) (p : Option ValueParser) (vs : List Text) → values_kinds ic (parser_of_value (g p)) vs ≡ values_kinds ic (parser_of_value p) vs
+  values_same : (ic : Bool) (p : Option ValueParser) (vs : List Text)
+      → values_kinds ic (parser_of_value (g p)) vs ≡ values_kinds ic (parser_of_value p) vs
   values_same ic p [] = refl
   values_same ic p (v ∷ vs) = ap₂ or_else (faults ic p v) (values_same ic p vs)
 
   missing_same : (a : Rule) (vs : List Text) → values_or_missing (other a) vs ≡ values_or_missing a vs
-  missing_same a [] = refl
-  missing_same a (v ∷ vs) = refl
+  missing_same a vs = grind arith
 
   used_same : (a : Rule) (vs : List Text) (rows : List Row) → used (other a) vs rows ≡ used a vs rows
   used_same a vs rows = ap₂ (λ how xs. used_as (action_of a) a.id how xs rows) (reads a.parser) (missing_same a vs)
@@ -63,20 +71,14 @@ module _ (g : Option ValueParser → Option ValueParser)
   count_same a [] rows = faults a.ignore_case a.parser _
   count_same a (v ∷ vs) rows = values_same a.ignore_case a.parser (v ∷ vs)
 
-  action_same : (x : ArgAction) (again : Bool) (a : Rule) (vs : List Text) (rows : List Row) → action_fault x again (other a) vs rows ≡ action_fault x again a vs rows
-  action_same act.Set again a vs rows = ap (or_else (repeat_fault again a.id rows)) (values_same a.ignore_case a.parser vs)
-  action_same act.SetTrue again a vs rows = ap (or_else (repeat_fault again a.id rows)) (values_same a.ignore_case a.parser vs)
-  action_same act.SetFalse again a vs rows = ap (or_else (repeat_fault again a.id rows)) (values_same a.ignore_case a.parser vs)
-  action_same act.Append again a vs rows = values_same a.ignore_case a.parser vs
-  action_same act.Count again a vs rows = count_same a vs rows
-  action_same act.Help again a vs rows = refl
-  action_same act.HelpShort again a vs rows = refl
-  action_same act.HelpLong again a vs rows = refl
-  action_same act.Version again a vs rows = refl
+  action_same : (x : ArgAction) (again : Bool) (a : Rule) (vs : List Text) (rows : List Row)
+      → action_fault x again (other a) vs rows ≡ action_fault x again a vs rows
+  action_same x again a vs rows = grind (arith, values_same a.ignore_case a.parser vs, count_same a vs rows)
 
   use_same : (again : Bool) (a : Rule) (vs : List Text) (rows : List Row) → use_fault again (other a) vs rows ≡ use_fault again a vs rows
   use_same again a vs rows = ap (or_else (range_kinds (unwrap_or_range a.range).start_inclusive (most_values a) (length vs)))
-      (ap (λ xs. action_fault (action_of a) again (other a) xs rows) (missing_same a vs) ∙ action_same (action_of a) again a (values_or_missing a vs) rows)
+      (ap (λ xs. action_fault (action_of a) again (other a) xs rows) (missing_same a vs)
+      ∙ action_same (action_of a) again a (values_or_missing a vs) rows)
 
   used_found : (o : Option Rule) (vs : List Text) (rows : List Row) → used_by_id (option_map other o) vs rows ≡ used_by_id o vs rows
   used_found None vs rows = refl
@@ -101,7 +103,8 @@ module _ (g : Option ValueParser → Option ValueParser)
   flag_met_same c a (Some v) h = refl
   flag_met_same c a None h = ap (λ (k : Held). (k, done)) (reacted_same c a [] h)
 
-  long_met_same : (c : List Rule) (o : Option Rule) (v : Option Text) (h : Held) → long_met (others c) (option_map other o) v h ≡ long_met c o v h
+  long_met_same : (c : List Rule) (o : Option Rule) (v : Option Text) (h : Held)
+      → long_met (others c) (option_map other o) v h ≡ long_met c o v h
   long_met_same c None v h = refl
   long_met_same c (Some a) v h = ap₂ (λ x y. if takes_values a then x else y) (option_met_same c a v h) (flag_met_same c a v h)
 
@@ -111,7 +114,8 @@ module _ (g : Option ValueParser → Option ValueParser)
   short_met_same c (Some a) rest h m n same = ap₂ (λ x y. if takes_values a then x else y) (option_met_same c a (attached_value rest) h)
       (same (reacted (others c) (other a) [] h) ∙ ap n (reacted_same c a [] h))
 
-  bundle_step_same : (c : List Rule) (x : Option ℕ) (flags : Text) (skip : ℕ) (so_far : Outcome) (h : Held) (m n : Text → ℕ → Outcome → Held → Held × Outcome)
+  bundle_step_same : (c : List Rule) (x : Option ℕ) (flags : Text) (skip : ℕ) (so_far : Outcome) (h : Held) (m n : Text → ℕ → Outcome
+      → Held → Held × Outcome)
       → ((t : Text) (k : ℕ) (s : Outcome) (i : Held) → m t k s i ≡ n t k s i)
       → bundle_step (others c) x flags skip so_far h m ≡ bundle_step c x flags skip so_far h n
   bundle_step_same c None flags skip so_far h m n same = refl
@@ -126,32 +130,34 @@ module _ (g : Option ValueParser → Option ValueParser)
   unfolding bundle_met
   bundle_met_same c zero flags skip so_far h = refl
   bundle_met_same c (suc k) flags skip so_far h =
-      bundle_step_same c (slice_get (chars flags) 0) flags skip so_far h (bundle_met (others c) k) (bundle_met c k) (λ t j s i. bundle_met_same c k t j s i)
+      bundle_step_same c (slice_get (chars flags) 0) flags skip so_far h (bundle_met (others c) k) (bundle_met c k)
+      (λ t j s i. bundle_met_same c k t j s i)
 
   option_word_same : (o : Option Rule) (id word : Text) (h : Held) → option_word (option_map other o) id word h ≡ option_word o id word h
-  option_word_same None id word h = refl
-  option_word_same (Some a) id word h = refl
+  option_word_same o id word h = grind arith
 
   plain_word_same : (c : List Rule) (w : Waiting) (word : Text) (h : Held) → plain_word (others c) w word h ≡ plain_word c w word h
   plain_word_same c (option id) word h =
-      ap (λ (p : Held × Waiting). (p.0, next p.1)) (ap (λ o. option_word o id word h) (by_id c id) ∙ option_word_same (arg_by_id c id) id word h)
-  plain_word_same c idle word h = refl
-  plain_word_same c positional word h = refl
+      ap (λ (p : Held × Waiting). (p.0, next p.1)) (ap (λ o. option_word o id word h) (by_id c id)
+      ∙ option_word_same (arg_by_id c id) id word h)
+  plain_word_same c w word h = refl
 
-  after_flag_same : (c : List Rule) (w : Waiting) (word : Text) (h : Held) (o : Outcome) → after_flag (others c) w word h o ≡ after_flag c w word h o
-  after_flag_same c w word h done = refl
-  after_flag_same c w word h (waits id) = refl
-  after_flag_same c w word h plain = plain_word_same c w word h
-  after_flag_same c w word h refused = plain_word_same c w word h
+  after_flag_same : (c : List Rule) (w : Waiting) (word : Text) (h : Held) (o : Outcome)
+      → after_flag (others c) w word h o ≡ after_flag c w word h o
+  after_flag_same c w word h o = grind (arith, plain_word_same c w word h)
 
-  met_same : (c : List Rule) (w : Waiting) (word : Text) (m n : Held × Outcome) → m ≡ n → after_flag (others c) w word m.0 m.1 ≡ after_flag c w word n.0 n.1
+  met_same : (c : List Rule) (w : Waiting) (word : Text) (m n : Held × Outcome) → m ≡ n
+      → after_flag (others c) w word m.0 m.1 ≡ after_flag c w word n.0 n.1
   met_same c w word m n same = after_flag_same c w word m.0 m.1 ∙ ap (λ (p : Held × Outcome). after_flag c w word p.0 p.1) same
 
-  short_or_plain_same : (c : List Rule) (w : Waiting) (word : Text) (o : Option Text) (h : Held) → short_or_plain (others c) w word o h ≡ short_or_plain c w word o h
-  short_or_plain_same c w word (Some flags) h = met_same c w word _ _ (bundle_met_same c (length flags) flags h.skip plain (record h { skip = 0 }))
+  short_or_plain_same : (c : List Rule) (w : Waiting) (word : Text) (o : Option Text) (h : Held)
+      → short_or_plain (others c) w word o h ≡ short_or_plain c w word o h
+  short_or_plain_same c w word (Some flags) h = met_same c w word _ _
+      (bundle_met_same c (length flags) flags h.skip plain (record h { skip = 0 }))
   short_or_plain_same c w word None h = plain_word_same c w word h
 
-  long_or_other_same : (c : List Rule) (w : Waiting) (word : Text) (o : Option (Text × Option Text)) (h : Held) → long_or_other (others c) w word o h ≡ long_or_other c w word o h
+  long_or_other_same : (c : List Rule) (w : Waiting) (word : Text) (o : Option (Text × Option Text)) (h : Held)
+      → long_or_other (others c) w word o h ≡ long_or_other c w word o h
   long_or_other_same c w word (Some p) h =
       met_same c w word _ _ (ap (λ o. long_met (others c) o p.1 h) (by_long c p.0) ∙ long_met_same c (arg_by_long c p.0) p.1 h)
   long_or_other_same c w word None h = short_or_plain_same c w word (short_of word) h
@@ -170,7 +176,8 @@ module _ (g : Option ValueParser → Option ValueParser)
   held_same : (c : List Rule) (a : Rule) (word : Text) (h : Held) → positional_held (others c) (other a) word h ≡ positional_held c a word h
   held_same c a word h = ap (λ k. pushed a.id word (if is_pending a h.pending && takes_several a then h else k)) (settled_same c h)
 
-  to_positional_same : (c : List Rule) (o : Option Rule) (word : Text) (w : Walk) (h : Held) → to_positional (others c) (option_map other o) word w h ≡ to_positional c o word w h
+  to_positional_same : (c : List Rule) (o : Option Rule) (word : Text) (w : Walk) (h : Held)
+      → to_positional (others c) (option_map other o) word w h ≡ to_positional c o word w h
   to_positional_same c None word w h = refl
   to_positional_same c (Some a) word w h = ap (λ k. record {
     held = k;
@@ -180,14 +187,14 @@ module _ (g : Option ValueParser → Option ValueParser)
     stopped = None;
   }) (held_same c a word h)
 
-  after_step_same : (c : List Rule) (word : Text) (w : Walk) (h : Held) (s : Step) → after_step (others c) word w h s ≡ after_step c word w h s
-  after_step_same c word w h (next waiting) = refl
-  after_step_same c word w h (trailing position) = refl
-  after_step_same c word w h (subcommand name) = refl
+  after_step_same : (c : List Rule) (word : Text) (w : Walk) (h : Held) (s : Step)
+      → after_step (others c) word w h s ≡ after_step c word w h s
   after_step_same c word w h value =
       ap (λ o. to_positional (others c) o word w h) (by_index c w.position) ∙ to_positional_same c (arg_by_index c w.position) word w h
+  after_step_same c word w h s = refl
 
-  walked_from_same : (c : List Rule) (names : Names) (s : Option (Text × List Text)) (w : Walk) (word : Text) → walked_from (others c) names s w word ≡ walked_from c names s w word
+  walked_from_same : (c : List Rule) (names : Names) (s : Option (Text × List Text)) (w : Walk) (word : Text)
+      → walked_from (others c) names s w word ≡ walked_from c names s w word
   walked_from_same c names (Some p) w word = refl
   walked_from_same c names None w word =
       let met : Held × Step = word_met c names w.is_trailing w.waiting w.position word w.held in
@@ -211,8 +218,10 @@ module _ (g : Option ValueParser → Option ValueParser)
   finished_same : (c : List Rule) (h : Held) → finished (others c) h ≡ finished c h
   finished_same c h = defaults_same c (settled (others c) h).rows ∙ ap (λ (k : Held). fold with_default k.rows c) (settled_same c h)
 
-  pub rows_same : (c : List Rule) (names : Names) (h : Held) (words : List Text) → finished (others c) (walk (others c) names h words).held ≡ finished c (walk c names h words).held
-  rows_same c names h words = finished_same c (walk (others c) names h words).held ∙ ap (λ (w : Walk). finished c w.held) (walk_same c names h words)
+  pub rows_same : (c : List Rule) (names : Names) (h : Held) (words : List Text)
+      → finished (others c) (walk (others c) names h words).held ≡ finished c (walk c names h words).held
+  rows_same c names h words = finished_same c (walk (others c) names h words).held
+      ∙ ap (λ (w : Walk). finished c w.held) (walk_same c names h words)
 
   -- ---- the same of the faults
 
@@ -231,18 +240,22 @@ module _ (g : Option ValueParser → Option ValueParser)
   settle_same : (c : List Rule) (again : Bool) (h : Held) → settle_fault (others c) again h ≡ settle_fault c again h
   settle_same c again h = settle_pending c again h.pending h.rows
 
-  react_same : (c : List Rule) (again : Bool) (a : Rule) (vs : List Text) (h : Held) → react_fault (others c) again (other a) vs h ≡ react_fault c again a vs h
+  react_same : (c : List Rule) (again : Bool) (a : Rule) (vs : List Text) (h : Held)
+      → react_fault (others c) again (other a) vs h ≡ react_fault c again a vs h
   react_same c again a vs h = ap₂ or_else (settle_same c again h)
       (use_same again a vs (settled (others c) h).rows ∙ ap (λ (k : Held). use_fault again a vs k.rows) (settled_same c h))
 
-  option_same : (c : List Rule) (again : Bool) (a : Rule) (v : Option Text) (h : Held) → option_fault (others c) again (other a) v h ≡ option_fault c again a v h
+  option_same : (c : List Rule) (again : Bool) (a : Rule) (v : Option Text) (h : Held)
+      → option_fault (others c) again (other a) v h ≡ option_fault c again a v h
   option_same c again a (Some v) h = react_same c again a (v ∷ []) h
   option_same c again a None h = settle_same c again h
 
-  long_same : (c : List Rule) (again : Bool) (o : Option Rule) (v : Option Text) (h : Held) → long_fault (others c) again (option_map other o) v h ≡ long_fault c again o v h
+  long_same : (c : List Rule) (again : Bool) (o : Option Rule) (v : Option Text) (h : Held)
+      → long_fault (others c) again (option_map other o) v h ≡ long_fault c again o v h
   long_same c again None v h = refl
   long_same c again (Some a) v h =
-      ap₂ (λ x y. if takes_values a then x else (if is_some v then kind.TooManyValues ∷ [] else y)) (option_same c again a v h) (react_same c again a [] h)
+      ap₂ (λ x y. if takes_values a then x else (if is_some v then kind.TooManyValues ∷ [] else y)) (option_same c again a v h)
+      (react_same c again a [] h)
 
   short_same : (c : List Rule) (again : Bool) (o : Option Rule) (rest : Text) (h : Held) (m n : Held → Kinds) → ((k : Held) → m k ≡ n k)
       → short_fault (others c) again (option_map other o) rest h m ≡ short_fault c again o rest h n
@@ -250,7 +263,8 @@ module _ (g : Option ValueParser → Option ValueParser)
   short_same c again (Some a) rest h m n same = ap₂ (λ x y. if takes_values a then x else y) (option_same c again a (attached_value rest) h)
       (ap₂ or_else (react_same c again a [] h) (same (reacted (others c) (other a) [] h) ∙ ap n (reacted_same c a [] h)))
 
-  bundle_step_fault_same : (c : List Rule) (again : Bool) (x : Option ℕ) (flags : Text) (skip : ℕ) (h : Held) (m n : Text → ℕ → Held → Kinds)
+  bundle_step_fault_same : (c : List Rule) (again : Bool) (x : Option ℕ) (flags : Text) (skip : ℕ) (h : Held) (m n : Text → ℕ → Held
+      → Kinds)
       → ((t : Text) (k : ℕ) (i : Held) → m t k i ≡ n t k i)
       → bundle_step_fault (others c) again x flags skip h m ≡ bundle_step_fault c again x flags skip h n
   bundle_step_fault_same c again None flags skip h m n same = refl
@@ -260,18 +274,21 @@ module _ (g : Option ValueParser → Option ValueParser)
       ∙ short_same c again (arg_by_short c x) rest h (m rest 0) (n rest 0) (same rest 0)
   bundle_step_fault_same c again (Some x) flags (suc skip) h m n same = same (drop (length (encode_utf8 x)) flags) skip h
 
-  flags_same : (c : List Rule) (again : Bool) (k : ℕ) (flags : Text) (skip : ℕ) (h : Held) → flags_fault (others c) again k flags skip h ≡ flags_fault c again k flags skip h
+  flags_same : (c : List Rule) (again : Bool) (k : ℕ) (flags : Text) (skip : ℕ) (h : Held)
+      → flags_fault (others c) again k flags skip h ≡ flags_fault c again k flags skip h
   unfolding flags_fault
   flags_same c again zero flags skip h = refl
   flags_same c again (suc k) flags skip h =
-      bundle_step_fault_same c again (slice_get (chars flags) 0) flags skip h (flags_fault (others c) again k) (flags_fault c again k) (λ t j i. flags_same c again k t j i)
+      bundle_step_fault_same c again (slice_get (chars flags) 0) flags skip h (flags_fault (others c) again k) (flags_fault c again k)
+      (λ t j i. flags_same c again k t j i)
 
   bundles_same : (c : List Rule) (again : Bool) (o : Option Text) (h : Held)
       → option_map_or (λ flags. bundle_fault (others c) again flags h) o [] ≡ option_map_or (λ flags. bundle_fault c again flags h) o []
   bundles_same c again None h = refl
   bundles_same c again (Some flags) h = flags_same c again (length flags) flags h.skip (record h { skip = 0 })
 
-  flag_word_same : (c : List Rule) (again : Bool) (o : Option (Text × Option Text)) (word : Text) (h : Held) → flag_word_fault (others c) again o word h ≡ flag_word_fault c again o word h
+  flag_word_same : (c : List Rule) (again : Bool) (o : Option (Text × Option Text)) (word : Text) (h : Held)
+      → flag_word_fault (others c) again o word h ≡ flag_word_fault c again o word h
   flag_word_same c again (Some p) word h =
       ap (λ o. long_fault (others c) again o p.1 h) (by_long c p.0) ∙ long_same c again (arg_by_long c p.0) p.1 h
   flag_word_same c again None word h = bundles_same c again (short_of word) h
@@ -284,7 +301,8 @@ module _ (g : Option ValueParser → Option ValueParser)
   other_fault_same s None word h =
       ap (λ x. if bytes_eq word (45 ∷ 45 ∷ []) then [] else x) (flag_word_same s.rules s.args_override_self (long_of word) word h)
 
-  positional_same : (c : List Rule) (again : Bool) (a : Rule) (h : Held) → positional_fault (others c) again (other a) h ≡ positional_fault c again a h
+  positional_same : (c : List Rule) (again : Bool) (a : Rule) (h : Held)
+      → positional_fault (others c) again (other a) h ≡ positional_fault c again a h
   positional_same c again a h = ap (λ x. if is_pending a h.pending && takes_several a then [] else x) (settle_same c again h)
 
   stray_same : (s : Shape) (o : Option Rule) (h : Held)
@@ -294,26 +312,28 @@ module _ (g : Option ValueParser → Option ValueParser)
   stray_same s (Some a) h = positional_same s.rules s.args_override_self a h
 
   step_same : (s : Shape) (position : ℕ) (h : Held) (x : Step) → step_fault (with_others s) position h x ≡ step_fault s position h x
-  step_same s position h (next waiting) = refl
-  step_same s position h (trailing p) = refl
-  step_same s position h (subcommand name) = refl
   step_same s position h value =
-      ap (λ o. option_map_or (λ a. positional_fault (others s.rules) s.args_override_self a h) o (stray_fault s)) (by_index s.rules position)
+      ap (λ o. option_map_or (λ a. positional_fault (others s.rules) s.args_override_self a h) o (stray_fault s))
+      (by_index s.rules position)
       ∙ stray_same s (arg_by_index s.rules position) h
+  step_same s position h x = refl
 
   turn_same : (s : Shape) (names : Names) (w : Walk) (word : Text) → turn_fault (with_others s) names w word ≡ turn_fault s names w word
   turn_same s names w word =
       let met : Held × Step = word_met s.rules names w.is_trailing w.waiting w.position word w.held in
       ap₂ (λ x y. if is_some w.stopped then [] else or_else (if w.is_trailing then [] else x) y)
       (other_fault_same s (subcommand_met names w.waiting word) word w.held)
-      (ap (λ (p : Held × Step). step_fault (with_others s) w.position p.0 p.1) (word_met_same s.rules names w.is_trailing w.waiting w.position word w.held)
+      (ap (λ (p : Held × Step). step_fault (with_others s) w.position p.0 p.1)
+      (word_met_same s.rules names w.is_trailing w.waiting w.position word w.held)
       ∙ step_same s w.position met.0 met.1)
 
-  walk_fault_same : (s : Shape) (names : Names) (w : Walk) (words : List Text) → walk_fault (with_others s) names w words ≡ walk_fault s names w words
+  walk_fault_same : (s : Shape) (names : Names) (w : Walk) (words : List Text)
+      → walk_fault (with_others s) names w words ≡ walk_fault s names w words
   unfolding walk_fault
   walk_fault_same s names w [] = refl
   walk_fault_same s names w (word ∷ rest) = ap₂ or_else (turn_same s names w word)
-      (walk_fault_same s names (walked (others s.rules) names w word) rest ∙ ap (λ x. walk_fault s names x rest) (walked_same s.rules names w word))
+      (walk_fault_same s names (walked (others s.rules) names w word) rest
+      ∙ ap (λ x. walk_fault s names x rest) (walked_same s.rules names w word))
 
   given_default_same : (a : Rule) (vs : List Text) → given_default_fault (other a) vs ≡ given_default_fault a vs
   given_default_same a vs = ap (or_else (request_kinds (action_of a))) (values_same a.ignore_case a.parser vs)
@@ -328,7 +348,8 @@ module _ (g : Option ValueParser → Option ValueParser)
       (defaults_fault_same c (with_default rows (other a)) ∙ ap (λ r. defaults_fault r c) (default_same rows a))
 
   check_same : (s : Shape) (rows : List Row) (sub : Bool) → check_fault (with_others s) rows sub ≡ check_fault s rows sub
-  check_same s rows sub = ap (λ x. check_kinds (not sub && (s.arg_required_else_help && not (list_any (λ r. explicit_source r.source) rows)))
+  check_same s rows sub = ap
+      (λ x. check_kinds (not sub && (s.arg_required_else_help && not (list_any (λ r. explicit_source r.source) rows)))
       (not sub && s.subcommand_required) (not (s.subcommand_negates_reqs && sub) && x))
       (sym (list_any-map (λ (a : Rule). a.required && not (is_given a.id rows)) other s.rules))
 
@@ -345,11 +366,14 @@ module _ (g : Option ValueParser → Option ValueParser)
       ∙ ap (λ (k : Held). defaults_fault k.rows s.rules) (settled_same s.rules end ∙ ap (settled s.rules) end_same))
       (check_same s (finished (others s.rules) end) sub ∙ ap (λ rows. check_fault s rows sub) (rows_same s.rules names h words)))))
 
-  stopped_same : (c : List Rule) (names : Names) (h : Held) (words : List Text) → (walk (others c) names h words).stopped ≡ (walk c names h words).stopped
+  stopped_same : (c : List Rule) (names : Names) (h : Held) (words : List Text)
+      → (walk (others c) names h words).stopped ≡ (walk c names h words).stopped
   stopped_same c names h words = ap (λ (w : Walk). w.stopped) (walk_same c names h words)
 
-  pub app_faults_same : (a : App) (h : Held) (words : List Text) → built_fault (record a { top = with_others a.top }) h words ≡ built_fault a h words
+  pub app_faults_same : (a : App) (h : Held) (words : List Text)
+      → built_fault (record a { top = with_others a.top }) h words ≡ built_fault a h words
   app_faults_same a h words =
       let stop = (walk (others a.top.rules) (names_of a) h words).stopped in
       faults_same a.top (names_of a) h words (is_some (entered a stop)) (entered_fault a stop)
-      ∙ ap (λ (s : Option (Text × List Text)). level_fault a.top (names_of a) h words (is_some (entered a s)) (entered_fault a s)) (stopped_same a.top.rules (names_of a) h words)
+      ∙ ap (λ (s : Option (Text × List Text)). level_fault a.top (names_of a) h words (is_some (entered a s)) (entered_fault a s))
+      (stopped_same a.top.rules (names_of a) h words)

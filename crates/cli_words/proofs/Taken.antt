@@ -14,7 +14,8 @@ use Rattle.clap.specs.declared.error.kind.ErrorKind.TheVariants.{OutOfMemory}
 use Rattle.clap.specs.declared.parser.matches.ArgMatches.{ArgMatches}
 
 -- a text that reads as a number in a range is read as that number
-pub number_is : (E : Type 0) (G : List ℕ → Result ℕ E → Type 0) (f : Found) (id : List ℕ) (low high n : ℕ) (r : Option ℕ) → HasNumber f id low high
+pub number_is : (E : Type 0) (G : List ℕ → Result ℕ E → Type 0) (f : Found) (id : List ℕ) (low high n : ℕ) (r : Option ℕ)
+    → HasNumber f id low high
     → ((t : List ℕ) → one_text f id ≡ Some t → ReadsOne G t r) → ((u : List ℕ) (x : Result ℕ E) → G u x → ParsesUnsigned 64 10 u x)
     → r ≡ Some n → number_of id (rows_of f) ≡ Some n
 number_is E G f id low high n r has reads parses is =
@@ -23,10 +24,12 @@ number_is E G f id low high n r has reads parses is =
     rw read (ap Some (sym got.1))
 
 -- that number lies in the range
-pub number_in : (f : Found) (id : List ℕ) (low high n : ℕ) → HasNumber f id low high → number_of id (rows_of f) ≡ Some n → (low ≤ n) × (n ≤ high)
+pub number_in : (f : Found) (id : List ℕ) (low high n : ℕ) → HasNumber f id low high → number_of id (rows_of f) ≡ Some n → (low ≤ n)
+    × (n ≤ high)
 number_in f id low high n has is =
     let read : one_of id (rows_of f) ≡ Some has.0 = sym (one_text-rows f id) ∙ has.1 in
-    let same : Some (digits_value 10 (without_leading_plus has.0)) ≡ Some n = sym (ap (option_map (λ text. digits_value 10 (without_leading_plus text))) read) ∙ is in
+    let same : Some (digits_value 10 (without_leading_plus has.0)) ≡ Some n = sym
+    (ap (option_map (λ text. digits_value 10 (without_leading_plus text))) read) ∙ is in
     let n_is : digits_value 10 (without_leading_plus has.0) ≡ n = cc in
     let at_least = has.2.2 in
     let at_most = has.2.3 in
@@ -40,7 +43,8 @@ pub is_free : (list : NameList) → is_simple_and_free (interp_command_at list) 
 is_free list = refl
 
 -- an error of another kind than want of memory comes only where the command refuses the words
-pub is_refused : (list : NameList) (a : App) (words texts : List Text) (e : Error) → IsModeNames list → a ≡ interp_command_at list → texts ≡ words
+pub is_refused : (list : NameList) (a : App) (words texts : List Text) (e : Error) → IsModeNames list → a ≡ interp_command_at list
+    → texts ≡ words
     → (is_simple_and_free a ≡ true → HasKind (fault_of a texts) e) → (kind_of e ≡ OutOfMemory → ⊥) → fault_of interp_command words ≡ [] → ⊥
 is_refused list a words texts e four is same has other none =
     let fault : fault_of a texts ≡ [] = ap₂ fault_of is same ∙ fault_is list words four ∙ none in
@@ -48,7 +52,8 @@ is_refused list a words texts e four is same has other none =
     elim kind [ inl out ↦ other out | inr no_kind ↦ no_kind ]
 
 -- where it takes them, the matches are those of the definition
-pub is_taken : (list : NameList) (a : App) (words texts : List Text) (m : ArgMatches) → IsModeNames list → a ≡ interp_command_at list → texts ≡ words
+pub is_taken : (list : NameList) (a : App) (words texts : List Text) (m : ArgMatches) → IsModeNames list → a ≡ interp_command_at list
+    → texts ≡ words
     → (is_simple_and_free a ≡ true → fault_of a texts ≡ []) → HasMatchesOf a texts m
     → (fault_of interp_command words ≡ []) × (rows_of (found_of m) ≡ matches_of interp_command words)
 is_taken list a words texts m four is same free has =

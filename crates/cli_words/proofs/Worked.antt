@@ -1,42 +1,30 @@
 -- The definition computes at words that are written out.
-use Rattle.std.proofs.Common.{◌≡◌, ◌∷◌, [], refl, codes, Some}
-use Rattle.clap.specs.Words.{fault_of, matches_of}
+use Rattle.std.proofs.Common.{◌≡◌, ◌∷◌, [], List, refl, codes, Some}
+use Rattle.clap.specs.Words.{Text, fault_of, matches_of}
+use Rattle.clap.specs.Kinds.{Kinds}
 use Rattle.clap.specs.declared.error.kind.ErrorKind.TheVariants as kind
 use Rattle.clap.proofs.OnLiterals.{clap_on_literals}
 use Rattle.cli_words.specs.CommandLine.{interp_command, number_of}
 
-no_mode : fault_of interp_command (codes "interp" ∷ []) ≡ kind.MissingRequiredArgument ∷ []
-unfolding clap_on_literals
-no_mode = refl
+abbrev HasFaults : List Text → Kinds → Type 0
+HasFaults words kinds = fault_of interp_command words ≡ kinds
 
-no_words : fault_of interp_command [] ≡ kind.MissingRequiredArgument ∷ []
+-- no mode, no words, too few nodes and too many, an option twice, help, no value, and the beginning of an option's name
+worked : HasFaults (codes "interp" ∷ []) (kind.MissingRequiredArgument ∷ [])
+    × HasFaults [] (kind.MissingRequiredArgument ∷ [])
+    × HasFaults (codes "interp" ∷ codes "anf" ∷ codes "--nodes" ∷ codes "3" ∷ []) (kind.ValueValidation ∷ [])
+    × HasFaults (codes "interp" ∷ codes "anf" ∷ codes "--nodes" ∷ codes "24" ∷ []) (kind.ValueValidation ∷ [])
+    × HasFaults (codes "interp" ∷ codes "anf" ∷ codes "--seed" ∷ codes "1" ∷ codes "--seed=1" ∷ []) (kind.ArgumentConflict ∷ [])
+    × HasFaults (codes "interp" ∷ codes "anf" ∷ codes "-h" ∷ []) (kind.DisplayHelp ∷ [])
+    × HasFaults (codes "interp" ∷ codes "anf" ∷ codes "--seed" ∷ []) (kind.InvalidValue ∷ [])
+    × HasFaults (codes "interp" ∷ codes "anf" ∷ codes "--se" ∷ codes "1" ∷ []) (kind.UnknownArgument ∷ [])
 unfolding clap_on_literals
-no_words = refl
+worked = (refl, refl, refl, refl, refl, refl, refl, refl)
 
-too_few_nodes : fault_of interp_command (codes "interp" ∷ codes "anf" ∷ codes "--nodes" ∷ codes "3" ∷ []) ≡ kind.ValueValidation ∷ []
-unfolding clap_on_literals
-too_few_nodes = refl
+-- words that are taken, with the number that they say
+plus_eight : List Text
+plus_eight = codes "interp" ∷ codes "--workers=+08" ∷ codes "--" ∷ codes "anf" ∷ []
 
-plus_eight : fault_of interp_command (codes "interp" ∷ codes "--workers=+08" ∷ codes "--" ∷ codes "anf" ∷ []) ≡ []
-unfolding clap_on_literals
-plus_eight = refl
-
-is_eight : number_of (codes "workers") (matches_of interp_command (codes "interp" ∷ codes "--workers=+08" ∷ codes "--" ∷ codes "anf" ∷ [])) ≡ Some 8
-unfolding clap_on_literals
-is_eight = refl
-
-twice : fault_of interp_command (codes "interp" ∷ codes "anf" ∷ codes "--seed" ∷ codes "1" ∷ codes "--seed=1" ∷ []) ≡ kind.ArgumentConflict ∷ []
-unfolding clap_on_literals
-twice = refl
-
-help : fault_of interp_command (codes "interp" ∷ codes "anf" ∷ codes "-h" ∷ []) ≡ kind.DisplayHelp ∷ []
-unfolding clap_on_literals
-help = refl
-
-no_value : fault_of interp_command (codes "interp" ∷ codes "anf" ∷ codes "--seed" ∷ []) ≡ kind.InvalidValue ∷ []
-unfolding clap_on_literals
-no_value = refl
-
-prefix : fault_of interp_command (codes "interp" ∷ codes "anf" ∷ codes "--se" ∷ codes "1" ∷ []) ≡ kind.UnknownArgument ∷ []
-unfolding clap_on_literals
-prefix = refl
+is_eight : HasFaults plus_eight [] × (number_of (codes "workers") (matches_of interp_command plus_eight) ≡ Some 8)
+unfolding clap_on_literals plus_eight
+is_eight = (refl, refl)

@@ -7,6 +7,7 @@ use Rattle.clap.specs.declared.builder.action.ArgAction.TheVariants.{Set}
 use Rattle.clap.specs.declared.builder.value_parser.ValueParser.{ValueParser}
 use Rattle.clap.specs.declared.builder.value_parser.ValueParser.TheVariants as parser
 use Rattle.clap.specs.declared.parser.matches.Found.{Found}
+use Rattle.lattice.specs.declared.limits.TheConstants.{MIN_BITS, MAX_BITS}
 use Rattle.lattice.specs.declared.Mode.{Mode}
 use Rattle.lattice.specs.declared.Mode.TheVariants.{Anf, Basis, Check, Gen}
 use Rattle.cli_words.specs.declared.job.Job.{Job}
@@ -49,7 +50,7 @@ abbrev pub workers_rule : Rule
 workers_rule = option_rule (codes "workers") (parser.Unsigned 1 16) (codes "1")
 
 abbrev pub nodes_rule : Rule
-nodes_rule = option_rule (codes "nodes") (parser.Unsigned 4 19) (codes "19")
+nodes_rule = option_rule (codes "nodes") (parser.Unsigned MIN_BITS MAX_BITS) (codes "19")
 
 abbrev pub terms_rule : Rule
 terms_rule = option_rule (codes "terms") (parser.Unsigned 1 1000000) (codes "1000000")
@@ -83,7 +84,7 @@ pub record IsJob (rows : List Row) (job : Job) : Type 0 where
   pub seed : number_of (codes "seed") rows ≡ Some job.seed
   pub mode_in : Contains modes job.mode
   pub workers_in : (1 ≤ job.workers) × (job.workers ≤ 16)
-  pub nodes_in : (4 ≤ job.nodes) × (job.nodes ≤ 19)
+  pub nodes_in : (MIN_BITS ≤ job.nodes) × (job.nodes ≤ MAX_BITS)
   pub terms_in : (1 ≤ job.terms) × (job.terms ≤ 1000000)
 
 -- a parse found a value of MODE
@@ -99,6 +100,6 @@ HasNumber found id low high =
 pub record HasEach (found : Found) : Type 0 where
   pub mode : HasMode found
   pub workers : HasNumber found (codes "workers") 1 16
-  pub nodes : HasNumber found (codes "nodes") 4 19
+  pub nodes : HasNumber found (codes "nodes") MIN_BITS MAX_BITS
   pub terms : HasNumber found (codes "terms") 1 1000000
   pub seed : HasNumber found (codes "seed") 0 18446744073709551615

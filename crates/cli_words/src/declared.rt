@@ -5,6 +5,7 @@ ghost use Rattle.cli_words.specs.CommandLine.{IsModeNames, NameList, interp_comm
 
 use clap::builder::ValueParser;
 use clap::{Arg, ArgAction, Command, value_parser};
+use lattice::{MAX_BITS, MIN_BITS};
 use std::alloc::{AllocError, Global};
 
 /// The values of MODE.
@@ -44,7 +45,7 @@ fn nodes<'a>(alloc: Global) -> Arg<'a>
     ensures rule { rule_of result ≡ nodes_rule }
     ensures local { result.global ≡ false }
 {
-    let parser = value_parser!(u64).range(4..=19);
+    let parser = value_parser!(u64).range(MIN_BITS as i64..=MAX_BITS as i64);
     option(alloc, "nodes", parser, "19")
 }
 

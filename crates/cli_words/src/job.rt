@@ -18,7 +18,7 @@ pub struct Job {
     pub mode: Mode,
     /// The number of threads, from 1 to 16, by default 1.
     pub workers: u32,
-    /// The store has room for 2 to this power of nodes; from 4 to 19, by default 19.
+    /// The store has room for 2 to this power of nodes; from 4 to 23, by default 19.
     pub nodes: u32,
     /// The greatest number of terms, from 1 to 1,000,000, by default 1,000,000.
     pub terms: u64,

@@ -28,6 +28,7 @@ fn words_that_are_taken(rt: HostRuntime) -> Result<(), Fail> {
         workers: 8,
         ..plain
     };
+    let large = Job { nodes: 23, ..plain };
     let basis = Job {
         mode: Mode::Basis,
         ..plain
@@ -50,6 +51,7 @@ fn words_that_are_taken(rt: HostRuntime) -> Result<(), Fail> {
         ("interp anf --", plain),
         ("interp basis", basis),
         ("interp check", check),
+        ("interp anf --nodes 23", large),
         ("interp anf --workers 8", eight),
         ("interp anf --workers=8", eight),
         ("interp --workers 8 anf", eight),
@@ -79,7 +81,7 @@ fn words_that_are_refused(rt: HostRuntime) -> Result<(), Fail> {
         "interp gen",
         "interp anf basis",
         "interp anf --nodes 3",
-        "interp anf --nodes 20",
+        "interp anf --nodes 24",
         "interp anf --workers 0",
         "interp anf --workers 17",
         "interp anf --workers -1",

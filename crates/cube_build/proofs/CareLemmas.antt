@@ -1,24 +1,23 @@
 -- The care points of an output, by the type of the description.
-use Rattle.std.proofs.Common.{◌≡◌, ℕ, Bool, true, false, not, ◌&&◌, ◌||◌, List, [], ◌∷◌, ◌++◌, Some, Result, Ok, Err, IsErr, refl, sym, ◌∙◌, ap, ap₂, subst, append_assoc}
+use Rattle.std.proofs.Common.{◌≡◌, ℕ, Bool, true, false, not, ◌&&◌, ◌||◌, List, [], ◌∷◌, ◌++◌, Result, Ok, Err, IsErr, refl, ◌∙◌}
+use Rattle.std.proofs.Common.{ap, ap₂, append-nil}
 use Rattle.std.proofs.lemmas.Bool.{false≢true}
 use Rattle.lattice.specs.Family.{Family, IsFamily, has, family_where, combine, power, first_only, union_of, minus_of, Covers}
-use Rattle.lattice.specs.Cofactors.{sub}
 use Rattle.lattice.specs.Rows.{cover, in_cube, on_rows, off_rows, dc_rows, on_set, off_set, dc_set, points_where, care_zeros, care_ones}
-use Rattle.lattice.specs.WorkingLists.{working_set, cover_list, care_list}
+use Rattle.lattice.specs.WorkingLists.{cover_list, care_list}
 use Rattle.std.specs.List.{list_any}
 use Rattle.lattice.specs.declared.row.Row.{Row}
 use Rattle.lattice.specs.declared.kind.Kind.{Kind}
 use Rattle.lattice.specs.declared.kind.Kind.TheVariants.{F, Fd, Fr, Fdr}
-use Rattle.lattice.proofs.Comprehension.{IsFamily-family_where, family_where-agree, family_where_has, has-family_where_below}
-use Rattle.lattice.proofs.Subfamilies.{has-power}
-use Rattle.node_store.specs.Stores.{State, Denotes, Gives}
+use Rattle.lattice.proofs.Diagrams.{has-power, covers_nil}
+use Rattle.lattice.proofs.Polynomials.{IsFamily-family_where, has-family_where_below, family_where_has, family_where-agree}
+use Rattle.node_store.specs.Stores.{State, Denotes, Reads, Gives}
 use Rattle.node_store.specs.declared.store.Handle.{Handle}
 use Rattle.node_store.specs.declared.store.Full.{Full}
-use Rattle.node_store.proofs.StoreLemmas.{Gives-failed}
+use Rattle.node_store.proofs.StoreLaws.{failed_after, Grows-refl}
 use Rattle.cube_build.specs.GivenCareSets.{care_needs, GivesCareSets}
 use Rattle.cube_build.specs.declared.care.CareSets.{CareSets}
-use Rattle.cube_build.proofs.WorkingLemmas.{set_left, set_right, set_head}
-use Rattle.cube_build.proofs.BuiltSets.{Built}
+use Rattle.cube_build.proofs.CallsUnderway.{Underway, underway, rest_of}
 
 IsFamily-cover : (n : ℕ) (rows : List Row) → IsFamily n (cover n rows)
 unfolding cover
@@ -52,7 +51,8 @@ module _ (n : ℕ) (rows : List Row) (output : ℕ) where
   zeros_fd =
       let o : Family = on_set n rows output in
       let d : Family = dc_set n rows output in
-      family_where-agree n (λ a. first_only (has (power n) a) (has (family_where n (λ a. has o a || has d a)) a)) (λ a. not (has o a) && not (has d a))
+      family_where-agree n (λ a. first_only (has (power n) a) (has (family_where n (λ a. has o a || has d a)) a))
+      (λ a. not (has o a) && not (has d a))
       (λ a b. ap₂ first_only (has-power n a b) (has-family_where_below n (λ a. has o a || has d a) a b) ∙ neither (has o a) (has d a))
     where
       neither : (x y : Bool) → first_only true (x || y) ≡ (not x && not y)
@@ -67,120 +67,60 @@ module _ (n : ℕ) (rows : List Row) (output : ℕ) where
   unfolding points_where combine
   zeros_fdr = refl
 
--- ---- the lists in the order of the calls, and what a plan of them has
+-- ---- the calls that find the care sets, at the start and at the end
 
+-- the list as the calls find it
 module _ (n : ℕ) (rows : List Row) (output : ℕ) where
-  pub list_f : cover_list n (on_rows output rows) ++ power n ∷ minus_of n (power n) (on_set n rows output) ∷ [] ≡ care_list n F rows output
-  unfolding care_list
-  list_f = ap (λ f. cover_list n (on_rows output rows) ++ power n ∷ f ∷ []) (zeros_f n rows output)
+  abbrev ons : List Family
+  ons = cover_list n (on_rows output rows)
 
-  pub list_fd : (((cover_list n (on_rows output rows) ++ cover_list n (dc_rows output rows)) ++ minus_of n (on_set n rows output) (dc_set n rows output) ∷ []) ++ union_of n (on_set n rows output) (dc_set n rows output) ∷ [])
-      ++ power n ∷ minus_of n (power n) (union_of n (on_set n rows output) (dc_set n rows output)) ∷ [] ≡ care_list n Fd rows output
-  unfolding care_list
-  list_fd = rw (ones_fd n rows output, zeros_fd n rows output) (simp append_assoc)
+  abbrev offs : List Family
+  offs = cover_list n (off_rows output rows)
 
-  pub list_fr : cover_list n (on_rows output rows) ++ cover_list n (off_rows output rows) ≡ care_list n Fr rows output
-  unfolding care_list
-  list_fr = refl
+  abbrev dcs : List Family
+  dcs = cover_list n (dc_rows output rows)
 
-  pub list_fdr : (((cover_list n (on_rows output rows) ++ cover_list n (off_rows output rows)) ++ cover_list n (dc_rows output rows)) ++ minus_of n (on_set n rows output) (dc_set n rows output) ∷ [])
-      ++ minus_of n (off_set n rows output) (dc_set n rows output) ∷ [] ≡ care_list n Fdr rows output
-  unfolding care_list
-  list_fdr = rw (ones_fdr n rows output, zeros_fdr n rows output) (simp append_assoc)
+  abbrev pub calls_of : Kind → List Family
+  calls_of F = ons ++ rest_of (on_set n rows output) n
+  calls_of Fd = ons ++
+      (dcs ++ (minus_of n (on_set n rows output) (dc_set n rows output) ∷ union_of n (on_set n rows output) (dc_set n rows output)
+      ∷ rest_of (union_of n (on_set n rows output) (dc_set n rows output)) n))
+  calls_of Fr = ons ++ (offs ++ [])
+  calls_of Fdr = ons ++ (offs ++ (dcs ++ (minus_of n (on_set n rows output) (dc_set n rows output)
+      ∷ minus_of n (off_set n rows output) (dc_set n rows output) ∷ [])))
 
--- fs has what the union of the rows' cubes needs, and what the points outside a family need
-abbrev pub CoversUnion : ℕ → List Family → List Row → Type 0
-CoversUnion n fs chosen = Covers fs (working_set n (cover_list n chosen))
+  pub calls_are : (kind : Kind) → calls_of kind ≡ care_list n kind rows output
+  unfolding care_list points_where combine
+  calls_are F = ap (λ f. ons ++ power n ∷ f ∷ []) (zeros_f n rows output)
+  calls_are Fd = ap (λ f. ons ++
+      (dcs ++ (minus_of n (on_set n rows output) (dc_set n rows output) ∷ union_of n (on_set n rows output) (dc_set n rows output)
+      ∷ power n ∷ f ∷ []))) (zeros_fd n rows output)
+  calls_are Fr = ap (λ fs. ons ++ fs) (append-nil offs)
+  calls_are Fdr = refl
 
-abbrev pub CoversRest : ℕ → List Family → Family → Type 0
-CoversRest n fs f = Covers fs (working_set n (power n ∷ minus_of n (power n) f ∷ []))
+pub calls_begin : {s : State} (kind : Kind) (rows : List Row) (output : ℕ) → Covers s.plan (care_needs s.vars kind rows output)
+    → Underway s s (calls_of s.vars rows output kind) (calls_of s.vars rows output kind)
+calls_begin {s} kind rows output planned =
+    underway s (calls_of s.vars rows output kind) (rw (calls_are s.vars rows output kind) planned)
 
-module _ (n : ℕ) (fs : List Family) where
-  last_of : (A : List Family) (o : Family) → Covers fs (working_set n (A ++ o ∷ [])) → Covers fs (sub n o)
-  last_of A o all = set_head n fs o [] (set_right n fs A (o ∷ []) all)
-
-module _ (n : ℕ) (rows : List Row) (output : ℕ) (fs : List Family) where
-  pub plan_f : Covers fs (care_needs n F rows output) → CoversUnion n fs (on_rows output rows) × CoversRest n fs (on_set n rows output)
-  plan_f all =
-      let ons : List Family = cover_list n (on_rows output rows) in
-      let rest : List Family = power n ∷ minus_of n (power n) (on_set n rows output) ∷ [] in
-      let parts : Covers fs (working_set n (ons ++ rest)) = subst (λ l. Covers fs (working_set n l)) (sym (list_f n rows output)) all in
-      (set_left n fs ons rest parts, set_right n fs ons rest parts)
-
-  pub plan_fr : Covers fs (care_needs n Fr rows output) → CoversUnion n fs (on_rows output rows) × CoversUnion n fs (off_rows output rows)
-  plan_fr all =
-      let ons : List Family = cover_list n (on_rows output rows) in
-      let offs : List Family = cover_list n (off_rows output rows) in
-      let parts : Covers fs (working_set n (ons ++ offs)) = subst (λ l. Covers fs (working_set n l)) (sym (list_fr n rows output)) all in
-      (set_left n fs ons offs parts, set_right n fs ons offs parts)
-
-  pub plan_fd : Covers fs (care_needs n Fd rows output) → CoversUnion n fs (on_rows output rows) × CoversUnion n fs (dc_rows output rows)
-      × Covers fs (sub n (minus_of n (on_set n rows output) (dc_set n rows output))) × Covers fs (sub n (union_of n (on_set n rows output) (dc_set n rows output)))
-      × CoversRest n fs (union_of n (on_set n rows output) (dc_set n rows output))
-  plan_fd all =
-      let ons : List Family = cover_list n (on_rows output rows) in
-      let dcs : List Family = cover_list n (dc_rows output rows) in
-      let one : Family = minus_of n (on_set n rows output) (dc_set n rows output) in
-      let listed : Family = union_of n (on_set n rows output) (dc_set n rows output) in
-      let rest : List Family = power n ∷ minus_of n (power n) listed ∷ [] in
-      let p5 : Covers fs (working_set n ((((ons ++ dcs) ++ one ∷ []) ++ listed ∷ []) ++ rest)) = subst (λ l. Covers fs (working_set n l)) (sym (list_fd n rows output)) all in
-      let p4 : Covers fs (working_set n (((ons ++ dcs) ++ one ∷ []) ++ listed ∷ [])) = set_left n fs (((ons ++ dcs) ++ one ∷ []) ++ listed ∷ []) rest p5 in
-      let p3 : Covers fs (working_set n ((ons ++ dcs) ++ one ∷ [])) = set_left n fs ((ons ++ dcs) ++ one ∷ []) (listed ∷ []) p4 in
-      let p2 : Covers fs (working_set n (ons ++ dcs)) = set_left n fs (ons ++ dcs) (one ∷ []) p3 in (
-        set_left n fs ons dcs p2,
-        set_right n fs ons dcs p2,
-        last_of n fs (ons ++ dcs) one p3,
-        last_of n fs ((ons ++ dcs) ++ one ∷ []) listed p4,
-        set_right n fs (((ons ++ dcs) ++ one ∷ []) ++ listed ∷ []) rest p5,
-      )
-
-  pub plan_fdr : Covers fs (care_needs n Fdr rows output) → CoversUnion n fs (on_rows output rows) × CoversUnion n fs (off_rows output rows) × CoversUnion n fs (dc_rows output rows)
-      × Covers fs (sub n (minus_of n (on_set n rows output) (dc_set n rows output))) × Covers fs (sub n (minus_of n (off_set n rows output) (dc_set n rows output)))
-  plan_fdr all =
-      let ons : List Family = cover_list n (on_rows output rows) in
-      let offs : List Family = cover_list n (off_rows output rows) in
-      let dcs : List Family = cover_list n (dc_rows output rows) in
-      let one : Family = minus_of n (on_set n rows output) (dc_set n rows output) in
-      let zero' : Family = minus_of n (off_set n rows output) (dc_set n rows output) in
-      let p5 : Covers fs (working_set n ((((ons ++ offs) ++ dcs) ++ one ∷ []) ++ zero' ∷ [])) = subst (λ l. Covers fs (working_set n l)) (sym (list_fdr n rows output)) all in
-      let p4 : Covers fs (working_set n (((ons ++ offs) ++ dcs) ++ one ∷ [])) = set_left n fs (((ons ++ offs) ++ dcs) ++ one ∷ []) (zero' ∷ []) p5 in
-      let p3 : Covers fs (working_set n ((ons ++ offs) ++ dcs)) = set_left n fs ((ons ++ offs) ++ dcs) (one ∷ []) p4 in
-      let p2 : Covers fs (working_set n (ons ++ offs)) = set_left n fs (ons ++ offs) dcs p3 in (
-        set_left n fs ons offs p2,
-        set_right n fs ons offs p2,
-        set_right n fs (ons ++ offs) dcs p3,
-        last_of n fs ((ons ++ offs) ++ dcs) one p4,
-        last_of n fs (((ons ++ offs) ++ dcs) ++ one ∷ []) zero' p5,
-      )
-
--- ---- the answer
-
-pub sets_given : (s t : State) (zeros ones : Handle) (list : List Family) (kind : Kind) (rows : List Row) (output : ℕ) (Z O : Family)
-    → Built s t list → list ≡ care_list s.vars kind rows output → Denotes t zeros Z → Z ≡ care_zeros s.vars kind rows output → Denotes t ones O → O ≡ care_ones s.vars kind rows output
+pub calls_end : (s t : State) (zeros ones : Handle) (kind : Kind) (rows : List Row) (output : ℕ)
+    → Underway s t (calls_of s.vars rows output kind) [] → Denotes t zeros (care_zeros s.vars kind rows output)
+    → Denotes t ones (care_ones s.vars kind rows output)
     → GivesCareSets s t (Ok (record { zeros = zeros; ones = ones })) s.vars kind rows output
-sets_given s t zeros ones list kind rows output Z O built same z_is z o_is o =
-    let all : Covers t.held (care_needs s.vars kind rows output) = subst (λ l. Covers t.held (working_set s.vars l)) same built.held in
+calls_end s t zeros ones kind rows output here z o =
+    let all : Covers t.held (care_needs s.vars kind rows output) =
+    rw (← calls_are s.vars rows output kind) (here.whole t (Grows-refl t) (covers_nil s.vars t.held)) in
     record {
-      zeros = record {
-        grows = built.reads.grows;
-        ok = z_is ∙ ap Some z;
-        held = all;
-        quiet = built.reads.quiet;
-        full = tt;
-      };
-      ones = record {
-        grows = built.reads.grows;
-        ok = o_is ∙ ap Some o;
-        held = all;
-        quiet = built.reads.quiet;
-        full = tt;
-      };
+      zeros = record { grows = here.reads.grows; ok = z; held = all; quiet = here.reads.quiet; full = tt };
+      ones = record { grows = here.reads.grows; ok = o; held = all; quiet = here.reads.quiet; full = tt };
     }
 
-pub sets_failed : (s t : State) (r : Result CareSets Full) (e : Full) (f : Family) (needed : List Family) (n : ℕ) (kind : Kind) (rows : List Row) (output : ℕ)
-    → IsErr r → Gives s t (Err e) f needed → GivesCareSets s t r n kind rows output
-sets_failed s t (Ok sets) e f needed n kind rows output err is = absurd (false≢true err)
-sets_failed s t (Err x) e f needed n kind rows output err is = record {
-  zeros = Gives-failed s t (Err x) e f (care_zeros n kind rows output) needed (care_needs n kind rows output) err is;
-  ones = Gives-failed s t (Err x) e f (care_ones n kind rows output) needed (care_needs n kind rows output) err is;
+-- a call after those that led from s to t failed
+pub calls_fail : {s t u : State} {r : Result CareSets Full} {e : Full} {f : Family} {needed : List Family} {n : ℕ} {kind : Kind}
+    {rows : List Row}
+    {output : ℕ} → IsErr r → Reads s t → Gives t u (Err e) f needed → GivesCareSets s u r n kind rows output
+calls_fail {r = Ok sets} err reads is = absurd (false≢true err)
+calls_fail {r = Err x} err reads is = record {
+  zeros = failed_after _ _ _ (Err x) _ _ _ _ _ err reads is;
+  ones = failed_after _ _ _ (Err x) _ _ _ _ _ err reads is;
 }

@@ -1,5 +1,6 @@
 -- A cube cut at its first variable, by the row's bits at this variable.
-use Rattle.std.proofs.Common.{◌≡◌, ◌≢◌, ℕ, zero, suc, ◌+◌, ◌*◌, ◌/◌, ◌%◌, ◌^◌, ◌<◌, ◌≤◌, ◌==◌, true, cond, [], ◌∷◌, bit_and, min, refl, sym, ◌∙◌, ap, ap₂, subst, arith, add-one, eqb-true, eq-eqb, ne_eqb, mod-eq_of_lt, ⊎_elim}
+use Rattle.std.proofs.Common.{◌≡◌, ◌≢◌, ℕ, zero, suc, ◌+◌, ◌*◌, ◌/◌, ◌%◌, ◌^◌, ◌<◌, ◌≤◌, ◌==◌, true, cond, [], ◌∷◌, bit_and, min, refl, sym}
+use Rattle.std.proofs.Common.{◌∙◌, ap, ap₂, subst, arith, add-one, eqb-true, eq-eqb, ne_eqb, mod-eq_of_lt, ⊎_elim}
 use Rattle.std.specs.Int.{bit_at}
 use Rattle.std.proofs.lemmas.Nat.{and_block, and_le_l, and_le_r, and_comm, shr_split, mod_below, mod-pow-add, pow_pos, one_shl}
 use Rattle.std.proofs.lemmas.Nat.Bits.{and_pow, bit_at_and, bit_at-lt, shr_and_one}
@@ -9,8 +10,8 @@ use Rattle.lattice.specs.Family.{Family, IsFamily, has, family_where, numbers_be
 use Rattle.lattice.specs.Cofactors.{join, low_cofactor, high_cofactor, sub}
 use Rattle.lattice.specs.Rows.{cube, in_cube}
 use Rattle.lattice.specs.declared.row.Row.{Row}
-use Rattle.lattice.proofs.Comprehension.{IsFamily-family_where, has-family_where_below, family_where-agree, family_where-none}
-use Rattle.lattice.proofs.Subfamilies.{join_cofactors_suc, sub-narrow, sub-low_cofactor, sub-high_cofactor}
+use Rattle.lattice.proofs.Diagrams.{join_cofactors_suc, sub-narrow, sub-low_cofactor, sub-high_cofactor}
+use Rattle.lattice.proofs.Polynomials.{IsFamily-family_where, has-family_where_below, family_where-agree, family_where-none}
 use Rattle.cube_build.specs.PartialCubes.{cube_behind}
 
 -- ---- numbers by their bit k and what is below it
@@ -28,7 +29,8 @@ and_with_bit k a m b =
     let low : a ≡ 0 * 2 ^ k + a = omega arith in
     let r : m % 2 ^ k < 2 ^ k = rest_below k m in
     let parts : m ≡ m / 2 ^ k * 2 ^ k + m % 2 ^ k = sym (shr_split m k) in
-    let one : bit_and (2 ^ k + a) m ≡ bit_and 1 (m / 2 ^ k) * 2 ^ k + bit_and a (m % 2 ^ k) = ap₂ bit_and high parts ∙ and_block k 1 (m / 2 ^ k) a (m % 2 ^ k) b r in
+    let one : bit_and (2 ^ k + a) m ≡ bit_and 1 (m / 2 ^ k) * 2 ^ k + bit_and a (m % 2 ^ k) = ap₂ bit_and high parts
+    ∙ and_block k 1 (m / 2 ^ k) a (m % 2 ^ k) b r in
     let none : 0 * 2 ^ k + bit_and a (m % 2 ^ k) ≡ bit_and a (m % 2 ^ k) = omega arith in
     let two : bit_and a m ≡ bit_and a (m % 2 ^ k) = ap₂ bit_and low parts ∙ (and_block k 0 (m / 2 ^ k) a (m % 2 ^ k) b r ∙ none) in
     let bit : bit_and 1 (m / 2 ^ k) ≡ bit_at m k = and_comm 1 (m / 2 ^ k) ∙ shr_and_one m k in
@@ -50,20 +52,23 @@ bit_absent k m small none =
 pub bit_present : (k m : ℕ) → k < 64 → (bit_and m (1 * 2 ^ k % 2 ^ 64) ≡ 0 → ⊥) → bit_at m k ≡ 1
 bit_present k m small some =
     let l : bit_at m k < 2 = bit_at-lt m k in
-    let ne : bit_at m k ≢ 0 = λ e. some (ap (bit_and m) (one_shl k 64 small) ∙ (and_pow m k ∙ (ap (λ (b : ℕ). b * 2 ^ k) e ∙ omega arith))) in
+    let ne : bit_at m k ≢ 0 = λ e. some (ap (bit_and m) (one_shl k 64 small) ∙ (and_pow m k ∙ (ap (λ (b : ℕ). b * 2 ^ k) e ∙ omega arith)))
+    in
     omega arith
 
 -- a value within care has no bit that care has not
 pub value_absent : (k : ℕ) (r : Row) → divides r.value r.care ≡ true → bit_at r.care k ≡ 0 → bit_at r.value k ≡ 0
 unfolding divides
 value_absent k r within none =
-    let e : bit_at r.value k ≡ min (bit_at r.value k) (bit_at r.care k) = ap (λ (v : ℕ). bit_at v k) (sym (eqb-true (bit_and r.value r.care) r.value within)) ∙ bit_at_and r.value r.care k in
+    let e : bit_at r.value k ≡ min (bit_at r.value k) (bit_at r.care k) = ap (λ (v : ℕ). bit_at v k)
+    (sym (eqb-true (bit_and r.value r.care) r.value within)) ∙ bit_at_and r.value r.care k in
     omega arith
 
 value_present : (k : ℕ) (r : Row) → divides r.value r.care ≡ true → bit_at r.value k ≢ 0 → bit_at r.care k ≡ bit_at r.value k
 unfolding divides
 value_present k r within some =
-    let e : bit_at r.value k ≡ min (bit_at r.value k) (bit_at r.care k) = ap (λ (v : ℕ). bit_at v k) (sym (eqb-true (bit_and r.value r.care) r.value within)) ∙ bit_at_and r.value r.care k in
+    let e : bit_at r.value k ≡ min (bit_at r.value k) (bit_at r.care k) = ap (λ (v : ℕ). bit_at v k)
+    (sym (eqb-true (bit_and r.value r.care) r.value within)) ∙ bit_at_and r.value r.care k in
     let one : bit_at r.value k < 2 = bit_at-lt r.value k in
     let two : bit_at r.care k < 2 = bit_at-lt r.care k in
     omega arith
@@ -75,7 +80,8 @@ twice k = omega (arith, pow_more 2 k)
 
 eqb-add : (c x y : ℕ) → (c + x == c + y) ≡ (x == y)
 eqb-add c x y =
-    ⊎_elim (λ e. eq-eqb (c + x) (c + y) (omega arith) ∙ sym (eq-eqb x y e)) (λ ne. ne_eqb (c + x) (c + y) (λ e. ne (omega arith)) ∙ sym (ne_eqb x y ne)) (cases_eq x y)
+    ⊎_elim (λ e. eq-eqb (c + x) (c + y) (omega arith) ∙ sym (eq-eqb x y e)) (λ ne. ne_eqb (c + x) (c + y) (λ e. ne (omega arith))
+    ∙ sym (ne_eqb x y ne)) (cases_eq x y)
 
 module _ (k : ℕ) (r : Row) where
   whole : Family
@@ -88,27 +94,33 @@ module _ (k : ℕ) (r : Row) where
   in_whole : (a : ℕ) → a < 2 ^ (k + 1) → has whole a ≡ (bit_and a r.care == bit_at r.value k * 2 ^ k + r.value % 2 ^ k)
   unfolding cube_behind whole
   in_whole a b =
-      has-family_where_below (k + 1) (λ a. bit_and a r.care == r.value % 2 ^ (k + 1)) a b ∙ ap (λ (v : ℕ). bit_and a r.care == v) (rest_and_bit k r.value)
+      has-family_where_below (k + 1) (λ a. bit_and a r.care == r.value % 2 ^ (k + 1)) a b
+      ∙ ap (λ (v : ℕ). bit_and a r.care == v) (rest_and_bit k r.value)
 
   in_low : (a : ℕ) → a < 2 ^ k → has whole a ≡ (bit_and a r.care == bit_at r.value k * 2 ^ k + r.value % 2 ^ k)
   in_low a b = in_whole a (omega (arith, twice k))
 
-  in_high : (a : ℕ) → a < 2 ^ k → has whole (2 ^ k + a) ≡ (bit_at r.care k * 2 ^ k + bit_and a r.care == bit_at r.value k * 2 ^ k + r.value % 2 ^ k)
+  in_high : (a : ℕ) → a < 2 ^ k
+      → has whole (2 ^ k + a) ≡ (bit_at r.care k * 2 ^ k + bit_and a r.care == bit_at r.value k * 2 ^ k + r.value % 2 ^ k)
   in_high a b =
-      in_whole (2 ^ k + a) (omega (arith, twice k)) ∙ ap (λ (v : ℕ). v == bit_at r.value k * 2 ^ k + r.value % 2 ^ k) (and_with_bit k a r.care b)
+      in_whole (2 ^ k + a) (omega (arith, twice k))
+      ∙ ap (λ (v : ℕ). v == bit_at r.value k * 2 ^ k + r.value % 2 ^ k) (and_with_bit k a r.care b)
 
   -- a variable that is free or fixed to 0 leaves the rest without it
   pub low_rest : bit_at r.value k ≡ 0 → low_cofactor k (cube_behind (k + 1) r) ≡ cube_behind k r
   unfolding cube_behind low_cofactor whole
   low_rest none =
-      let same : bit_at r.value k * 2 ^ k + r.value % 2 ^ k ≡ r.value % 2 ^ k = ap (λ (b : ℕ). b * 2 ^ k + r.value % 2 ^ k) none ∙ omega arith in
-      family_where-agree k (has (cube_behind (k + 1) r)) (λ a. bit_and a r.care == r.value % 2 ^ k) (λ a b. in_low a b ∙ ap (λ (v : ℕ). bit_and a r.care == v) same)
+      let same : bit_at r.value k * 2 ^ k + r.value % 2 ^ k ≡ r.value % 2 ^ k = ap (λ (b : ℕ). b * 2 ^ k + r.value % 2 ^ k) none
+      ∙ omega arith in
+      family_where-agree k (has (cube_behind (k + 1) r)) (λ a. bit_and a r.care == r.value % 2 ^ k) (λ a b. in_low a b
+      ∙ ap (λ (v : ℕ). bit_and a r.care == v) same)
 
   -- a variable fixed to 1 leaves nothing without it
   pub low_none : bit_at r.value k ≡ 1 → low_cofactor k (cube_behind (k + 1) r) ≡ []
   unfolding low_cofactor whole
   low_none one =
-      let above : bit_at r.value k * 2 ^ k + r.value % 2 ^ k ≡ 2 ^ k + r.value % 2 ^ k = ap (λ (b : ℕ). b * 2 ^ k + r.value % 2 ^ k) one ∙ omega arith in
+      let above : bit_at r.value k * 2 ^ k + r.value % 2 ^ k ≡ 2 ^ k + r.value % 2 ^ k = ap (λ (b : ℕ). b * 2 ^ k + r.value % 2 ^ k) one
+      ∙ omega arith in
       family_where-none k (has (cube_behind (k + 1) r))
       (λ a b.
       let few : bit_and a r.care ≤ a = and_le_l a r.care in
@@ -119,22 +131,28 @@ module _ (k : ℕ) (r : Row) where
   unfolding cube_behind high_cofactor whole
   high_rest alike =
       family_where-agree k (λ a. has (cube_behind (k + 1) r) (2 ^ k + a)) (λ a. bit_and a r.care == r.value % 2 ^ k)
-      (λ a b. in_high a b ∙ (ap (λ (c : ℕ). c * 2 ^ k + bit_and a r.care == bit_at r.value k * 2 ^ k + r.value % 2 ^ k) alike ∙ eqb-add (bit_at r.value k * 2 ^ k) (bit_and a r.care) (r.value % 2 ^ k)))
+      (λ a b. in_high a b ∙ (ap (λ (c : ℕ). c * 2 ^ k + bit_and a r.care == bit_at r.value k * 2 ^ k + r.value % 2 ^ k) alike
+      ∙ eqb-add (bit_at r.value k * 2 ^ k) (bit_and a r.care) (r.value % 2 ^ k)))
 
   -- a variable fixed to 0 leaves nothing with it
   pub high_none : bit_at r.care k ≡ 1 → bit_at r.value k ≡ 0 → high_cofactor k (cube_behind (k + 1) r) ≡ []
   unfolding high_cofactor whole
   high_none one none =
-      let low : bit_at r.value k * 2 ^ k + r.value % 2 ^ k ≡ r.value % 2 ^ k = ap (λ (b : ℕ). b * 2 ^ k + r.value % 2 ^ k) none ∙ omega arith in
+      let low : bit_at r.value k * 2 ^ k + r.value % 2 ^ k ≡ r.value % 2 ^ k = ap (λ (b : ℕ). b * 2 ^ k + r.value % 2 ^ k) none
+      ∙ omega arith in
       let few : r.value % 2 ^ k < 2 ^ k = rest_below k r.value in
       family_where-none k (λ a. has (cube_behind (k + 1) r) (2 ^ k + a))
       (λ a b.
-      let high : bit_at r.care k * 2 ^ k + bit_and a r.care ≡ 2 ^ k + bit_and a r.care = ap (λ (c : ℕ). c * 2 ^ k + bit_and a r.care) one ∙ omega arith in
-      in_high a b ∙ ne_eqb (bit_at r.care k * 2 ^ k + bit_and a r.care) (bit_at r.value k * 2 ^ k + r.value % 2 ^ k) (λ e. omega (arith, e, high, low)))
+      let high : bit_at r.care k * 2 ^ k + bit_and a r.care ≡ 2 ^ k + bit_and a r.care = ap (λ (c : ℕ). c * 2 ^ k + bit_and a r.care) one
+      ∙ omega arith in
+      in_high a b ∙ ne_eqb (bit_at r.care k * 2 ^ k + bit_and a r.care) (bit_at r.value k * 2 ^ k + r.value % 2 ^ k)
+      (λ e. omega (arith, e, high, low)))
 
   pub cut_whole : cube_behind (k + 1) r ≡ join k (low_cofactor k (cube_behind (k + 1) r)) (high_cofactor k (cube_behind (k + 1) r))
   unfolding cube_behind
-  cut_whole = join_cofactors_suc k (cube_behind (k + 1) r) (subst (λ i. IsFamily i (cube_behind (k + 1) r)) (add-one k) (IsFamily-family_where (k + 1) (λ a. bit_and a r.care == r.value % 2 ^ (k + 1))))
+  cut_whole = join_cofactors_suc k (cube_behind (k + 1) r)
+      (subst (λ i. IsFamily i (cube_behind (k + 1) r)) (add-one k)
+      (IsFamily-family_where (k + 1) (λ a. bit_and a r.care == r.value % 2 ^ (k + 1))))
 
 -- ---- the cube itself
 
@@ -154,7 +172,8 @@ sub-next : (k n : ℕ) (r : Row) → divides r.value r.care ≡ true → k < n �
 sub-next k n r within less f has =
     let whole : Family = cube_behind (k + 1) r in
     let fits : IsFamily (suc k) whole = subst (λ i. IsFamily i whole) (add-one k) (IsFamily-cube_behind (k + 1) r) in
-    let here : Has (sub k (cube_behind k r)) f = subst (λ fs. Has fs f) (sub-narrow k n (cube_behind k r) (IsFamily-cube_behind k r) (omega arith)) has in
+    let here : Has (sub k (cube_behind k r)) f = subst (λ fs. Has fs f)
+    (sub-narrow k n (cube_behind k r) (IsFamily-cube_behind k r) (omega arith)) has in
     subst (λ fs. Has fs f) (sym (sub-narrow (suc k) n whole fits (omega arith)))
     (⊎_elim
     (λ none. sub-low_cofactor k whole fits f (subst (λ g. Has (sub k g) f) (sym (low_rest k r none)) here))
@@ -162,7 +181,8 @@ sub-next k n r within less f has =
     (cases_eq (bit_at r.value k) 0))
 
 -- the cube over fewer variables has its subfamilies in the cube's
-pub sub-cube_behind : (j k n : ℕ) (r : Row) → divides r.value r.care ≡ true → k + j ≤ n → Covers (sub n (cube_behind (k + j) r)) (sub n (cube_behind k r))
+pub sub-cube_behind : (j k n : ℕ) (r : Row) → divides r.value r.care ≡ true → k + j ≤ n
+    → Covers (sub n (cube_behind (k + j) r)) (sub n (cube_behind k r))
 sub-cube_behind zero k n r within few f has = let e : k + 0 ≡ k = omega arith in subst (λ i. Has (sub n (cube_behind i r)) f) (sym e) has
 sub-cube_behind (suc j) k n r within few f has =
     let e : k + suc j ≡ k + j + 1 = omega arith in

@@ -1,12 +1,7 @@
-pub mod CubeLemmas
-pub mod CubeSteps
-pub mod WorkingLemmas
-pub mod CoverLemmas
-pub mod CoverSteps
-pub mod BuiltSets
-pub mod CareLemmas
-pub mod StoresForTests
-pub mod FSets
-pub mod FdSets
-pub mod FrSets
-pub mod FdrSets
+mod CubeLemmas
+mod CubeSteps
+mod CoverLemmas
+mod CoverSteps
+mod CallsUnderway
+mod CareLemmas
+mod StoresForTests

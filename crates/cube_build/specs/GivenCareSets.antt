@@ -15,15 +15,16 @@ abbrev pub care_needs : ℕ → Kind → List Row → ℕ → List Family
 care_needs n kind rows output = working_set n (care_list n kind rows output)
 
 -- the answer for the zeros alone, and for the ones alone
-abbrev pub zeros_of : Result CareSets Full → Result Handle Full
-zeros_of (Ok sets) = Ok sets.zeros
-zeros_of (Err e) = Err e
+abbrev pub zeros_result : Result CareSets Full → Result Handle Full
+zeros_result (Ok sets) = Ok sets.zeros
+zeros_result (Err e) = Err e
 
-abbrev pub ones_of : Result CareSets Full → Result Handle Full
-ones_of (Ok sets) = Ok sets.ones
-ones_of (Err e) = Err e
+abbrev pub ones_result : Result CareSets Full → Result Handle Full
+ones_result (Ok sets) = Ok sets.ones
+ones_result (Err e) = Err e
 
 -- a call that gives the care sets of an output and then holds what they needed, or finds the store full
-pub record GivesCareSets (before after : State) (result : Result CareSets Full) (n : ℕ) (kind : Kind) (rows : List Row) (output : ℕ) : Type 0 where
-  pub zeros : Gives before after (zeros_of result) (care_zeros n kind rows output) (care_needs n kind rows output)
-  pub ones : Gives before after (ones_of result) (care_ones n kind rows output) (care_needs n kind rows output)
+pub record GivesCareSets (before after : State) (result : Result CareSets Full) (n : ℕ) (kind : Kind) (rows : List Row) (output : ℕ)
+    : Type 0 where
+  pub zeros : Gives before after (zeros_result result) (care_zeros n kind rows output) (care_needs n kind rows output)
+  pub ones : Gives before after (ones_result result) (care_ones n kind rows output) (care_needs n kind rows output)

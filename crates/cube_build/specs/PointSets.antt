@@ -12,6 +12,6 @@ mask_of Off = λ r. r.off
 mask_of Dc = λ r. r.dc
 
 -- the row is one over n inputs
-pub record IsOver (n : ℕ) (r : Row) : Type 0 where
+pub record IsRowOver (n : ℕ) (r : Row) : Type 0 where
   pub care : r.care < 2 ^ n
   pub value : divides r.value r.care ≡ true

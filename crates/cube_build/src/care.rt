@@ -5,7 +5,7 @@ ghost use Rattle.lattice.specs.Family.{Covers, power, minus_of};
 ghost use Rattle.lattice.specs.Rows.{care_zeros, care_ones};
 ghost use Rattle.lattice.specs.WorkingLists.{working_set};
 ghost use Rattle.node_store.specs.Stores.{Knows, family, Gives};
-ghost use Rattle.cube_build.specs.PointSets.{IsOver};
+ghost use Rattle.cube_build.specs.PointSets.{IsRowOver};
 ghost use Rattle.cube_build.specs.GivenCareSets.{care_needs, GivesCareSets};
 
 use crate::covers::{PointSet, cover};
@@ -33,7 +33,7 @@ fn outside<S: Store>(store: &mut S, a: Handle) -> Result<Handle, Full>
 
 /// In a description of type f the points that its rows do not list have value 0.
 fn sets_of_f<S: Store>(store: &mut S, rows: &[Row], output: u32) -> Result<CareSets, Full>
-    requires rows { All (IsOver (S.state store.old).vars) rows.now }
+    requires rows { All (IsRowOver (S.state store.old).vars) rows.now }
     requires output { (1 ≤ output) × (output ≤ 64) }
     requires planned { let s = S.state store.old in Covers s.plan (care_needs s.vars Kind.F rows.now output) }
     ensures { let s = S.state store.old in GivesCareSets s (S.state store.new) result s.vars Kind.F rows.now output }
@@ -46,7 +46,7 @@ fn sets_of_f<S: Store>(store: &mut S, rows: &[Row], output: u32) -> Result<CareS
 /// In a description of type fd the points that its rows do not list have value 0, and those that they leave open are no care
 /// points.
 fn sets_of_fd<S: Store>(store: &mut S, rows: &[Row], output: u32) -> Result<CareSets, Full>
-    requires rows { All (IsOver (S.state store.old).vars) rows.now }
+    requires rows { All (IsRowOver (S.state store.old).vars) rows.now }
     requires output { (1 ≤ output) × (output ≤ 64) }
     requires planned { let s = S.state store.old in Covers s.plan (care_needs s.vars Kind.Fd rows.now output) }
     ensures { let s = S.state store.old in GivesCareSets s (S.state store.new) result s.vars Kind.Fd rows.now output }
@@ -61,7 +61,7 @@ fn sets_of_fd<S: Store>(store: &mut S, rows: &[Row], output: u32) -> Result<Care
 
 /// In a description of type fr the points that its rows do not list are no care points.
 fn sets_of_fr<S: Store>(store: &mut S, rows: &[Row], output: u32) -> Result<CareSets, Full>
-    requires rows { All (IsOver (S.state store.old).vars) rows.now }
+    requires rows { All (IsRowOver (S.state store.old).vars) rows.now }
     requires output { (1 ≤ output) × (output ≤ 64) }
     requires planned { let s = S.state store.old in Covers s.plan (care_needs s.vars Kind.Fr rows.now output) }
     ensures { let s = S.state store.old in GivesCareSets s (S.state store.new) result s.vars Kind.Fr rows.now output }
@@ -73,7 +73,7 @@ fn sets_of_fr<S: Store>(store: &mut S, rows: &[Row], output: u32) -> Result<Care
 
 /// In a description of type fdr the points that its rows do not list or leave open are no care points.
 fn sets_of_fdr<S: Store>(store: &mut S, rows: &[Row], output: u32) -> Result<CareSets, Full>
-    requires rows { All (IsOver (S.state store.old).vars) rows.now }
+    requires rows { All (IsRowOver (S.state store.old).vars) rows.now }
     requires output { (1 ≤ output) × (output ≤ 64) }
     requires planned { let s = S.state store.old in Covers s.plan (care_needs s.vars Kind.Fdr rows.now output) }
     ensures { let s = S.state store.old in GivesCareSets s (S.state store.new) result s.vars Kind.Fdr rows.now output }

@@ -5,7 +5,7 @@ ghost use Rattle.lattice.specs.Family.{divides, Covers};
 ghost use Rattle.lattice.specs.Rows.{cover, rows_with};
 ghost use Rattle.lattice.specs.WorkingLists.{working_set, cover_list};
 ghost use Rattle.node_store.specs.Stores.{Gives};
-ghost use Rattle.cube_build.specs.PointSets.{mask_of, IsOver};
+ghost use Rattle.cube_build.specs.PointSets.{mask_of, IsRowOver};
 
 use crate::cubes::cube;
 use lattice::Row;
@@ -41,7 +41,7 @@ pub fn cover<S: Store>(
     set: PointSet,
     output: u32,
 ) -> Result<Handle, Full>
-    requires rows { All (IsOver (S.state store.old).vars) rows.now }
+    requires rows { All (IsRowOver (S.state store.old).vars) rows.now }
     requires output { (1 ≤ output) × (output ≤ 64) }
     requires planned { let s = S.state store.old in Covers s.plan (working_set s.vars (cover_list s.vars (rows_with (mask_of set) output rows.now))) }
     ensures { let s = S.state store.old in let chosen = rows_with (mask_of set) output rows.now in Gives s (S.state store.new) result (cover s.vars chosen) (working_set s.vars (cover_list s.vars chosen)) }

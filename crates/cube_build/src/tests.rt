@@ -2,7 +2,7 @@ ghost use Rattle.std.specs.Prelude.{◌≡◌, ◌≤◌, ◌<◌, ◌^◌, IfOk
 ghost use Rattle.lattice.specs.Family.{divides};
 ghost use Rattle.lattice.specs.Rows.{cube};
 ghost use Rattle.lattice.specs.WorkingLists.{working_set, care_list};
-ghost use Rattle.lattice.proofs.WorkingSets.{working_set_is_node_list};
+ghost use Rattle.lattice.proofs.Diagrams.{working_set_is_node_list};
 ghost use Rattle.node_store.specs.PlainOf.{state_of};
 ghost use Rattle.cube_build.specs.GivenCareSets.{care_needs};
 

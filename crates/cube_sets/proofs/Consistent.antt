@@ -1,46 +1,126 @@
--- A description is consistent where it has no clash.
-use Rattle.std.proofs.Common.{◌≡◌, ℕ, ◌-◌, ◌↔◌, false, Option, Some, None, IsNone, List, refl, ap, arith}
-use Rattle.std.specs.List.{All}
-use Rattle.std.specs.Int.{bit_at}
-use Rattle.std.proofs.lemmas.Nat.Bits.{bit_at-zero}
-use Rattle.std.proofs.lemmas.List.Elements.{All-contains}
-use Rattle.lattice.specs.Rows.{IsConsistent}
+-- The clashes of a description's rows, and that it is consistent where it has none.
+use Rattle.std.proofs.Common.{◌≡◌, ℕ, suc, zero, ◌-◌, ◌^◌, ◌≤◌, ◌↔◌, Bool, true, false, cond, Option, Some, None, IsNone, IfSome, List, []}
+use Rattle.std.proofs.Common.{◌∷◌, refl, sym, subst, arith}
+use Rattle.std.specs.List.{All, Contains, filter}
+use Rattle.std.proofs.lemmas.List.Elements.{All-filter, All-contains, All-contains_itself, filter_passes}
+use Rattle.lattice.specs.Family.{divides}
+use Rattle.lattice.specs.Rows.{IsConsistent, rows_with}
 use Rattle.lattice.specs.declared.row.Row.{Row}
 use Rattle.lattice.specs.declared.kind.Kind.{Kind}
-use Rattle.lattice.proofs.CarePoints.{consistent_by_rows}
+use Rattle.lattice.proofs.Polynomials.{consistent_by_rows}
 use Rattle.pla_reader.specs.Description.{has_off, FitsSizes}
 use Rattle.cube_sets.specs.declared.clash.Clash.{Clash}
-use Rattle.cube_sets.specs.Clashes.{IsClash, Answers}
-use Rattle.cube_sets.proofs.Pairs.{from_rows_with}
+use Rattle.cube_sets.specs.Clashes.{IsClashOf, IsAmong, IsClash, IsLeastOf, Answers}
+use Rattle.cube_sets.proofs.Pairs.{no_mask}
 
-clash_is_none : (n outputs : ℕ) (rows : List Row) → IsConsistent n outputs rows → (c : Clash) → IsClash n outputs rows rows c → ⊥
-clash_is_none n outputs rows consistent c clash =
-    (consistent_by_rows n outputs rows).0 consistent c.output clash.shared.point clash.on_row clash.off_row clash.first clash.last clash.shared.below clash.on clash.off clash.shared.in_first clash.shared.in_second
+-- ---- the rows with an output's bit
 
-consistent_from_none : (n outputs : ℕ) (rows : List Row) → ((c : Clash) → IsClash n outputs rows rows c → ⊥) → IsConsistent n outputs rows
-consistent_from_none n outputs rows none = (consistent_by_rows n outputs rows).1
-    (λ output a r s first last below on off in_r in_s. none (record { output = output; on_line = r.line; off_line = s.line }) (record {
-      on_row = r;
-      off_row = s;
-      first = first;
-      last = last;
-      on = on;
-      off = off;
-      on_line = refl;
-      off_line = refl;
-      shared = record { point = a; below = below; in_first = in_r; in_second = in_s };
-    }))
+from_rows_with : (mask : Row → ℕ) (output : ℕ) (rows : List Row) (r : Row) → Contains (rows_with mask output rows) r
+    → Contains rows r × (divides (2 ^ (output - 1)) (mask r) ≡ true)
+unfolding rows_with
+from_rows_with mask output rows r h =
+    let test : Row → Bool = λ r. divides (2 ^ (output - 1)) (mask r) in (
+      All-contains (Contains rows) (filter test rows) r (All-filter test (Contains rows) rows (All-contains_itself rows)) h,
+      All-contains (λ r. test r ≡ true) (filter test rows) r (filter_passes test rows) h,
+    )
 
-pub none_where_consistent : (n outputs : ℕ) (rows : List Row) (answer : Option Clash) → Answers (IsClash n outputs rows rows) answer → IsNone answer ↔ IsConsistent n outputs rows
-none_where_consistent n outputs rows None none = (λ h. consistent_from_none n outputs rows none, λ h. refl)
-none_where_consistent n outputs rows (Some c) found = (λ h. absurd (cc), λ consistent. absurd (clash_is_none n outputs rows consistent c found.clash))
+contains_filter : {X : Type 0} (test : X → Bool) (xs : List X) (x : X) → Contains xs x → test x ≡ true → Contains (filter test xs) x
+contains_filter test [] x (k, less, is) h = absurd (omega arith)
+contains_filter test (y ∷ xs) x (zero, less, is) h =
+    subst (λ z. Contains (cond (test z) (z ∷ filter test xs) (filter test xs)) x) (sym is)
+    (subst (λ b. Contains (cond b (x ∷ filter test xs) (filter test xs)) x) (sym h) (0, omega arith, refl))
+contains_filter test (y ∷ xs) x (suc k, less, is) h =
+    let rest = contains_filter test xs x (k, omega arith, is) h in
+    elim (test y) as (λ b. Contains (cond b (y ∷ filter test xs) (filter test xs)) x) [
+      | true ↦ (suc rest.0, let l = rest.1 in omega arith, rest.2)
+      | _ ↦ rest
+    ]
 
--- the types without off-rows
-pub none_without_offs : (n outputs : ℕ) (kind : Kind) (rows : List Row) → has_off kind ≡ false → All (FitsSizes n outputs kind) rows → (c : Clash) → IsClash n outputs rows rows c → ⊥
-none_without_offs n outputs kind rows without fit c clash =
-    let among = from_rows_with (λ r. r.off) c.output rows clash.off_row clash.off in
-    let fits : FitsSizes n outputs kind clash.off_row = All-contains (FitsSizes n outputs kind) rows clash.off_row fit among.0 in
-    let same : bit_at clash.off_row.off (c.output - 1) ≡ bit_at 0 (c.output - 1) = ap (λ m. bit_at m (c.output - 1)) (fits.no_off without) in
-    let zero = bit_at-zero (c.output - 1) in
-    let one = among.1 in
-    omega arith
+to_rows_with : (mask : Row → ℕ) (output : ℕ) (rows : List Row) (r : Row) → Contains rows r → divides (2 ^ (output - 1)) (mask r) ≡ true
+    → Contains (rows_with mask output rows) r
+unfolding rows_with
+to_rows_with mask output rows r h bit = contains_filter (λ r. divides (2 ^ (output - 1)) (mask r)) rows r h bit
+
+-- ---- the clashes of a description, by two of its rows
+
+module _ (n outputs : ℕ) (rows : List Row) where
+  abbrev OfTwoRows : Clash → Type 0
+  OfTwoRows c = (c.output ≤ outputs) × IsAmong (λ a. IsAmong (IsClashOf n a) rows) rows c
+
+  from_two : (c : Clash) → OfTwoRows c → IsClash n outputs rows rows c
+  from_two c (last, (a, a_in, (b, b_in, clash))) = record {
+    on_row = a;
+    off_row = b;
+    first = clash.first;
+    last = last;
+    on = to_rows_with (λ r. r.on) c.output rows a a_in clash.on;
+    off = to_rows_with (λ r. r.off) c.output rows b b_in clash.off;
+    on_line = clash.on_line;
+    off_line = clash.off_line;
+    shared = clash.shared;
+  }
+
+  to_two : (c : Clash) → IsClash n outputs rows rows c → OfTwoRows c
+  to_two c clash =
+      let on = from_rows_with (λ r. r.on) c.output rows clash.on_row clash.on in
+      let off = from_rows_with (λ r. r.off) c.output rows clash.off_row clash.off in (
+        clash.last,
+        (
+          clash.on_row,
+          on.0,
+          (
+            clash.off_row,
+            off.0,
+            record {
+              first = clash.first;
+              on = on.1;
+              off = off.1;
+              on_line = clash.on_line;
+              off_line = clash.off_line;
+              shared = clash.shared;
+            },
+          ),
+        ),
+      )
+
+  pub clash_from_two : (answer : Option Clash) → Answers OfTwoRows answer → Answers (IsClash n outputs rows rows) answer
+  clash_from_two None none = λ c clash. none c (to_two c clash)
+  clash_from_two (Some c) found = record { clash = from_two c found.clash; least = λ d clash. found.least d (to_two d clash) }
+
+  -- ---- consistent descriptions
+
+  none_of_consistent : IsConsistent n outputs rows → (c : Clash) → IsClash n outputs rows rows c → ⊥
+  none_of_consistent consistent c clash =
+      (consistent_by_rows n outputs rows).0 consistent c.output clash.shared.point clash.on_row clash.off_row clash.first clash.last
+      clash.shared.below clash.on clash.off clash.shared.in_first clash.shared.in_second
+
+  consistent_from_none : ((c : Clash) → IsClash n outputs rows rows c → ⊥) → IsConsistent n outputs rows
+  consistent_from_none none = (consistent_by_rows n outputs rows).1
+      (λ output a r s first last below on off in_r in_s. none (record { output = output; on_line = r.line; off_line = s.line }) (record {
+        on_row = r;
+        off_row = s;
+        first = first;
+        last = last;
+        on = on;
+        off = off;
+        on_line = refl;
+        off_line = refl;
+        shared = record { point = a; below = below; in_first = in_r; in_second = in_s };
+      }))
+
+  pub none_where_consistent : (answer : Option Clash) → Answers (IsClash n outputs rows rows) answer
+      → IsNone answer ↔ IsConsistent n outputs rows
+  none_where_consistent None none = (λ h. consistent_from_none none, λ h. refl)
+  none_where_consistent (Some c) found = (λ h. absurd (cc), λ consistent. absurd (none_of_consistent consistent c found.clash))
+
+  -- the types without off-rows
+  pub none_without_offs : (kind : Kind) → has_off kind ≡ false → All (FitsSizes n outputs kind) rows → (c : Clash)
+      → IsClash n outputs rows rows c → ⊥
+  none_without_offs kind without fit c clash =
+      let off = from_rows_with (λ r. r.off) c.output rows clash.off_row clash.off in
+      let fits : FitsSizes n outputs kind clash.off_row = All-contains (FitsSizes n outputs kind) rows clash.off_row fit off.0 in
+      no_mask (c.output - 1) clash.off_row.off (fits.no_off without) off.1
+
+pub least_if_some : (holds : Clash → Type 0) (answer : Option Clash) → Answers holds answer → IfSome answer (IsLeastOf holds)
+least_if_some holds None none = tt
+least_if_some holds (Some c) found = found

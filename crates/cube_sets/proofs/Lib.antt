@@ -1,4 +1,4 @@
-pub mod SharedPoints
-pub mod Pairs
-pub mod Search
-pub mod Consistent
+mod SharedPoints
+mod Pairs
+mod Search
+mod Consistent

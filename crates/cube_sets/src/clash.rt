@@ -1,9 +1,9 @@
 //! Rows that contradict each other.
-ghost use Rattle.std.specs.Prelude.{◌≡◌, ◌↔◌, ◌^◌, ◌<◌, ℕ, [], ◌∷◌, true, IsTrue, IfSome, IsNone};
+ghost use Rattle.std.specs.Prelude.{◌≡◌, ◌↔◌, ◌^◌, ◌<◌, ℕ, true, IsTrue, IfSome, IsNone};
 ghost use Rattle.std.specs.List.{Contains};
 ghost use Rattle.lattice.specs.Family.{divides};
 ghost use Rattle.lattice.specs.Rows.{IsConsistent};
-ghost use Rattle.cube_sets.specs.Clashes.{SharePoint, IsClash, IsLeastOf, Answers};
+ghost use Rattle.cube_sets.specs.Clashes.{SharePoint, IsClashOf, IsAmong, IsClash, IsLeastOf, AnswersUpTo};
 
 use lattice::{Kind, Row};
 use pla_reader::Pla;
@@ -23,17 +23,22 @@ pub fn meets(a: &Row, b: &Row) -> bool
     requires second { divides b.now.value b.now.care ≡ true }
     ensures { (n : ℕ) → a.now.care < 2 ^ n → b.now.care < 2 ^ n → (IsTrue result ↔ SharePoint n a.now b.now) }
 {
-    (a.value ^ b.value) & a.care & b.care == 0
+    // A value has no bit outside its care, so the other care alone leaves the bits that both fix.
+    a.value & b.care == b.value & a.care
 }
 
 /// The least clash of the on-row `a` with the off-row `b`, of those at an output up to `outputs`.
 fn clash_of(a: &Row, b: &Row, outputs: u32) -> Option<Clash>
     requires first { divides a.now.value a.now.care ≡ true }
     requires second { divides b.now.value b.now.care ≡ true }
-    ensures { (n : ℕ) → a.now.care < 2 ^ n → b.now.care < 2 ^ n → Answers (IsClash n outputs (a.now ∷ []) (b.now ∷ [])) result }
+    ensures { (n : ℕ) → a.now.care < 2 ^ n → b.now.care < 2 ^ n → AnswersUpTo outputs (IsClashOf n a.now b.now) result }
 {
+    // Most pairs of cubes are apart, while the masks of as many agree as not: a processor guesses the first test better.
+    if !meets(a, b) {
+        return None;
+    }
     let both = a.on & b.off;
-    if both == 0 || !meets(a, b) {
+    if both == 0 {
         return None;
     }
     let output = both.trailing_zeros() + 1;
@@ -50,7 +55,7 @@ fn clash_of(a: &Row, b: &Row, outputs: u32) -> Option<Clash>
 /// The least clash of the on-row `a` with an off-row of `p`, of those at an output up to `outputs`.
 fn least_with(p: &Pla, a: &Row, outputs: u32) -> Option<Clash>
     requires { Contains p.now.rows a.now }
-    ensures { Answers (IsClash p.now.inputs outputs (a.now ∷ []) p.now.rows) result }
+    ensures { AnswersUpTo outputs (IsAmong (IsClashOf p.now.inputs a.now) p.now.rows) result }
 {
     if a.on == 0 || outputs == 0 {
         return None;
@@ -69,7 +74,7 @@ fn least_with(p: &Pla, a: &Row, outputs: u32) -> Option<Clash>
 
 /// The least clash of two rows.
 fn least_clash(p: &Pla) -> Option<Clash>
-    ensures { Answers (IsClash p.now.inputs p.now.outputs p.now.rows p.now.rows) result }
+    ensures { AnswersUpTo p.now.outputs (IsAmong (λ a. IsAmong (IsClashOf p.now.inputs a) p.now.rows) p.now.rows) result }
 {
     let mut least = None;
     // Lines ascend, so after a clash only one at a lesser output can be less.

@@ -1,154 +1,126 @@
--- What the recursion finds for the zeros and the ones of two handles.
-use Rattle.std.proofs.Common.{◌≡◌, ◌≢◌, ℕ, zero, suc, ◌-◌, ◌<◌, ◌≤◌, max, Result, Ok, Err, Some, List, [], ◌∷◌, refl, sym, ◌∙◌, ap, subst, arith, unwrap_or, ◌⊎◌, inl, inr, ⊎_elim}
-use Rattle.std.proofs.lemmas.Bool.{false≢true}
-use Rattle.lattice.specs.Family.{Family, IsFamily, AreDisjoint, Covers, Has}
+-- The steps of finding the least polynomial in a store.
+use Rattle.std.proofs.Common.{◌≡◌, ◌≢◌, ℕ, zero, suc, ◌-◌, ◌<◌, ◌≤◌, max, Result, Ok, Err, IfOk, Some, List, [], ◌∷◌, ◌++◌, refl, sym, ◌∙◌}
+use Rattle.std.proofs.Common.{ap, subst, arith, unwrap_or, ◌⊎◌, inl, inr, ⊎_elim}
+use Rattle.lattice.specs.Family.{Family, IsFamily, AreDisjoint, Covers}
 use Rattle.lattice.specs.Cofactors.{low_cofactor, high_cofactor, join, level}
 use Rattle.lattice.specs.Interpolation.{IsLeast, interpolate}
-use Rattle.lattice.specs.Operations.{answer, IsAllowed}
+use Rattle.lattice.specs.Operations.{answer}
 use Rattle.lattice.specs.WorkingLists.{needs, operation_list, working_set, interpolation_list}
 use Rattle.lattice.specs.declared.op.Op.TheVariants.{Least}
-use Rattle.lattice.proofs.Cofactors.{IsFamily-low_cofactor}
-use Rattle.lattice.proofs.Existence.{IsLeast-interpolate}
-use Rattle.lattice.proofs.Families.{has_head}
-use Rattle.lattice.proofs.Subfamilies.{cases_empty, level-below, low_cofactor_whole}
-use Rattle.node_store.specs.Stores.{State, Knows, Denotes, family, IsSound, AreParts, Grows, Reads, Gives, Builds, AreOperands, IsResult, needs_of}
+use Rattle.lattice.proofs.Diagrams.{Has-head, Has-append_left, Has-append_right, cases_empty, low_cofactor_whole, level-below}
+use Rattle.lattice.proofs.Diagrams.{covers_family, covers_part, covers_nil}
+use Rattle.lattice.proofs.Polynomials.{has_head, IsFamily-low_cofactor, IsLeast-interpolate, no_ones, no_zeros, one_is_least, zero_is_least}
+use Rattle.node_store.specs.Stores.{State, Knows, Denotes, family, IsSound, Grows, Reads, Gives, Builds, IsResult, needs_of}
 use Rattle.node_store.specs.declared.store.Handle.{Handle}
 use Rattle.node_store.specs.declared.store.Full.{Full}
-use Rattle.node_store.proofs.StoreLemmas.{Denotes-family, Denotes-knows, Grows-family, Grows-knows, Grows-refl, Grows-trans, Reads-trans, Gives-reads, known_after, filled, zero_family}
-use Rattle.node_store.proofs.GrownNodes.{grown_parts, grown_planned, grown_builds}
-use Rattle.set_algebra.proofs.PairLemmas.{top_after}
+use Rattle.node_store.proofs.StoreLaws.{Found, found_after, found_result, Halves, found_read, grow_gives, Denotes-family, Denotes-knows}
+use Rattle.node_store.proofs.StoreLaws.{Grows-family, Grows-refl, Grows-trans, Reads-trans, filled, given_kept, handles, kept_given}
+use Rattle.node_store.proofs.StoreLaws.{known_after, zero_family}
+use Rattle.set_algebra.proofs.Levels.{top_after}
 use Rattle.set_algebra.specs.Pairs.{AreCofactors}
 use Rattle.set_algebra.specs.declared.pairs.Cofactors.{Cofactors}
 use Rattle.interp_lex.specs.Parts.{common_of, upper_list, lower_of, lower_list, AreKnown, GivesPoints}
 use Rattle.interp_lex.specs.declared.parts.Points.{Points}
-use Rattle.interp_lex.proofs.CallsInRow.{AreKnown-later, points_read}
-use Rattle.interp_lex.proofs.FewerVariables.{no_zeros, no_ones}
-use Rattle.interp_lex.proofs.WorkingParts.{covers_nil}
-use Rattle.interp_lex.proofs.Recursion.{HZ_after, HO_after, upper_apart, H_after, GZ_after, GO_after, lower_apart, G_after, result_is, planned_upper, planned_high, planned_lower, planned_low, planned_result, all_held}
+use Rattle.interp_lex.proofs.PointSteps.{AreKnown-later, points_found_after}
+use Rattle.interp_lex.proofs.Recursion.{hz, ho, h, gz, go, g, upper_needs, lower_needs, part_needs, Split, upper_fits, upper_apart, h_fits}
+use Rattle.interp_lex.proofs.Recursion.{lower_fits, lower_apart, g_fits, result_is, list_is}
 
-zero_is_least : (n : ℕ) (zeros : Family) → interpolate n zeros [] ≡ []
-unfolding interpolate
-zero_is_least zero [] = refl
-zero_is_least zero (z ∷ zeros) = refl
-zero_is_least (suc d) [] = refl
-zero_is_least (suc d) (z ∷ zeros) = refl
-
-one_is_least : (n : ℕ) (ones : Family) → ones ≢ [] → interpolate n [] ones ≡ 0 ∷ []
-unfolding interpolate
-one_is_least n [] ne = absurd (ne refl)
-one_is_least zero (o ∷ ones) ne = refl
-one_is_least (suc d) (o ∷ ones) ne = refl
-
-pub needs_least : (s : State) (a b : Handle) → needs_of s Least a b.0 ≡ working_set s.vars (interpolation_list s.vars (family s a) (family s b))
+-- the working set of the operation
+pub needs_least : (s : State) (a b : Handle)
+    → needs_of s Least a b.0 ≡ working_set s.vars (interpolation_list s.vars (family s a) (family s b))
 unfolding needs operation_list
 needs_least s a b = refl
 
-answer_least : (n : ℕ) (f g : Family) (x : ℕ) → answer Least n f g x ≡ interpolate n f g
-unfolding answer
-answer_least n f g x = refl
+-- a call: s is the state before it
+pub record Call (s : State) (zeros ones : Handle) : Type 0 where
+  pub sound : IsSound s
+  pub zeros_known : Knows s zeros
+  pub ones_known : Knows s ones
+  pub apart : AreDisjoint (family s zeros) (family s ones)
+  pub planned : Covers s.plan (needs_of s Least zeros ones.0)
 
--- the cofactors of families that the store knew before already
-cut_before : (s a t : State) (x y : Handle) (c : Cofactors) → a.vars ≡ s.vars → family a x ≡ family s x → family a y ≡ family s y → AreCofactors a t x y c → AreCofactors s t x y c
-cut_before s a t x y c vars fx fy found = record {
-  first = found.first;
-  last = rw (← vars) found.last;
-  top = rw (← vars, ← fx, ← fy) found.top;
-  a_low = rw (← vars, ← fx) found.a_low;
-  a_high = rw (← vars, ← fx) found.a_high;
-  b_low = rw (← vars, ← fy) found.b_low;
-  b_high = rw (← vars, ← fy) found.b_high;
+pub call_of : {s : State} {R : Type 0} (z o : Handle) → IsSound s → record {
+  zeros : Knows s z;
+  ones : Knows s o;
+  disjoint : AreDisjoint (family s z) (family s o);
+  planned : Covers s.plan (needs_of s Least z o.0);
+  ready : R;
+} → Call s z o
+call_of z o sound asked = record {
+  sound = sound;
+  zeros_known = asked.zeros;
+  ones_known = asked.ones;
+  apart = asked.disjoint;
+  planned = asked.planned;
 }
 
-module _ (s : State) (zeros ones : Handle) (ok : IsSound s) (kz : Knows s zeros) (ko : Knows s ones) (apart : AreDisjoint (family s zeros) (family s ones)) where
-  abbrev n : ℕ
-  n = s.vars
+-- what it does
+abbrev pub Does : State → Handle → Handle → State → Result Handle Full → Type 0
+Does s zeros ones t r = Gives s t r (interpolate s.vars (family s zeros) (family s ones)) (needs_of s Least zeros ones.0)
 
-  abbrev Z : Family
-  Z = family s zeros
+module _ {s : State} {zeros ones : Handle} (call : Call s zeros ones) where
+  abbrev zero_points : Family
+  zero_points = family s zeros
 
-  abbrev O : Family
-  O = family s ones
+  abbrev one_points : Family
+  one_points = family s ones
 
-  abbrev needed : List Family
-  needed = needs_of s Least zeros ones.0
-
-  pub is_least : (t : State) (r : Handle) → Denotes t r (interpolate n Z O) → IsLeast n Z O (family t r)
-  is_least t r is = rw (Denotes-family t r (interpolate n Z O) is) (IsLeast-interpolate n Z O (known_after s zeros ok kz).below (known_after s ones ok ko).below apart)
+  pub is_least : {t : State} (r : Result Handle Full) → Does s zeros ones t r
+      → IfOk r (λ k. IsLeast s.vars (family s zeros) (family s ones) (family t k))
+  is_least {t = t} (Ok r) does = rw (Denotes-family t r (interpolate s.vars zero_points one_points) does.ok)
+      (IsLeast-interpolate s.vars zero_points one_points
+      (known_after s zeros call.sound call.zeros_known).below (known_after s ones call.sound call.ones_known).below call.apart)
+  is_least (Err e) does = tt
 
   -- ---- with no look at the nodes
 
-  pub no_ones_gives : ones.0 ≡ 0 → Gives s s (Ok (record { 0 = 0 })) (interpolate n Z O) needed
+  pub no_ones_gives : ones.0 ≡ 0 → Does s zeros ones s (Ok (record { 0 = 0 }))
   no_ones_gives e =
-      let none : O ≡ [] = zero_family s ones ok e in
+      let none : one_points ≡ [] = zero_family s ones call.sound e in
       record {
         grows = Grows-refl s;
-        ok = ok.empty ∙ ap Some (sym (ap (interpolate n Z) none ∙ zero_is_least n Z));
-        held = rw (needs_least s zeros ones, none, no_ones n Z) (covers_nil n s.held);
+        ok = call.sound.empty ∙ ap Some (sym (ap (interpolate s.vars zero_points) none ∙ zero_is_least s.vars zero_points));
+        held = rw (needs_least s zeros ones, none, no_ones s.vars zero_points) (covers_nil s.vars s.held);
         quiet = refl;
         full = tt;
       }
 
-  pub no_zeros_gives : zeros.0 ≡ 0 → ones.0 ≢ 0 → Gives s s (Ok (record { 0 = 1 })) (interpolate n Z O) needed
+  pub no_zeros_gives : zeros.0 ≡ 0 → ones.0 ≢ 0 → Does s zeros ones s (Ok (record { 0 = 1 }))
   no_zeros_gives e some =
-      let none : Z ≡ [] = zero_family s zeros ok e in
+      let none : zero_points ≡ [] = zero_family s zeros call.sound e in
       record {
         grows = Grows-refl s;
-        ok = ok.unit ∙ ap Some (sym (ap (λ f. interpolate n f O) none ∙ one_is_least n O (filled s ones ok ko some)));
-        held = rw (needs_least s zeros ones, none, no_zeros n O) (covers_nil n s.held);
+        ok = call.sound.unit
+            ∙ ap Some (sym (ap (λ f. interpolate s.vars f one_points) none
+            ∙ one_is_least s.vars one_points (filled s ones call.sound call.ones_known some)));
+        held = rw (needs_least s zeros ones, none, no_zeros s.vars one_points) (covers_nil s.vars s.held);
         quiet = refl;
         full = tt;
       }
 
   -- ---- the kept results
 
-  module _ (t : State) (grows : Grows s t) where
-    needs_same : needs_of t Least zeros ones.0 ≡ needed
-    needs_same = rw (grows.vars, Grows-family s t zeros grows kz, Grows-family s t ones grows ko) refl
+  pub looked_gives : {t : State} {r : Handle} → Reads s t → IsResult t Least zeros ones.0 r → Does s zeros ones t (Ok r)
+  unfolding answer
+  looked_gives reads kept = kept_given (handles Least refl refl call.zeros_known call.ones_known) reads kept
 
-    answer_same : answer Least t.vars (family t zeros) (family t ones) ones.0 ≡ interpolate n Z O
-    answer_same = rw (grows.vars, Grows-family s t zeros grows kz, Grows-family s t ones grows ko) (answer_least n Z O ones.0)
-
-    pub operands : AreOperands t Least zeros ones.0
-    operands = record {
-      first = Grows-knows s t zeros grows kz;
-      second_handle = λ h. Grows-knows s t ones grows ko;
-      second_variable = λ h. absurd (false≢true h);
-      second_none = λ h. absurd (false≢true (sym h));
-    }
-
-    allowed : IsAllowed Least t.vars (family t zeros) (family t ones) ones.0
-    allowed = record {
-      disjoint = λ e. rw (Grows-family s t zeros grows kz, Grows-family s t ones grows ko) apart;
-      closed = λ e. absurd cc;
-      after = λ e. absurd cc;
-      first = λ h. absurd (false≢true h);
-      last = λ h. absurd (false≢true h);
-      inside = λ e. absurd cc;
-    }
-
-    pub kept_result : (r : Handle) → Gives s t (Ok r) (interpolate n Z O) needed → IsResult t Least zeros ones.0 r
-    kept_result r is = record {
-      operands = operands;
-      allowed = allowed;
-      denotes = is.ok ∙ ap Some (sym answer_same);
-      held = rw needs_same is.held;
-    }
-
-  pub looked_gives : (t : State) (r : Handle) → Reads s t → IsResult t Least zeros ones.0 r → Gives s t (Ok r) (interpolate n Z O) needed
-  looked_gives t r one kept = record {
-    grows = one.grows;
-    ok = kept.denotes ∙ ap Some (answer_same t one.grows);
-    held = rw (← needs_same t one.grows) kept.held;
-    quiet = one.quiet;
-    full = tt;
-  }
+  pub kept_result : {t : State} {r : Handle} → Does s zeros ones t (Ok r) → IsResult t Least zeros ones.0 r
+  unfolding answer
+  kept_result does = given_kept (handles Least refl refl call.zeros_known call.ones_known) (record {
+    disjoint = λ e. call.apart;
+    closed = λ e. absurd cc;
+    after = λ e. absurd cc;
+    first = λ e. absurd cc;
+    last = λ e. absurd cc;
+    inside = λ e. absurd cc;
+  }) does
 
   -- two families that are both {0} have a common member
   not_both_unit : zeros.0 ≡ 1 → ones.0 ≡ 1 → ⊥
   not_both_unit ez eo =
-      let z : Z ≡ 0 ∷ [] = ap (λ i. unwrap_or (s.known i) []) ez ∙ ap (λ o. unwrap_or o []) ok.unit in
-      let o : O ≡ 0 ∷ [] = ap (λ i. unwrap_or (s.known i) []) eo ∙ ap (λ o. unwrap_or o []) ok.unit in
-      apart 0 (rw z (has_head 0 [])) (rw o (has_head 0 []))
+      let z : zero_points ≡ 0 ∷ [] = ap (λ i. unwrap_or (s.known i) []) ez ∙ ap (λ o. unwrap_or o []) call.sound.unit in
+      let o : one_points ≡ 0 ∷ [] = ap (λ i. unwrap_or (s.known i) []) eo ∙ ap (λ o. unwrap_or o []) call.sound.unit in
+      call.apart 0 (rw z (has_head 0 [])) (rw o (has_head 0 []))
 
   pub some_node : zeros.0 ≢ 0 → ones.0 ≢ 0 → (2 ≤ zeros.0) ⊎ (2 ≤ ones.0)
   some_node nz nn = ⊎_elim
@@ -161,281 +133,251 @@ module _ (s : State) (zeros ones : Handle) (ok : IsSound s) (kz : Knows s zeros)
       above (suc zero) ne = inl refl
       above (suc (suc k)) ne = inr (omega arith)
 
-  -- ---- at the first variable
+-- ---- at the first variable
 
-  -- a is the state after the look and t the one after the cut; u is that after the points of the upper part were found, v that
-  -- after their least polynomial h was, w that after the points of the lower part were, and x that after their g was
-  module _ (nz : zeros.0 ≢ 0) (nn : ones.0 ≢ 0) (a t : State) (c : Cofactors) (looked : Reads s a) (cutting : Reads a t) (found : AreCofactors a t zeros ones c) where
-    one : Reads s t
-    one = Reads-trans s a t looked cutting
+-- in t the cofactors c of the zeros and the ones at their first variable are known
+pub record Cut (s t : State) (zeros ones : Handle) (c : Cofactors) : Type 0 where
+  pub call : Call s zeros ones
+  pub split : Split s.vars (s.vars - c.var) (family s zeros) (family s ones)
+  pub reads : Reads s t
+  pub are : AreCofactors s t zeros ones c
 
-    are : AreCofactors s t zeros ones c
-    are = cut_before s a t zeros ones c looked.grows.vars (Grows-family s a zeros looked.grows kz) (Grows-family s a ones looked.grows ko) found
-
-    abbrev d : ℕ
-    d = n - c.var
-
-    less : d < n
-    less = omega (arith, are.first, are.last)
-
-    both_after : IsFamily (suc d) Z × IsFamily (suc d) O
-    both_after = top_after s zeros ones (suc d) ok kz ko are.top
-
-    some_zero : Z ≢ []
-    some_zero = filled s zeros ok kz nz
-
-    some_one : O ≢ []
-    some_one = filled s ones ok ko nn
-
+pub cut_at : {s a t : State} {zeros ones : Handle} {c : Cofactors} → Call s zeros ones → zeros.0 ≢ 0 → ones.0 ≢ 0 → Reads s a → Reads a t
+    → AreCofactors a t zeros ones c → Cut s t zeros ones c
+cut_at {s = s} {a = a} {t = t} {zeros = zeros} {ones = ones} {c = c} call nz nn one two found =
+    let n = s.vars in
+    let d = s.vars - c.var in
+    let fz : family a zeros ≡ family s zeros = Grows-family s a zeros one.grows call.zeros_known in
+    let fo : family a ones ≡ family s ones = Grows-family s a ones one.grows call.ones_known in
+    let last : c.var ≤ n = rw (← one.grows.vars) found.last in
+    let top : max (level n (family s zeros)) (level n (family s ones)) ≡ suc d = rw (← one.grows.vars, ← fz, ← fo) found.top in
+    let less : d < n = omega (arith, found.first, last) in
+    let after : IsFamily (suc d) (family s zeros) × IsFamily (suc d) (family s ones) =
+    top_after s zeros ones (suc d) call.sound call.zeros_known call.ones_known top in
     -- no variable of a family whose high cofactor is empty is the first one
-    no_high : (f : Family) → IsFamily (suc d) f → high_cofactor d f ≡ [] → level n f ≤ d
-    no_high f is e = level-below d n f (subst (IsFamily d) (low_cofactor_whole d f is e) (IsFamily-low_cofactor d f)) (omega (arith, less))
-
-    high : (high_cofactor d Z ≢ []) ⊎ (high_cofactor d O ≢ [])
-    high = ⊎_elim
-        (λ ez. ⊎_elim
-        (λ eo. let p : level n Z ≤ d = no_high Z both_after.0 ez in let q : level n O ≤ d = no_high O both_after.1 eo in absurd (omega (arith, are.top)))
-        (λ ne. inr ne)
-        (cases_empty (high_cofactor d O)))
-        (λ ne. inl ne)
-        (cases_empty (high_cofactor d Z))
-
-    abbrev z0 : Family
-    z0 = low_cofactor d Z
-
-    abbrev z1 : Family
-    z1 = high_cofactor d Z
-
-    abbrev o0 : Family
-    o0 = low_cofactor d O
-
-    abbrev o1 : Family
-    o1 = high_cofactor d O
-
-    abbrev HZ : Family
-    HZ = common_of n z0 z1 o0 o1
-
-    abbrev HO : Family
-    HO = common_of n z0 o1 o0 z1
-
-    abbrev H : Family
-    H = interpolate n HZ HO
-
-    abbrev GZ : Family
-    GZ = lower_of n H z0 z1 o1
-
-    abbrev GO : Family
-    GO = lower_of n H o0 o1 z1
-
-    abbrev G : Family
-    G = interpolate n GZ GO
-
-    whole_is : interpolate n Z O ≡ join d G H
-    whole_is = result_is n d Z O both_after.0 both_after.1 less apart some_zero some_one high
-
-    listed : Covers s.plan needed → Covers s.plan (working_set n (interpolation_list n Z O))
-    listed planned = rw (← needs_least s zeros ones) planned
-
-    -- the cofactors in a later state
-    module _ (later : State) (grows : Grows t later) where
-      z0_is : family later c.a_low ≡ z0
-      z0_is = Denotes-family later c.a_low z0 (grows.known c.a_low.0 z0 are.a_low)
-
-      z1_is : family later c.a_high ≡ z1
-      z1_is = Denotes-family later c.a_high z1 (grows.known c.a_high.0 z1 are.a_high)
-
-      o0_is : family later c.b_low ≡ o0
-      o0_is = Denotes-family later c.b_low o0 (grows.known c.b_low.0 o0 are.b_low)
-
-      o1_is : family later c.b_high ≡ o1
-      o1_is = Denotes-family later c.b_high o1 (grows.known c.b_high.0 o1 are.b_high)
-
-    pub cut_reads : Reads s t
-    cut_reads = one
-
-    pub cut_known : AreKnown t c
-    cut_known = record {
-      a_low = Denotes-knows t c.a_low z0 are.a_low;
-      a_high = Denotes-knows t c.a_high z1 are.a_high;
-      b_low = Denotes-knows t c.b_low o0 are.b_low;
-      b_high = Denotes-knows t c.b_high o1 are.b_high;
+    let no_high : (f : Family) → IsFamily (suc d) f → high_cofactor d f ≡ [] → level n f ≤ d = λ f is e.
+    level-below d n f (subst (IsFamily d) (low_cofactor_whole d f is e) (IsFamily-low_cofactor d f)) (omega (arith, less)) in
+    record {
+      call = call;
+      split = record {
+        zeros_after = after.0;
+        ones_after = after.1;
+        less = less;
+        apart = call.apart;
+        some_zero = filled s zeros call.sound call.zeros_known nz;
+        some_one = filled s ones call.sound call.ones_known nn;
+        high = ⊎_elim
+            (λ ez. ⊎_elim
+            (λ eo. absurd (omega (arith, top, no_high (family s zeros) after.0 ez, no_high (family s ones) after.1 eo)))
+            (λ ne. inr ne)
+            (cases_empty (high_cofactor d (family s ones))))
+            (λ ne. inl ne)
+            (cases_empty (high_cofactor d (family s zeros)));
+      };
+      reads = Reads-trans s a t one two;
+      are = record {
+        first = found.first;
+        last = last;
+        top = top;
+        a_low = rw (← one.grows.vars, ← fz) found.a_low;
+        a_high = rw (← one.grows.vars, ← fz) found.a_high;
+        b_low = rw (← one.grows.vars, ← fo) found.b_low;
+        b_high = rw (← one.grows.vars, ← fo) found.b_high;
+      };
     }
 
-    abbrev upper_list_at : List Family
-    upper_list_at = upper_list t.vars (family t c.a_low) (family t c.a_high) (family t c.b_low) (family t c.b_high)
+module _ {s t : State} {zeros ones : Handle} {c : Cofactors} (k : Cut s t zeros ones c) where
+  abbrev n : ℕ
+  n = s.vars
 
-    upper_list_is : upper_list_at ≡ upper_list n z0 z1 o0 o1
-    upper_list_is = rw (one.grows.vars, z0_is t (Grows-refl t), z1_is t (Grows-refl t), o0_is t (Grows-refl t), o1_is t (Grows-refl t)) refl
+  abbrev d : ℕ
+  d = s.vars - c.var
 
-    pub upper_planned : Covers s.plan needed → Covers t.plan (working_set t.vars upper_list_at)
-    upper_planned planned = rw (one.grows.plan, upper_list_is, one.grows.vars) (planned_upper n d Z O both_after.0 both_after.1 less apart some_zero some_one high s.plan (listed planned))
+  abbrev Z : Family
+  Z = family s zeros
 
-    module _ (u : State) (p : Points) (two : GivesPoints t u (Ok p) (common_of t.vars (family t c.a_low) (family t c.a_high) (family t c.b_low) (family t c.b_high)) (common_of t.vars (family t c.a_low) (family t c.b_high) (family t c.b_low) (family t c.a_high)) (working_set t.vars upper_list_at)) where
-      pub upper_reads : Reads s u
-      upper_reads = Reads-trans s t u one (points_read t u p _ _ _ two)
+  abbrev O : Family
+  O = family s ones
 
-      p_zeros_at : Denotes u p.zeros HZ
-      p_zeros_at = two.zeros ∙ ap Some (rw (one.grows.vars, z0_is t (Grows-refl t), z1_is t (Grows-refl t), o0_is t (Grows-refl t), o1_is t (Grows-refl t)) refl)
+  abbrev R : Family
+  R = interpolate n Z O
 
-      p_ones_at : Denotes u p.ones HO
-      p_ones_at = two.ones ∙ ap Some (rw (one.grows.vars, z0_is t (Grows-refl t), z1_is t (Grows-refl t), o0_is t (Grows-refl t), o1_is t (Grows-refl t)) refl)
+  abbrev list : List Family
+  list = part_needs n d Z O ++ R ∷ []
 
-      p_zeros_is : family u p.zeros ≡ HZ
-      p_zeros_is = Denotes-family u p.zeros HZ p_zeros_at
+  needs_list : needs_of s Least zeros ones.0 ≡ working_set n list
+  needs_list = needs_least s zeros ones ∙ ap (working_set n) (list_is k.split)
 
-      p_ones_is : family u p.ones ≡ HO
-      p_ones_is = Denotes-family u p.ones HO p_ones_at
+  planned : Covers s.plan (working_set n list)
+  planned = rw (← needs_list) k.call.planned
 
-      upper_held : Covers u.held (working_set n (upper_list n z0 z1 o0 o1))
-      upper_held = rw (upper_list_is, one.grows.vars) at two.held
+  -- the cofactors in a later state
+  module _ {u : State} (grows : Grows t u) where
+    z0_is : family u c.a_low ≡ low_cofactor d Z
+    z0_is = Denotes-family u c.a_low _ (grows.known c.a_low.0 _ k.are.a_low)
 
-      pub high_knows : Knows u p.zeros × Knows u p.ones
-      high_knows = (Denotes-knows u p.zeros HZ p_zeros_at, Denotes-knows u p.ones HO p_ones_at)
+    z1_is : family u c.a_high ≡ high_cofactor d Z
+    z1_is = Denotes-family u c.a_high _ (grows.known c.a_high.0 _ k.are.a_high)
 
-      pub high_apart : AreDisjoint (family u p.zeros) (family u p.ones)
-      high_apart = rw (p_zeros_is, p_ones_is) (upper_apart n d Z O both_after.0 both_after.1 less apart some_zero some_one high)
+    o0_is : family u c.b_low ≡ low_cofactor d O
+    o0_is = Denotes-family u c.b_low _ (grows.known c.b_low.0 _ k.are.b_low)
 
-      high_needs : needs_of u Least p.zeros p.ones.0 ≡ working_set n (interpolation_list n HZ HO)
-      high_needs = needs_least u p.zeros p.ones ∙ rw (upper_reads.grows.vars, p_zeros_is, p_ones_is) refl
+    o1_is : family u c.b_high ≡ high_cofactor d O
+    o1_is = Denotes-family u c.b_high _ (grows.known c.b_high.0 _ k.are.b_high)
 
-      high_list_planned : Covers s.plan needed → Covers s.plan (working_set n (interpolation_list n HZ HO))
-      high_list_planned planned = planned_high n d Z O both_after.0 both_after.1 less apart some_zero some_one high s.plan (listed planned)
+    pub cut_known : AreKnown u c
+    cut_known = AreKnown-later (record {
+      a_low = Denotes-knows t c.a_low _ k.are.a_low;
+      a_high = Denotes-knows t c.a_high _ k.are.a_high;
+      b_low = Denotes-knows t c.b_low _ k.are.b_low;
+      b_high = Denotes-knows t c.b_high _ k.are.b_high;
+    }) grows
 
-      pub high_planned : Covers s.plan needed → Covers u.plan (needs_of u Least p.zeros p.ones.0)
-      high_planned planned = rw (upper_reads.grows.plan, high_needs) (high_list_planned planned)
+  -- the call for the points p of one of the two parts, with the zeros A and the ones B
+  module _ {u : State} {p : Points} {A B : Family} (reads : Reads s u) (za : Denotes u p.zeros A) (ob : Denotes u p.ones B) where
+    pub next_needs : needs_of u Least p.zeros p.ones.0 ≡ working_set n (interpolation_list n A B)
+    next_needs = needs_least u p.zeros p.ones ∙ rw (reads.grows.vars, Denotes-family u p.zeros A za, Denotes-family u p.ones B ob) refl
 
-      pub high_falls : max (level u.vars (family u p.zeros)) (level u.vars (family u p.ones)) < max (level n Z) (level n O)
-      high_falls =
-          let x : level n HZ ≤ d = level-below d n HZ (HZ_after n d Z O both_after.0 both_after.1 less apart some_zero some_one high) (omega (arith, less)) in
-          let y : level n HO ≤ d = level-below d n HO (HO_after n d Z O both_after.0 both_after.1 less apart some_zero some_one high) (omega (arith, less)) in
-          rw (upper_reads.grows.vars, p_zeros_is, p_ones_is, are.top) (omega arith)
+    next_result : interpolate u.vars (family u p.zeros) (family u p.ones) ≡ interpolate n A B
+    next_result = rw (reads.grows.vars, Denotes-family u p.zeros A za, Denotes-family u p.ones B ob) refl
 
-      module _ (v : State) (h : Handle) (okv : IsSound v) (three : Gives u v (Ok h) (interpolate u.vars (family u p.zeros) (family u p.ones)) (needs_of u Least p.zeros p.ones.0)) where
-        pub high_reads : Reads s v
-        high_reads = Reads-trans s u v upper_reads (Gives-reads u v h _ _ three)
+    next_falls : IsFamily d A × IsFamily d B
+        → max (level u.vars (family u p.zeros)) (level u.vars (family u p.ones)) < max (level n Z) (level n O)
+    next_falls fits =
+        let x : level n A ≤ d = level-below d n A fits.0 (omega (arith, k.split.less)) in
+        let y : level n B ≤ d = level-below d n B fits.1 (omega (arith, k.split.less)) in
+        rw (reads.grows.vars, Denotes-family u p.zeros A za, Denotes-family u p.ones B ob, k.are.top) (omega arith)
+
+    next_call : IsSound u → AreDisjoint A B → Covers list (interpolation_list n A B) → Call u p.zeros p.ones
+    next_call sound apart part = record {
+      sound = sound;
+      zeros_known = Denotes-knows u p.zeros A za;
+      ones_known = Denotes-knows u p.ones B ob;
+      apart = rw (Denotes-family u p.zeros A za, Denotes-family u p.ones B ob) apart;
+      planned = rw (reads.grows.plan, next_needs) (covers_part n s.plan list (interpolation_list n A B) planned part);
+    }
+
+    module _ {v : State} {r : Handle} (does : Does u p.zeros p.ones v (Ok r)) where
+      next_at : Denotes v r (interpolate n A B)
+      next_at = does.ok ∙ ap Some next_result
+
+      next_found : {xs : List Family} → IsSound v → Found s u xs → Found s v (xs ++ (interpolation_list n A B ++ interpolate n A B ∷ []))
+      next_found {xs = xs} sound before = found_after s u v xs (interpolation_list n A B ++ interpolate n A B ∷ []) before
+          (found_result u v r (interpolate n A B) (interpolation_list n A B) sound
+          (subst (λ l. Gives u v (Ok r) (interpolate n A B) l) (next_needs
+          ∙ ap (λ i. working_set i (interpolation_list n A B)) (sym reads.grows.vars))
+          (subst (λ f. Gives u v (Ok r) f (needs_of u Least p.zeros p.ones.0)) next_result does)))
+
+  abbrev pub UpperList : List Family
+  UpperList = upper_list t.vars (family t c.a_low) (family t c.a_high) (family t c.b_low) (family t c.b_high)
+
+  upper_list_is : UpperList ≡ upper_needs n d Z O
+  upper_list_is = let same = Grows-refl t in rw (k.reads.grows.vars, z0_is same, z1_is same, o0_is same, o1_is same) refl
+
+  pub upper_planned : Covers t.plan (working_set t.vars UpperList)
+  upper_planned = rw (k.reads.grows.plan, upper_list_is, k.reads.grows.vars) (covers_part n s.plan list (upper_needs n d Z O) planned
+      (λ f i. search (Has-append_left, Has-append_right) depth 8))
+
+  -- u is the state after the points p of the upper part were found
+  module _ {u : State} {p : Points}
+      (two : GivesPoints t u (Ok p) (common_of t.vars (family t c.a_low) (family t c.a_high) (family t c.b_low) (family t c.b_high))
+      (common_of t.vars (family t c.a_low) (family t c.b_high) (family t c.b_low) (family t c.a_high)) (working_set t.vars UpperList))
+    where
+      to_u : Found s u (upper_needs n d Z O)
+      to_u = points_found_after (upper_needs n d Z O) (found_read k.reads) (rw (upper_list_is, k.reads.grows.vars) refl) two
+
+      pub at_u : Reads s u
+      at_u = to_u.reads
+
+      hz_at : Denotes u p.zeros (hz n d Z O)
+      hz_at = let same = Grows-refl t in two.zeros ∙ ap Some (rw (k.reads.grows.vars, z0_is same, z1_is same, o0_is same, o1_is same) refl)
+
+      ho_at : Denotes u p.ones (ho n d Z O)
+      ho_at = let same = Grows-refl t in two.ones ∙ ap Some (rw (k.reads.grows.vars, z0_is same, z1_is same, o0_is same, o1_is same) refl)
+
+      pub high_falls : max (level u.vars (family u p.zeros)) (level u.vars (family u p.ones)) < max (level s.vars (family s zeros))
+          (level s.vars (family s ones))
+      high_falls = next_falls at_u hz_at ho_at (upper_fits k.split)
+
+      pub high_call : IsSound u → Call u p.zeros p.ones
+      high_call sound = next_call at_u hz_at ho_at sound (upper_apart k.split)
+          (λ f i. search (Has-append_left, Has-append_right) depth 8)
+
+      -- v is the state after the polynomial r of the upper part was found
+      module _ {v : State} {r : Handle} (sound_v : IsSound v) (three : Does u p.zeros p.ones v (Ok r)) where
+        to_v : Found s v (upper_needs n d Z O ++ (interpolation_list n (hz n d Z O) (ho n d Z O) ++ h n d Z O ∷ []))
+        to_v = next_found at_u hz_at ho_at three sound_v to_u
+
+        pub at_v : Reads s v
+        at_v = to_v.reads
 
         from_cut : Grows t v
         from_cut = Grows-trans t u v two.grows three.grows
 
-        h_at : Denotes v h H
-        h_at = three.ok ∙ ap Some (rw (upper_reads.grows.vars, p_zeros_is, p_ones_is) refl)
-
-        h_is : family v h ≡ H
-        h_is = Denotes-family v h H h_at
-
-        high_held : Covers v.held (working_set n (interpolation_list n HZ HO))
-        high_held = rw high_needs at three.held
+        h_at : Denotes v r (h n d Z O)
+        h_at = next_at at_u hz_at ho_at three
 
         pub lower_known : AreKnown v c
-        lower_known = AreKnown-later t c cut_known v from_cut
+        lower_known = cut_known from_cut
 
-        pub lower_h : Knows v h
-        lower_h = Denotes-knows v h H h_at
+        abbrev pub LowerList : List Family
+        LowerList = lower_list v.vars (family v r) (family v c.a_low) (family v c.a_high) (family v c.b_low) (family v c.b_high)
 
-        abbrev lower_list_at : List Family
-        lower_list_at = lower_list v.vars (family v h) (family v c.a_low) (family v c.a_high) (family v c.b_low) (family v c.b_high)
+        h_is : family v r ≡ h n d Z O
+        h_is = Denotes-family v r _ h_at
 
-        lower_list_is : lower_list_at ≡ lower_list n H z0 z1 o0 o1
-        lower_list_is = rw (high_reads.grows.vars, h_is, z0_is v from_cut, z1_is v from_cut, o0_is v from_cut, o1_is v from_cut) refl
+        lower_list_is : LowerList ≡ lower_needs n d Z O
+        lower_list_is = rw (at_v.grows.vars, h_is, z0_is from_cut, z1_is from_cut, o0_is from_cut, o1_is from_cut) refl
 
-        pub lower_planned : Covers s.plan needed → Covers v.plan (working_set v.vars lower_list_at)
-        lower_planned planned = rw (high_reads.grows.plan, lower_list_is, high_reads.grows.vars) (planned_lower n d Z O both_after.0 both_after.1 less apart some_zero some_one high s.plan (listed planned))
+        pub lower_planned : Covers v.plan (working_set v.vars LowerList)
+        lower_planned = rw (at_v.grows.plan, lower_list_is, at_v.grows.vars) (covers_part n s.plan list (lower_needs n d Z O) planned
+            (λ f i. search (Has-append_left, Has-append_right) depth 8))
 
-        module _ (w : State) (q : Points) (four : GivesPoints v w (Ok q) (lower_of v.vars (family v h) (family v c.a_low) (family v c.a_high) (family v c.b_high)) (lower_of v.vars (family v h) (family v c.b_low) (family v c.b_high) (family v c.a_high)) (working_set v.vars lower_list_at)) where
-          pub lower_reads : Reads s w
-          lower_reads = Reads-trans s v w high_reads (points_read v w q _ _ _ four)
+        -- w is the state after the points q of the lower part were found
+        module _ {w : State} {q : Points}
+            (four : GivesPoints v w (Ok q) (lower_of v.vars (family v r) (family v c.a_low) (family v c.a_high) (family v c.b_high))
+            (lower_of v.vars (family v r) (family v c.b_low) (family v c.b_high) (family v c.a_high)) (working_set v.vars LowerList))
+          where
+            to_w : Found s w
+                ((upper_needs n d Z O ++ (interpolation_list n (hz n d Z O) (ho n d Z O) ++ h n d Z O ∷ [])) ++ lower_needs n d Z
+                O)
+            to_w = points_found_after (lower_needs n d Z O) to_v (rw (lower_list_is, at_v.grows.vars) refl) four
 
-          q_zeros_at : Denotes w q.zeros GZ
-          q_zeros_at = four.zeros ∙ ap Some (rw (high_reads.grows.vars, h_is, z0_is v from_cut, z1_is v from_cut, o1_is v from_cut) refl)
+            pub at_w : Reads s w
+            at_w = to_w.reads
 
-          q_ones_at : Denotes w q.ones GO
-          q_ones_at = four.ones ∙ ap Some (rw (high_reads.grows.vars, h_is, z1_is v from_cut, o0_is v from_cut, o1_is v from_cut) refl)
+            gz_at : Denotes w q.zeros (gz n d Z O)
+            gz_at = four.zeros ∙ ap Some (rw (at_v.grows.vars, h_is, z0_is from_cut, z1_is from_cut, o1_is from_cut) refl)
 
-          q_zeros_is : family w q.zeros ≡ GZ
-          q_zeros_is = Denotes-family w q.zeros GZ q_zeros_at
+            go_at : Denotes w q.ones (go n d Z O)
+            go_at = four.ones ∙ ap Some (rw (at_v.grows.vars, h_is, z1_is from_cut, o0_is from_cut, o1_is from_cut) refl)
 
-          q_ones_is : family w q.ones ≡ GO
-          q_ones_is = Denotes-family w q.ones GO q_ones_at
+            pub low_falls : max (level w.vars (family w q.zeros)) (level w.vars (family w q.ones)) < max (level s.vars (family s zeros))
+                (level s.vars (family s ones))
+            low_falls = next_falls at_w gz_at go_at (lower_fits k.split)
 
-          lower_held : Covers w.held (working_set n (lower_list n H z0 z1 o0 o1))
-          lower_held = rw (lower_list_is, high_reads.grows.vars) at four.held
+            pub low_call : IsSound w → Call w q.zeros q.ones
+            low_call sound = next_call at_w gz_at go_at sound (lower_apart k.split)
+                (λ f i. search (Has-append_left, Has-append_right) depth 8)
 
-          pub low_knows : Knows w q.zeros × Knows w q.ones
-          low_knows = (Denotes-knows w q.zeros GZ q_zeros_at, Denotes-knows w q.ones GO q_ones_at)
+            -- x is the state after the polynomial e of the lower part was found
+            module _ {x : State} {e : Handle} (sound_x : IsSound x) (five : Does w q.zeros q.ones x (Ok e)) where
+              pub halves : Halves s x c.var e r (interpolate s.vars (family s zeros) (family s ones)) (part_needs n d Z O)
+              halves = record {
+                low_half = g n d Z O;
+                high_half = h n d Z O;
+                found = next_found at_w gz_at go_at five sound_x to_w;
+                sound = sound_x;
+                first = k.are.first;
+                last = k.are.last;
+                low = next_at at_w gz_at go_at five;
+                high = five.grows.known r.0 _ (four.grows.known r.0 _ h_at);
+                low_after = g_fits k.split;
+                high_after = h_fits k.split;
+                whole = result_is k.split;
+                planned = covers_family n s.plan list R planned (Has-append_right (part_needs n d Z O) (R ∷ []) R (Has-head R []));
+              }
 
-          pub low_apart : AreDisjoint (family w q.zeros) (family w q.ones)
-          low_apart = rw (q_zeros_is, q_ones_is) (lower_apart n d Z O both_after.0 both_after.1 less apart some_zero some_one high)
-
-          low_needs : needs_of w Least q.zeros q.ones.0 ≡ working_set n (interpolation_list n GZ GO)
-          low_needs = needs_least w q.zeros q.ones ∙ rw (lower_reads.grows.vars, q_zeros_is, q_ones_is) refl
-
-          pub low_planned : Covers s.plan needed → Covers w.plan (needs_of w Least q.zeros q.ones.0)
-          low_planned planned = rw (lower_reads.grows.plan, low_needs) (planned_low n d Z O both_after.0 both_after.1 less apart some_zero some_one high s.plan (listed planned))
-
-          pub low_falls : max (level w.vars (family w q.zeros)) (level w.vars (family w q.ones)) < max (level n Z) (level n O)
-          low_falls =
-              let x : level n GZ ≤ d = level-below d n GZ (GZ_after n d Z O both_after.0 both_after.1 less apart some_zero some_one high) (omega (arith, less)) in
-              let y : level n GO ≤ d = level-below d n GO (GO_after n d Z O both_after.0 both_after.1 less apart some_zero some_one high) (omega (arith, less)) in
-              rw (lower_reads.grows.vars, q_zeros_is, q_ones_is, are.top) (omega arith)
-
-          module _ (x : State) (g : Handle) (okx : IsSound x) (five : Gives w x (Ok g) (interpolate w.vars (family w q.zeros) (family w q.ones)) (needs_of w Least q.zeros q.ones.0)) where
-            pub low_reads : Reads s x
-            low_reads = Reads-trans s w x lower_reads (Gives-reads w x g _ _ five)
-
-            g_at : Denotes x g G
-            g_at = five.ok ∙ ap Some (rw (lower_reads.grows.vars, q_zeros_is, q_ones_is) refl)
-
-            from_high : Grows v x
-            from_high = Grows-trans v w x four.grows five.grows
-
-            h_later : Denotes x h H
-            h_later = from_high.known h.0 H h_at
-
-            low_held : Covers x.held (working_set n (interpolation_list n GZ GO))
-            low_held = rw low_needs at five.held
-
-            at_var : c.var ≡ x.vars - d
-            at_var = omega (arith, low_reads.grows.vars, are.first, are.last)
-
-            G_fits : IsFamily d G
-            G_fits = G_after n d Z O both_after.0 both_after.1 less apart some_zero some_one high
-
-            H_fits : IsFamily d H
-            H_fits = H_after n d Z O both_after.0 both_after.1 less apart some_zero some_one high
-
-            pub grow_parts : AreParts x c.var g h
-            grow_parts = grown_parts s x d c.var g h G H (interpolate n Z O) low_reads.grows less at_var g_at h_later G_fits H_fits whole_is
-
-            pub grow_planned : Covers s.plan needed → h.0 ≢ 0 → Has x.plan (join (x.vars - c.var) (family x g) (family x h))
-            grow_planned planned ne =
-                grown_planned s x d c.var g h G H (interpolate n Z O) low_reads.grows less at_var g_at h_later G_fits H_fits whole_is
-                (λ e. filled x h okx (Denotes-knows x h H h_later) ne (Denotes-family x h H h_later ∙ e))
-                (rw whole_is (planned_result n d Z O both_after.0 both_after.1 less apart some_zero some_one high s.plan (listed planned)))
-
-            module _ (y : State) (r : Result Handle Full) (six : Builds x y r (join (x.vars - c.var) (family x g) (family x h))) where
-              grown : Builds s y r (interpolate n Z O)
-              grown = grown_builds s x d c.var g h G H (interpolate n Z O) low_reads.grows less at_var g_at h_later G_fits H_fits whole_is y r low_reads six
-
-            pub grow_gives : (y : State) (r : Result Handle Full) → Builds x y r (join (x.vars - c.var) (family x g) (family x h)) → Gives s y r (interpolate n Z O) needed
-            grow_gives y (Ok r) six =
-                let is : Builds s y (Ok r) (interpolate n Z O) = grown y (Ok r) six in
-                let from_u : Grows u y = Grows-trans u v y three.grows (Grows-trans v x y from_high six.grows) in
-                let from_w : Grows w y = Grows-trans w x y five.grows six.grows in
-                record {
-                  grows = is.grows;
-                  ok = is.ok;
-                  held = rw (needs_least s zeros ones)
-                      (all_held n d Z O both_after.0 both_after.1 less apart some_zero some_one high y.held
-                      (λ f i. from_u.held f (upper_held f i))
-                      (λ f i. six.grows.held f (from_high.held f (high_held f i)))
-                      (λ f i. six.grows.held f (from_high.held f (okv.subs h.0 H h_at f (rw high_reads.grows.vars i))))
-                      (λ f i. from_w.held f (lower_held f i))
-                      (λ f i. six.grows.held f (low_held f i))
-                      (λ f i. six.grows.held f (okx.subs g.0 G g_at f (rw low_reads.grows.vars i)))
-                      (rw (← whole_is) is.held));
-                  quiet = is.quiet;
-                  full = tt;
-                }
-            grow_gives y (Err e) six =
-                let is : Builds s y (Err e) (interpolate n Z O) = grown y (Err e) six in
-                record { grows = is.grows; ok = tt; held = tt; quiet = tt; full = is.full }
+              pub grown_gives : {y : State} (o : Result Handle Full) → Builds x y o (join (x.vars - c.var) (family x e) (family x r))
+                  → Does s zeros ones y o
+              grown_gives o built = rw needs_list (grow_gives halves o built)

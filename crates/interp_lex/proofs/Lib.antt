@@ -1,7 +1,5 @@
-pub mod WorkingParts
-pub mod FewerVariables
-pub mod CallsInRow
-pub mod Recursion
-pub mod LeastStep
-pub mod AnyInterpolation
-pub mod ListedPoints
+mod FewerVariables
+mod PointSteps
+mod Recursion
+mod LeastStep
+pub mod InterpolationNeeds

@@ -39,8 +39,8 @@ lower_of n h low same other = replaced_of n low (ones_of n h other) same (ones_o
 abbrev pub lower_list : ℕ → Family → Family → Family → Family → Family → List Family
 lower_list n h z0 z1 o0 o1 =
     ones_list n h z1 ++ (ones_list n h o1
-    ++ (ones_of n h z1 ∷ ones_of n h o1 ∷ minus_of n z1 (ones_of n h z1) ∷ minus_of n o1 (ones_of n h o1) ∷ union_of n z0 (ones_of n h o1) ∷ union_of n o0 (ones_of n h z1)
-    ∷ lower_of n h z0 z1 o1 ∷ lower_of n h o0 o1 z1 ∷ []))
+    ++ (ones_of n h z1 ∷ ones_of n h o1 ∷ minus_of n z1 (ones_of n h z1) ∷ minus_of n o1 (ones_of n h o1)
+    ∷ union_of n z0 (ones_of n h o1) ∷ union_of n o0 (ones_of n h z1) ∷ lower_of n h z0 z1 o1 ∷ lower_of n h o0 o1 z1 ∷ []))
 
 -- the store knows the four cofactors
 pub record AreKnown (s : State) (c : Cofactors) : Type 0 where

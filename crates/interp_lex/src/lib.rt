@@ -5,6 +5,3 @@ mod interpolation;
 mod parts;
 
 pub use crate::interpolation::least;
-
-#[cfg(test)]
-mod tests;

@@ -47,10 +47,7 @@ fn replaced<S: Store, O: SetOps<S>>(
     high: Handle,
     removed: Handle,
 ) -> Result<Handle, Full>
-    requires low { Knows (S.state store.old) low }
-    requires added { Knows (S.state store.old) added }
-    requires high { Knows (S.state store.old) high }
-    requires removed { Knows (S.state store.old) removed }
+    requires known { let s = S.state store.old in Knows s low × Knows s added × Knows s high × Knows s removed }
     requires planned { let s = S.state store.old in Covers s.plan (working_set s.vars (replaced_list s.vars (family s low) (family s added) (family s high) (family s removed))) }
     requires ready { O.ready ops.old }
     ensures result { let s = S.state store.old in Gives s (S.state store.new) result (replaced_of s.vars (family s low) (family s added) (family s high) (family s removed)) (working_set s.vars (replaced_list s.vars (family s low) (family s added) (family s high) (family s removed))) }

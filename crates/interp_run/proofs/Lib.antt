@@ -1,17 +1,9 @@
-pub mod Sizes
-pub mod BasisOfOutputs
-pub mod FoundLeads
-pub mod FoundEach
-pub mod FoundOutputs
-pub mod CountedTerms
-pub mod FreshStores
-pub mod OutputLists
-pub mod PrintedAnswers
-pub mod SolvedAnswers
-pub mod Pages
-pub mod Told
-pub mod Notes
-pub mod Jobs
-pub mod Outcomes
-pub mod Verdicts
-pub mod Answered
+mod LeadsOfPoints
+mod FoundOutputs
+mod OutputLists
+mod CountedTerms
+mod SolvedAnswers
+mod OneDue
+mod Inhabited
+mod Written
+mod Endings

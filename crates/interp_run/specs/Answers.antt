@@ -2,7 +2,7 @@
 use Rattle.std.specs.Prelude.{◌≡◌, ℕ, ◌+◌, List, [], ◌∷◌, true, false, Some, length, slice_get, sum_by, codes}
 use Rattle.lattice.specs.Interpolation.{IsLeast}
 use Rattle.lattice.specs.Basis.{IsReducedBasis}
-use Rattle.lattice.specs.Rows.{care_zeros, care_ones}
+use Rattle.lattice.specs.Rows.{IsConsistent, care_zeros, care_ones}
 use Rattle.lattice.specs.WorkingLists.{care_set, is_basis, first_phase, second_phase, working_set}
 use Rattle.lattice.specs.declared.kind.Mode.{Mode}
 use Rattle.pla_reader.specs.Reading.{Description}
@@ -15,8 +15,9 @@ pub record IsAnswerOf (d : Description) (mode : Mode) (output : ℕ) (a : Answer
   pub basis : is_basis mode ≡ true → IsReducedBasis d.inputs (care_set d.inputs d.kind d.rows output) a.basis
   pub bare : is_basis mode ≡ false → a.basis ≡ []
 
--- the answers of all outputs, in order
+-- the answers of all outputs of a consistent description, in order
 pub record AreAnswers (d : Description) (mode : Mode) (answers : List Answer) : Type 0 where
+  pub consistent : IsConsistent d.inputs d.outputs d.rows
   pub count : length answers ≡ d.outputs
   pub each : (k : ℕ) (a : Answer) → slice_get answers k ≡ Some a → IsAnswerOf d mode (k + 1) a
 
@@ -37,9 +38,11 @@ last_nodes d mode = length (working_set d.inputs (second_phase d.inputs d.output
 
 -- the texts of the outputs
 abbrev pub texts : Description → Mode → List Answer → List (List ℕ)
-texts d mode answers = texts_of mode (printed_names (codes "x") d.inputs d.in_names) (printed_names (codes "f") d.outputs d.out_names) answers
+texts d mode answers = texts_of mode (printed_names (codes "x") d.inputs d.in_names) (printed_names (codes "f") d.outputs d.out_names)
+    answers
 
 -- what the watchers are told of the outputs from the given number on
 unfoldable pub notes_from : ℕ → List Answer → List Note
 notes_from output [] = []
-notes_from output (a ∷ answers) = record { output = output; terms = length a.polynomial; basis = length a.basis } ∷ notes_from (output + 1) answers
+notes_from output (a ∷ answers) = record { output = output; terms = length a.polynomial; basis = length a.basis } ∷ notes_from (output + 1)
+    answers

@@ -1,4 +1,6 @@
 pub mod Answers
 pub mod Due
+pub mod Laws
+pub mod Parts
 pub mod Phases
 pub mod Run

@@ -1,11 +1,12 @@
 -- What the two phases of a run find on a store.
-use Rattle.std.specs.Prelude.{◌≡◌, ℕ, ◌+◌, ◌∷◌, ◌++◌, List, [], true, Some, Result, IfOk, OnOk, OnErr, cond, length, map, slice_get, sum_by}
+use Rattle.std.specs.Prelude.{◌≡◌, ℕ, ◌+◌, ◌∷◌, ◌++◌, List, [], true, Result, IfOk, OnOk, OnErr, cond, length, map, sum_by}
 use Rattle.std.specs.List.{All, AllZip}
 use Rattle.lattice.specs.Family.{Family, Covers}
 use Rattle.lattice.specs.Interpolation.{interpolate}
 use Rattle.lattice.specs.Basis.{IsLead, basis_element_of, leads_of, standard_of}
 use Rattle.lattice.specs.Rows.{care_ones, care_zeros}
-use Rattle.lattice.specs.WorkingLists.{all_of, basis_element_list, care_set, is_basis, leads_list, output_leads_list, output_list, standard_list, working_set}
+use Rattle.lattice.specs.WorkingLists.{all_of, basis_element_list, care_set, is_basis, leads_list, output_leads_list, output_list}
+use Rattle.lattice.specs.WorkingLists.{output_numbers, standard_list, working_set}
 use Rattle.lattice.specs.declared.kind.Mode.{Mode}
 use Rattle.node_store.specs.Stores.{Denotes, Grows, IsFull, Knows, State, family}
 use Rattle.pla_reader.specs.Reading.{Description}
@@ -21,7 +22,8 @@ leads_in d mode output = cond (is_basis mode) (leads_of d.inputs (standard_of d.
 
 -- the families that phase 1 needs for an output
 abbrev pub found_list : Description → Mode → ℕ → List Family
-found_list d mode output = output_list d.inputs d.kind d.rows output ++ cond (is_basis mode) (output_leads_list d.inputs d.kind d.rows output) []
+found_list d mode output = output_list d.inputs d.kind d.rows output ++ cond (is_basis mode)
+    (output_leads_list d.inputs d.kind d.rows output) []
 
 -- the families that are needed for the leads of points
 abbrev pub points_list : ℕ → Family → List Family
@@ -38,16 +40,16 @@ pub record GivesLeads (before after : State) (result : Result (Handle × Handle)
 
 -- what phase 1 finds of an output
 pub record IsFound (s : State) (d : Description) (mode : Mode) (output : ℕ) (f : Found) : Type 0 where
-  pub polynomial : Denotes s f.polynomial (interpolate d.inputs (care_zeros d.inputs d.kind d.rows output) (care_ones d.inputs d.kind d.rows output))
+  pub polynomial : Denotes s f.polynomial
+      (interpolate d.inputs (care_zeros d.inputs d.kind d.rows output) (care_ones d.inputs d.kind d.rows output))
   pub points_known : Knows s f.points
   pub points : is_basis mode ≡ true → Denotes s f.points (care_set d.inputs d.kind d.rows output)
   pub leads : Denotes s f.leads (leads_in d mode output)
   pub held : Covers s.held (working_set d.inputs (found_list d mode output))
 
 -- what it finds of the first outputs
-pub record FindsFirst (s : State) (d : Description) (mode : Mode) (count : ℕ) (found : List Found) : Type 0 where
-  pub size : length found ≡ count
-  pub each : (k : ℕ) (f : Found) → slice_get found k ≡ Some f → IsFound s d mode (k + 1) f
+abbrev pub FindsFirst : State → Description → Mode → ℕ → List Found → Type 0
+FindsFirst s d mode count found = AllZip (λ f output. IsFound s d mode output f) found (output_numbers count)
 
 -- the families that phase 2 needs for an output
 abbrev pub basis_list : State → Found → List Family

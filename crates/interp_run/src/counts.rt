@@ -1,12 +1,35 @@
 //! The terms of the answer, counted up to a limit.
-ghost use Rattle.std.specs.Prelude.{◌≡◌, ◌<◌, ◌≤◌, IfNone, IfSome};
+ghost use Rattle.std.specs.Prelude.{◌≡◌, ◌<◌, ◌≤◌, ◌+◌, IfNone, IfSome, length};
 ghost use Rattle.std.specs.List.{All};
-ghost use Rattle.node_store.specs.Stores.{Knows, Reads};
+ghost use Rattle.node_store.specs.Stores.{Knows, Reads, family};
 ghost use Rattle.interp_run.specs.Phases.{KnowsFound, KnowsSolved, first_terms, second_terms, terms_of};
 
 use crate::phases::{Found, Solved};
 use node_store::{Handle, Store};
 use set_algebra::count_upto;
+
+// The count and the terms of an output: of its polynomial and of others; None exactly where they pass `limit`.
+fn add_terms<S: Store>(
+    store: &mut S,
+    before: u64,
+    polynomial: Handle,
+    others: &[Handle],
+    limit: u64,
+) -> Option<u64>
+    requires few { before ≤ limit }
+    requires known { Knows (S.state store.old) polynomial × All (Knows (S.state store.old)) others.now }
+    ensures reads { Reads (S.state store.old) (S.state store.new) }
+    ensures count { let s = S.state store.old in IfSome result (λ n. n ≡ before + length (family s polynomial) + terms_of s others.now) }
+    ensures within { IfSome result (λ n. n ≤ limit) }
+    ensures over { let s = S.state store.old in IfNone result (limit < before + length (family s polynomial) + terms_of s others.now) }
+{
+    let mut count = before;
+    count += count_upto(store, polynomial, limit - count)?;
+    for other in others {
+        count += count_upto(store, *other, limit - count)?;
+    }
+    Some(count)
+}
 
 /// The terms of all polynomials and the leads of all outputs; None exactly where they pass `limit`.
 pub(crate) fn first_count<S: Store>(store: &mut S, found: &[Found], limit: u64) -> Option<u64>
@@ -18,23 +41,7 @@ pub(crate) fn first_count<S: Store>(store: &mut S, found: &[Found], limit: u64) 
 {
     let mut count = 0;
     for output in found {
-        count += count_upto(store, output.polynomial, limit - count)?;
-        count += count_upto(store, output.leads, limit - count)?;
-    }
-    Some(count)
-}
-
-// The terms of some polynomials; None exactly where they pass `limit`.
-fn terms_upto<S: Store>(store: &mut S, polynomials: &[Handle], limit: u64) -> Option<u64>
-    requires known { All (Knows (S.state store.old)) polynomials.now }
-    ensures reads { Reads (S.state store.old) (S.state store.new) }
-    ensures count { IfSome result (λ n. n ≡ terms_of (S.state store.old) polynomials.now) }
-    ensures within { IfSome result (λ n. n ≤ limit) }
-    ensures over { IfNone result (limit < terms_of (S.state store.old) polynomials.now) }
-{
-    let mut count = 0;
-    for polynomial in polynomials {
-        count += count_upto(store, *polynomial, limit - count)?;
+        count = add_terms(store, count, output.polynomial, &[output.leads], limit)?;
     }
     Some(count)
 }
@@ -49,8 +56,7 @@ pub(crate) fn second_count<S: Store>(store: &mut S, solved: &[Solved], limit: u6
 {
     let mut count = 0;
     for output in solved {
-        count += count_upto(store, output.polynomial, limit - count)?;
-        count += terms_upto(store, &output.basis, limit - count)?;
+        count = add_terms(store, count, output.polynomial, &output.basis, limit)?;
     }
     Some(count)
 }

@@ -2,12 +2,13 @@
 ghost use Rattle.std.specs.Prelude.{◌≡◌, drop, IfErr, IfOk};
 ghost use Rattle.cli_words.specs.declared.job.Job.{Job};
 ghost use Rattle.lattice.specs.declared.kind.Mode.TheVariants.{Check};
-ghost use Rattle.interp_run.specs.Due.{EndsWithout, HasVerdict, fault_name, judged_outcome, refused_outcome, verdict_text};
+ghost use Rattle.interp_run.specs.Due.{IsDue, judged, judged_outcome, verdict_text};
+ghost use Rattle.interp_run.specs.Parts.{EndsWithout, refused_outcome};
 
 use crate::Outcome;
 use crate::describe::{contradiction_of, description_of};
 use arrayvec::ArrayString;
-use cert_check::{AnswerRefusal, CheckRefusal, Fault, MOST_INPUTS, Verdict, check, read_answer};
+use cert_check::{AnswerRefusal, CheckRefusal, MOST_INPUTS, Verdict, check, read_answer};
 use itoa::Buffer;
 use std::alloc::Global;
 
@@ -33,7 +34,7 @@ fn behind(bytes: &[u8], taken: usize) -> &[u8]
 
 /// The verdict on the answer that stands after the description, or how the run ends without it.
 pub(crate) fn verdict_of(alloc: Global, bytes: &[u8]) -> Result<Verdict, Outcome>
-    ensures ok { IfOk result (HasVerdict bytes.now) }
+    ensures ok { IfOk result (λ v. (job : Job) → job.mode ≡ Check → IsDue job bytes.now (judged v)) }
     ensures err { IfErr result (λ o. (job : Job) → job.mode ≡ Check → EndsWithout job bytes.now o) }
 {
     let (pla, taken) = description_of(alloc, bytes)?;
@@ -54,20 +55,6 @@ pub(crate) fn verdict_of(alloc: Global, bytes: &[u8]) -> Result<Verdict, Outcome
     }
 }
 
-// The name of a fault.
-fn name_of(why: Fault) -> &'static str
-    ensures { result.now ≡ fault_name why }
-{
-    match why {
-        Fault::Value => "Value",
-        Fault::NotZero => "NotZero",
-        Fault::Leads => "Leads",
-        Fault::Count => "Count",
-        Fault::Reducible => "Reducible",
-        Fault::Order => "Order",
-    }
-}
-
 /// What is written for a verdict, which takes no memory.
 pub(crate) fn text_of(verdict: Verdict) -> ArrayString<LONGEST_VERDICT>
     ensures { result.bytes ≡ verdict_text verdict }
@@ -80,7 +67,7 @@ pub(crate) fn text_of(verdict: Verdict) -> ArrayString<LONGEST_VERDICT>
             text.push_str("no ");
             text.push_str(digits.format(line));
             text.push_str(" ");
-            text.push_str(name_of(why));
+            text.push_str(why.name());
             text.push_str("\n");
         }
     }

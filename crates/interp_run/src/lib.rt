@@ -4,6 +4,7 @@
 mod counts;
 mod describe;
 mod judge;
+pub mod laws;
 mod outcome;
 mod phases;
 mod plan;

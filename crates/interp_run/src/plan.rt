@@ -1,7 +1,7 @@
 //! The families that a run may ask of its store.
 ghost use Rattle.std.specs.Prelude.{◌≡◌};
 ghost use Rattle.lattice.specs.WorkingLists.{second_phase, working_set};
-ghost use Rattle.lattice.proofs.WorkingSets.{working_set_is_node_list};
+ghost use Rattle.lattice.proofs.Diagrams.{working_set_is_node_list};
 
 use lattice::{Mode, Plan, Planned, plan_of};
 use pla_reader::Pla;

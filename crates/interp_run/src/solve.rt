@@ -1,17 +1,22 @@
 //! A consistent description solved on a store of its own.
-ghost use Rattle.std.specs.Prelude.{◌≡◌, ◌⊎◌, ◌<◌, ◌≤◌, ◌^◌, IfOk, IfErr, IsErrOf, List, map};
+ghost use Rattle.std.specs.Prelude.{◌≡◌, ◌⊎◌, ◌<◌, ◌≤◌, ◌^◌, IfOk, IfErr, IsErrOf, map};
+ghost use Rattle.std.specs.List.{All};
+ghost use Rattle.lattice.specs.declared.limits.TheConstants.{MIN_BITS, MAX_BITS};
 ghost use Rattle.lattice.specs.declared.kind.Mode.TheVariants.{Anf, Basis};
 ghost use Rattle.lattice.specs.Rows.{IsConsistent};
 ghost use Rattle.lattice.specs.WorkingLists.{second_phase, working_set};
+ghost use Rattle.node_store.specs.Stores.{Grows};
 ghost use Rattle.pla_reader.specs.Reading.{description};
-ghost use Rattle.anf_printer.specs.Text.{Answer, answer_of};
+ghost use Rattle.anf_printer.specs.Text.{answer_of};
 ghost use Rattle.interp_run.specs.Answers.{AreAnswers, last_nodes};
-ghost use Rattle.interp_run.specs.Due.{EndsUnsolved, IsEnd};
+ghost use Rattle.interp_run.specs.Due.{IsDueSolving, silent, solved};
+ghost use Rattle.interp_run.specs.Parts.{EndsUnsolved};
+ghost use Rattle.interp_run.specs.Phases.{FindsFirst, KnowsSolved, answer_in, first_terms, second_terms};
 ghost use Rattle.interp_run.specs.declared.outcome.Outcome.TheVariants as outcomes;
 
 use crate::Outcome;
 use crate::counts::{first_count, second_count};
-use crate::phases::{Stop, first_phase, second_phase};
+use crate::phases::{Found, Solved, Stop, first_phase, second_phase};
 use crate::plan::run_plan;
 use crate::printed::shown_of;
 use anf_printer::Shown;
@@ -20,6 +25,47 @@ use lattice::Memory;
 use node_store::{PlainStore, Store};
 use pla_reader::Pla;
 use std::alloc::Global;
+
+// What phase 1 finds of each output, where its terms are within the limit.
+fn found_in<S: Store>(
+    alloc: Global,
+    store: &mut S,
+    pla: &Pla,
+    job: &Job,
+) -> Result<Vec<Found>, Stop>
+    requires vars { (S.state store.old).vars ≡ pla.now.inputs }
+    requires plan { let p = pla.now in (S.state store.old).plan ≡ working_set p.inputs (second_phase p.inputs p.outputs p.kind p.rows job.now.mode) }
+    requires capacity { (S.state store.old).capacity ≡ 2 ^ job.now.nodes }
+    requires consistent { IsConsistent pla.now.inputs pla.now.outputs pla.now.rows }
+    ensures grows { Grows (S.state store.old) (S.state store.new) }
+    ensures found { IfOk result (λ found. FindsFirst (S.state store.new) (description pla.now) job.now.mode pla.now.outputs found.items × (first_terms (S.state store.new) found.items ≤ job.now.terms)) }
+    ensures full { IsErrOf result Stop.Full → 2 ^ job.now.nodes < last_nodes (description pla.now) job.now.mode }
+    ensures terms { IsErrOf result Stop.Terms → IsDueSolving job.now (description pla.now) (silent (outcomes.Terms job.now.terms)) }
+{
+    let found = first_phase(alloc, store, pla, job.mode)?;
+    if first_count(store, &found, job.terms).is_none() {
+        return Err(Stop::Terms);
+    }
+    Ok(found)
+}
+
+// What is printed of what was solved, where its terms are within the limit.
+fn shown_in<S: Store>(
+    alloc: Global,
+    store: &mut S,
+    solved: &[Solved],
+    limit: u64,
+) -> Result<Vec<Shown>, Stop>
+    requires known { All (KnowsSolved (S.state store.old)) solved.now }
+    ensures shown { IfOk result (λ shown. (map answer_of shown.items ≡ map (answer_in (S.state store.old)) solved.now) × (second_terms (S.state store.old) solved.now ≤ limit)) }
+    ensures full { ¬ IsErrOf result Stop.Full }
+    ensures terms { IsErrOf result Stop.Terms → limit < second_terms (S.state store.old) solved.now }
+{
+    if second_count(store, solved, limit).is_none() {
+        return Err(Stop::Terms);
+    }
+    Ok(shown_of(alloc, store, solved, limit)?)
+}
 
 // What is printed of each output, found in a store with the plan of the run.
 fn solve_in<S: Store>(
@@ -32,27 +78,22 @@ fn solve_in<S: Store>(
     requires plan { let p = pla.now in (S.state store.old).plan ≡ working_set p.inputs (second_phase p.inputs p.outputs p.kind p.rows job.now.mode) }
     requires capacity { (S.state store.old).capacity ≡ 2 ^ job.now.nodes }
     requires consistent { IsConsistent pla.now.inputs pla.now.outputs pla.now.rows }
-    ensures ok { IfOk result (λ shown. AreAnswers (description pla.now) job.now.mode (map answer_of shown.items) × IsEnd job.now (description pla.now) (map answer_of shown.items) outcomes.Done) }
+    ensures ok { IfOk result (λ shown. AreAnswers (description pla.now) job.now.mode (map answer_of shown.items) × IsDueSolving job.now (description pla.now) (solved job.now (description pla.now) (map answer_of shown.items))) }
     ensures full { IsErrOf result Stop.Full → 2 ^ job.now.nodes < last_nodes (description pla.now) job.now.mode }
-    ensures terms { IsErrOf result Stop.Terms → (answers : List Answer) × AreAnswers (description pla.now) job.now.mode answers × IsEnd job.now (description pla.now) answers (outcomes.Terms job.now.terms) }
+    ensures terms { IsErrOf result Stop.Terms → IsDueSolving job.now (description pla.now) (silent (outcomes.Terms job.now.terms)) }
 {
-    let found = first_phase(alloc, store, pla, job.mode)?;
-    if first_count(store, &found, job.terms).is_none() {
-        return Err(Stop::Terms);
-    }
+    let found = found_in(alloc, store, pla, job)?;
     let solved = second_phase(alloc, store, &found, job.terms)?;
-    if second_count(store, &solved, job.terms).is_none() {
-        return Err(Stop::Terms);
-    }
-    Ok(shown_of(alloc, store, &solved, job.terms)?)
+    let shown = shown_in(alloc, store, &solved, job.terms)?;
+    Ok(shown)
 }
 
 /// What is printed of each output of a consistent description, or how the run ends without it.
 pub(crate) fn solve(alloc: Global, pla: &Pla, job: &Job) -> Result<Vec<Shown>, Outcome>
     requires mode { (job.now.mode ≡ Anf) ⊎ (job.now.mode ≡ Basis) }
-    requires nodes { (4 ≤ job.now.nodes) × (job.now.nodes ≤ 19) }
+    requires nodes { (MIN_BITS ≤ job.now.nodes) × (job.now.nodes ≤ MAX_BITS) }
     requires consistent { IsConsistent pla.now.inputs pla.now.outputs pla.now.rows }
-    ensures ok { IfOk result (λ shown. AreAnswers (description pla.now) job.now.mode (map answer_of shown.items) × IsEnd job.now (description pla.now) (map answer_of shown.items) outcomes.Done) }
+    ensures ok { IfOk result (λ shown. AreAnswers (description pla.now) job.now.mode (map answer_of shown.items) × IsDueSolving job.now (description pla.now) (solved job.now (description pla.now) (map answer_of shown.items))) }
     ensures err { IfErr result (EndsUnsolved job.now (description pla.now)) }
 {
     let Ok(mut store) = PlainStore::make(alloc, job.nodes, pla.inputs, run_plan(pla, job.mode))

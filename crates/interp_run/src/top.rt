@@ -2,16 +2,17 @@
 ghost use Rattle.std.specs.Prelude.{◌≡◌, ◌≢◌, ◌⊎◌, ◌+◌, ◌≤◌, [], List, ℕ, All, OnOk, OnErr, IfOk, IfErr, Some, length, map, take};
 ghost use Rattle.std.specs.List.{concat};
 ghost use Rattle.std.specs.Io.KnownBytes.{Appends, Keeps};
+ghost use Rattle.lattice.specs.declared.limits.TheConstants.{MIN_BITS, MAX_BITS};
 ghost use Rattle.lattice.specs.Counts.{Rose};
 ghost use Rattle.lattice.specs.declared.kind.Mode.TheVariants.{Anf, Basis, Check};
 ghost use Rattle.outside.specs.Causes.{GainsFront, GainsUnlessRose, HasCause, LosesAtMost};
 ghost use Rattle.anf_printer.specs.Text.{answer_of};
 ghost use Rattle.cli_words.specs.declared.job.Job.{Job};
 ghost use Rattle.watch.specs.Notes.{WatcherState, left_after_all, states_by};
-ghost use Rattle.watch.specs.declared.note.Note.{Note};
 ghost use Rattle.interp_run.specs.Answers.{notes_from};
-ghost use Rattle.interp_run.specs.Due.{EndsWithout, HasText, IsAnswer, IsDue, IsJudgement, IsSolution, most_bytes};
-ghost use Rattle.interp_run.specs.Run.{EndsAs, Gains, IsAllowed, IsAsked, IsRefused, IsUnread, Tells, TellsFirst, Writes, line_of, status_of};
+ghost use Rattle.interp_run.specs.Due.{Due, HasText, IsDue, most_bytes};
+ghost use Rattle.interp_run.specs.Parts.{EndsWithout};
+ghost use Rattle.interp_run.specs.Run.{Ends, IsAsked, IsRefused, Ran, TellsFirst, line_of, status_of};
 ghost use Rattle.interp_run.specs.declared.outcome.Outcome.{Outcome};
 ghost use Rattle.interp_run.specs.declared.outcome.Outcome.TheVariants as outcomes;
 
@@ -28,7 +29,7 @@ use watch::{Note, Watch, tell};
 
 /// The texts of the outputs, and what the watchers are told of each.
 #[derive(Drop)]
-struct Answer {
+struct Writing {
     pages: Pages,
     notes: Vec<Note>,
 }
@@ -50,11 +51,11 @@ fn notes_of(alloc: Global, shown: &[Shown]) -> Result<Vec<Note>, AllocError>
 }
 
 // The answer to a job on the bytes, or how the run ends without it.
-fn answer_to(alloc: Global, job: &Job, bytes: &[u8]) -> Result<Answer, Outcome>
+fn answer_to(alloc: Global, job: &Job, bytes: &[u8]) -> Result<Writing, Outcome>
     requires mode { (job.now.mode ≡ Anf) ⊎ (job.now.mode ≡ Basis) }
-    requires nodes { (4 ≤ job.now.nodes) × (job.now.nodes ≤ 19) }
-    ensures ok { IfOk result (λ a. IsDue job.now bytes.now outcomes.Done × IsSolution job.now.mode bytes.now a.pages a.notes.items) }
-    ensures few { IfOk result (λ a. (length a.notes.items ≡ length a.pages) × (length a.pages ≤ 64)) }
+    requires nodes { (MIN_BITS ≤ job.now.nodes) × (job.now.nodes ≤ MAX_BITS) }
+    ensures ok { IfOk result (λ w. IsDue job.now bytes.now (record { outcome = outcomes.Done; pages = w.pages; notes = w.notes.items })) }
+    ensures few { IfOk result (λ w. (length w.notes.items ≡ length w.pages) × (length w.pages ≤ 64)) }
     ensures err { IfErr result (EndsWithout job.now bytes.now) }
 {
     let (pla, _) = description_of(alloc, bytes)?;
@@ -66,7 +67,7 @@ fn answer_to(alloc: Global, job: &Job, bytes: &[u8]) -> Result<Answer, Outcome>
         return Err(Outcome::Memory);
     };
     match answer_text(alloc, &pla, job.mode, &shown) {
-        Ok(pages) => Ok(Answer { pages, notes }),
+        Ok(pages) => Ok(Writing { pages, notes }),
         Err(Memory) => Err(Outcome::Memory),
     }
 }
@@ -103,16 +104,12 @@ fn solved<K: Sink>(
     watchers: &mut Vec<Box<dyn Watch>>,
 ) -> Outcome
     requires mode { (job.now.mode ≡ Anf) ⊎ (job.now.mode ≡ Basis) }
-    requires nodes { (4 ≤ job.now.nodes) × (job.now.nodes ≤ 19) }
+    requires nodes { (MIN_BITS ≤ job.now.nodes) × (job.now.nodes ≤ MAX_BITS) }
     requires untold { All (λ s. s.told ≡ []) (states_by told patience watchers.old.items) }
-    ensures solves { job.now.mode ≢ Check }
+    ensures read { (result ≢ outcomes.Usage) × (result ≢ outcomes.ReadFault) }
     ensures write { result ≡ outcomes.WriteFault → Rose (K.faults out.old) (K.faults out.new) }
-    ensures ends { EndsAs job.now bytes.now result }
-    ensures text { (whole : List ℕ) (pages : List (List ℕ)) (notes : List Note) → bytes.now ≡ take (most_bytes + 1) whole → IsSolution job.now.mode whole pages notes
-        → Gains result (K.held out.old) (K.held out.new) pages
-        × Tells result (K.held out.old) (K.held out.new) pages notes (states_by told patience watchers.old.items) (states_by told patience watchers.new.items) }
-    ensures nothing { ¬ Writes result → Keeps (K.held out.old) (K.held out.new) }
-    ensures nobody { result ≢ outcomes.Done → result ≢ outcomes.WriteFault → states_by told patience watchers.new.items ≡ states_by told patience watchers.old.items }
+    ensures ends { (words : List (List ℕ)) (whole : List ℕ) → IsAsked words job.now → bytes.now ≡ take (most_bytes + 1) whole
+        → Ends words whole (K.held out.old) (K.held out.new) (states_by told patience watchers.old.items) (states_by told patience watchers.new.items) result }
 {
     let answer = match answer_to(alloc, job, bytes) {
         Ok(answer) => answer,
@@ -126,12 +123,10 @@ fn solved<K: Sink>(
 
 // Judges the answer that stands after the description, and writes the verdict.
 fn judged<K: Sink>(alloc: Global, bytes: &[u8], out: &mut K) -> Outcome
+    ensures read { (result ≢ outcomes.Usage) × (result ≢ outcomes.ReadFault) }
     ensures write { result ≡ outcomes.WriteFault → Rose (K.faults out.old) (K.faults out.new) }
-    ensures ends { (job : Job) → job.mode ≡ Check → EndsAs job bytes.now result }
-    ensures text { (whole : List ℕ) (pages : List (List ℕ)) (notes : List Note) (states : List WatcherState) → bytes.now ≡ take (most_bytes + 1) whole → IsJudgement whole pages notes
-        → Gains result (K.held out.old) (K.held out.new) pages
-        × Tells result (K.held out.old) (K.held out.new) pages notes states states }
-    ensures nothing { ¬ Writes result → Keeps (K.held out.old) (K.held out.new) }
+    ensures ends { (job : Job) (words : List (List ℕ)) (whole : List ℕ) (states : List WatcherState) → IsAsked words job → job.mode ≡ Check → bytes.now ≡ take (most_bytes + 1) whole
+        → Ends words whole (K.held out.old) (K.held out.new) states states result }
 {
     let verdict = match verdict_of(alloc, bytes) {
         Ok(verdict) => verdict,
@@ -152,18 +147,11 @@ fn outcome_of<S: Source, K: Sink>(
     watchers: &mut Vec<Box<dyn Watch>>,
 ) -> Outcome
     requires untold { All (λ s. s.told ≡ []) (states_by told patience watchers.old.items) }
-    ensures usage { result ≡ outcomes.Usage → IsRefused words.now }
-    ensures taken { result ≢ outcomes.Usage → result ≢ outcomes.Memory → ¬ IsRefused words.now }
+    ensures ran { Ran words.now (S.left source.old) (K.held out.old) (K.held out.new) (states_by told patience watchers.old.items) (states_by told patience watchers.new.items) result }
     ensures read { result ≡ outcomes.ReadFault → Rose (S.faults source.old) (S.faults source.new) }
     ensures write { result ≡ outcomes.WriteFault → Rose (K.faults out.old) (K.faults out.new) }
-    ensures due { (bytes : List ℕ) → S.left source.old ≡ Some bytes → IsAllowed words.now bytes result }
-    ensures text { (job : Job) (bytes : List ℕ) (pages : List (List ℕ)) (notes : List Note) → IsAsked words.now job → S.left source.old ≡ Some bytes → IsAnswer job.mode bytes pages notes
-        → Gains result (K.held out.old) (K.held out.new) pages
-        × Tells result (K.held out.old) (K.held out.new) pages notes (states_by told patience watchers.old.items) (states_by told patience watchers.new.items) }
-    ensures nothing { ¬ Writes result → Keeps (K.held out.old) (K.held out.new) }
-    ensures nobody { result ≢ outcomes.Done → result ≢ outcomes.WriteFault → states_by told patience watchers.new.items ≡ states_by told patience watchers.old.items }
     ensures few { LosesAtMost (S.left source.old) (S.left source.new) (most_bytes + 1) }
-    ensures untouched { result ≡ outcomes.Usage → IsUnread (S.left source.old) (S.left source.new) (S.faults source.old) (S.faults source.new) }
+    ensures untouched { result ≡ outcomes.Usage → (S.left source.new ≡ S.left source.old) × (S.faults source.new ≡ S.faults source.old) }
 {
     let job = match read_words(alloc, words) {
         Ok(job) => job,
@@ -204,17 +192,14 @@ pub fn run<S: Source, K: Sink, E: Sink>(
 
     // Where the source tells its bytes, an answer is due for them and no fault was counted, out gained its whole text, unless
     // memory ran out: that of the least polynomials and, in mode basis, of the reduced bases; in mode check the verdict.
-    ensures headline { (job : Job) (bytes : List ℕ) (outcome : Outcome) (pages : List (List ℕ)) (notes : List Note) → IsAsked words.now job → S.left source.old ≡ Some bytes
-        → HasText outcome → IsDue job bytes outcome → IsAnswer job.mode bytes pages notes
+    ensures headline { (job : Job) (bytes : List ℕ) (due : Due) → IsAsked words.now job → S.left source.old ≡ Some bytes → HasText due.outcome → IsDue job bytes due
         → ¬ Rose (S.faults source.old) (S.faults source.new) → ¬ Rose (K.faults out.old) (K.faults out.new)
-        → (result ≡ 7) ⊎ ((result ≡ status_of outcome) × Appends (K.held out.old) (K.held out.new) (concat pages)) }
+        → (result ≡ 7) ⊎ ((result ≡ status_of due.outcome) × Appends (K.held out.old) (K.held out.new) (concat due.pages)) }
 
-    // Where the source tells its bytes, the status is that of the due outcome, or yields to memory and faults.
-    ensures due { (bytes : List ℕ) → S.left source.old ≡ Some bytes
-        → (outcome : Outcome) × (result ≡ status_of outcome) × IsAllowed words.now bytes outcome
-        × ((job : Job) (pages : List (List ℕ)) (notes : List Note) → IsAsked words.now job → IsAnswer job.mode bytes pages notes
-        → Gains outcome (K.held out.old) (K.held out.new) pages
-        × Tells outcome (K.held out.old) (K.held out.new) pages notes (states_by told patience watchers.old.items) (states_by told patience watchers.new.items))
+    // For every source there are bytes, those that it told where it told them, for which the outcome, what out gained and who
+    // was told are as is due, or yield to memory and faults; and err gained the line of this outcome.
+    ensures ran { (outcome : Outcome) × (result ≡ status_of outcome)
+        × Ran words.now (S.left source.old) (K.held out.old) (K.held out.new) (states_by told patience watchers.old.items) (states_by told patience watchers.new.items) outcome
         × GainsUnlessRose (E.held err.old) (E.held err.new) (line_of outcome) (E.faults err.old) (E.faults err.new) }
     ensures usage { result ≡ 2 → IsRefused words.now }
     ensures taken { result ≢ 2 → result ≢ 7 → ¬ IsRefused words.now }
@@ -223,10 +208,9 @@ pub fn run<S: Source, K: Sink, E: Sink>(
 
     ensures nothing { result ≢ 0 → result ≢ 1 → result ≢ 9 → Keeps (K.held out.old) (K.held out.new) }
     ensures nobody { result ≢ 0 → result ≢ 9 → states_by told patience watchers.new.items ≡ states_by told patience watchers.old.items }
-    ensures line { (outcome : Outcome) × (result ≡ status_of outcome)
-        × GainsUnlessRose (E.held err.old) (E.held err.new) (line_of outcome) (E.faults err.old) (E.faults err.new) }
+    ensures checks { (job : Job) → IsAsked words.now job → job.mode ≡ Check → states_by told patience watchers.new.items ≡ states_by told patience watchers.old.items }
     ensures few { LosesAtMost (S.left source.old) (S.left source.new) (most_bytes + 1) }
-    ensures untouched { result ≡ 2 → IsUnread (S.left source.old) (S.left source.new) (S.faults source.old) (S.faults source.new) }
+    ensures untouched { result ≡ 2 → (S.left source.new ≡ S.left source.old) × (S.faults source.new ≡ S.faults source.old) }
 {
     let outcome = outcome_of(alloc, words, source, out, watchers);
     report(err, outcome)

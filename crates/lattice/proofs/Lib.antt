@@ -1,30 +1,37 @@
-pub mod BareStruct
-pub mod Families
-pub mod Comprehension
-pub mod Cofactors
-pub mod Values
-pub mod Least
-pub mod CutPoints
-pub mod Existence
-pub mod Examples
-pub mod Sums
-pub mod Standard
-pub mod StandardCofactors
-pub mod BasisElements
-pub mod Counting
-pub mod MoreVariables
-pub mod FamilyLists
-pub mod Subfamilies
-pub mod WorkedLists
-pub mod Pointwise
-pub mod Results
-pub mod CarePoints
-pub mod Fills
-pub mod Denoting
-pub mod OneToOne
-pub mod Legal
-pub mod StoredCount
-pub mod WorkingSets
-pub mod LeadRecursion
-pub mod TrueWords
-pub mod RisenCounts
+mod BareStruct
+mod Families
+mod Comprehension
+mod Cofactors
+mod Values
+mod Least
+mod CutPoints
+mod Existence
+mod Examples
+mod MoreVariables
+mod Standard
+mod StandardCofactors
+mod BasisElements
+mod Counting
+mod FamilyLists
+mod Subfamilies
+mod Pointwise
+mod Results
+mod CarePoints
+mod WordParts
+mod TableSizes
+mod Fills
+mod Denoting
+mod JoinParts
+mod OneToOne
+mod Legal
+mod Refusals
+mod StoredCount
+mod WorkingSets
+mod TrueWords
+mod Totality
+mod KnownMaps
+mod MetEntries
+pub mod Polynomials
+pub mod Diagrams
+mod LeastOverVariables
+mod CutValues

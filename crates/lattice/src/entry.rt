@@ -1,8 +1,8 @@
-/// What a pass did: it met a slot's handle with its word, it asked for a word and got its handle, or it asked for a word
+/// What a pass did: it met the slot of a handle with its word, it asked for a word and got its handle, or it asked for a word
 /// and the table was full.
 #[derive(Clone, Copy, PartialEq, Eq, Debug)]
 pub enum Entry {
-    Met(u64, u64),
-    Ask(u64, u64),
-    Full(u64),
+    Met { handle: u64, word: u64 },
+    Ask { handle: u64, word: u64 },
+    Full { word: u64 },
 }

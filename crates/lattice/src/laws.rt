@@ -1,12 +1,16 @@
-//! Functions that do nothing. Their contracts are the laws of `specs/Laws.antt`, so a check proves these.
+//! Functions that do nothing. Their contracts are the laws of `specs/Laws.antt` and `specs/TableLaws.antt`, so a check
+//! proves these.
 ghost use Rattle.lattice.specs.Laws.{DividesByBits, OrderIsStrict, InterpolateIsLeast, LeastIsUnique, LeastSplits, DivisorsAreStandard, StandardSplitsLow, StandardSplitsHigh, LeastIsStandard, StandardIsLeast, StandardCount, CountDecidesStandard, BasisElementFromLeast, ReducedBasisIsUnique, LeastOverMore, StandardOverMore, FamilyIsItsMembers, CofactorsByBit, FamilyIsJoin, StandardByRecursion, LeadsAreMinimal, ReducedBasisExists, PolynomialByValues, ProductByValues, CarePointsAreDisjoint, WorkingSetMembers, WorkingSetIsNodeList, LeadsByRecursion, FillingKeepsCanonical, DenotedStays, HistoryStaysFit, DenotedIsOne, HandleIsOne, StoredFit, FittingIsLegal, HistoriesAppend, TrueWordStays, ConsistentByRows, RoseIsGreater};
+ghost use Rattle.lattice.specs.TableLaws.{FillingKeepsWords, HandlesDenote, KnownIsOneToOne, UnionAgrees, AgreementStays};
 
 /// A monomial divides a point exactly where every bit of it is a bit of the point.
+#[tactic(auto, using(crate::proofs::Values::divides_by_bits))]
 pub fn divides_by_bits()
     ensures { DividesByBits }
 {}
 
 /// The order of polynomials is strict.
+#[tactic(auto, using(crate::proofs::Least::IsLess_asym))]
 pub fn order_is_strict()
     ensures { OrderIsStrict }
 {}
@@ -92,6 +96,7 @@ pub fn cofactors_by_bit()
 {}
 
 /// A family is the join of its cofactors.
+#[tactic(auto, using(crate::proofs::Cofactors::join_cofactors))]
 pub fn family_is_join()
     ensures { FamilyIsJoin }
 {}
@@ -107,6 +112,7 @@ pub fn leads_are_minimal()
 {}
 
 /// A set of points has a reduced basis.
+#[tactic(auto, using(crate::proofs::Results::reduced_basis_exists))]
 pub fn reduced_basis_exists()
     ensures { ReducedBasisExists }
 {}
@@ -117,6 +123,7 @@ pub fn polynomial_by_values()
 {}
 
 /// A product has the products of the values.
+#[tactic(auto, using(crate::proofs::Results::product_by_values))]
 pub fn product_by_values()
     ensures { ProductByValues }
 {}
@@ -127,16 +134,19 @@ pub fn care_points_are_disjoint()
 {}
 
 /// What a working set has.
+#[tactic(auto, using(crate::proofs::WorkingSets::working_set_members))]
 pub fn working_set_members()
     ensures { WorkingSetMembers }
 {}
 
 /// A working set is a list of families of nodes.
+#[tactic(auto, using(crate::proofs::WorkingSets::working_set_is_node_list))]
 pub fn working_set_is_node_list()
     ensures { WorkingSetIsNodeList }
 {}
 
 /// The leads by recursion on the variables.
+#[tactic(auto, using(crate::proofs::Results::leads_by_recursion))]
 pub fn leads_by_recursion()
     ensures { LeadsByRecursion }
 {}
@@ -194,4 +204,29 @@ pub fn rose_is_greater()
 /// A description is consistent where no on-row and off-row of one output share a point.
 pub fn consistent_by_rows()
     ensures { ConsistentByRows }
+{}
+
+/// Filling a vacant place keeps the words of all filled ones.
+pub fn filling_keeps_words()
+    ensures { FillingKeepsWords }
+{}
+
+/// In a canonical table each handle denotes a family.
+pub fn handles_denote()
+    ensures { HandlesDenote }
+{}
+
+/// What is known of the handles of a canonical table is one-to-one.
+pub fn known_is_one_to_one()
+    ensures { KnownIsOneToOne }
+{}
+
+/// What two know of the handles of a table makes one map.
+pub fn union_agrees()
+    ensures { UnionAgrees }
+{}
+
+/// What is known of handles stays true.
+pub fn agreement_stays()
+    ensures { AgreementStays }
 {}

@@ -4,6 +4,7 @@
 mod entry;
 mod kind;
 pub mod laws;
+mod limits;
 mod lists;
 mod memory;
 mod mono;
@@ -14,6 +15,9 @@ mod words;
 
 pub use crate::entry::Entry;
 pub use crate::kind::{Kind, Mode};
+pub use crate::limits::{
+    HANDLE_UNIT, KEY_BITS, MAX_BITS, MAX_VARS, MIN_BITS, MIN_CACHE_BITS, MIXING, TOP_UNIT, UNMIXING,
+};
 pub use crate::lists::{MonoLists, Monos, Name, Names, Pages, Seq, Text};
 pub use crate::memory::Memory;
 pub use crate::mono::{Mono, value_at};

@@ -1,19 +1,14 @@
 -- Plans that have every family.
-use Rattle.std.proofs.Common.{◌≡◌, ℕ, zero, suc, Bool, List, [], ◌∷◌, map, inl, inr, refl, sym, ◌∙◌, ap, subst, cond, ⊎_elim, Result, Ok, Err, IfOk}
+use Rattle.std.proofs.Common.{◌≡◌, ℕ, zero, suc, ◌<◌, ◌^◌, Bool, List, [], ◌∷◌, map, inl, inr, refl, sym, ◌∙◌, ap, subst, cond, ⊎_elim}
 use Rattle.std.proofs.lemmas.Bool.{cases_Bool}
 use Rattle.lattice.specs.Family.{Family, IsFamily, has, family_where, numbers_below, power, combine, Has}
 use Rattle.lattice.specs.Cofactors.{join, low_cofactor, high_cofactor, sub}
 use Rattle.lattice.specs.WorkingLists.{all_of, working_set}
-use Rattle.lattice.proofs.Comprehension.{family_where_has, IsFamily-combine}
-use Rattle.lattice.proofs.Cofactors.{IsFamily-low_cofactor, IsFamily-high_cofactor}
-use Rattle.lattice.proofs.FamilyLists.{Has-head, Has-tail, Has-cases, Has-nil, Has-append_left, Has-append_right}
-use Rattle.lattice.proofs.Subfamilies.{join_cofactors_suc, IsFamily-power}
-use Rattle.lattice.proofs.WorkingSets.{working_set_members}
+use Rattle.lattice.proofs.Diagrams.{Has-nil, Has-cases, Has-head, Has-tail, IsFamily-single, join_cofactors_suc, IsFamily-power, Has-all_of}
+use Rattle.lattice.proofs.Diagrams.{working_set_members}
+use Rattle.lattice.proofs.Polynomials.{family_where_has, IsFamily-combine, IsFamily-low_cofactor, IsFamily-high_cofactor}
 use Rattle.node_store.specs.Stores.{State, IsPlanned, Grows}
-use Rattle.lattice.specs.declared.memory.Memory.{Memory}
 use Rattle.node_store.specs.Plain.{plain_state}
-use Rattle.node_store.specs.PlainOf.{state_of}
-use Rattle.node_store.specs.declared.plain.PlainStore.{PlainStore}
 use Rattle.node_store.specs.AnyFamily.{every_family, MayHoldAny}
 
 Has-map : (d : ℕ) (lo hi : Family) (his : List Family) → Has his hi → Has (map (join d lo) his) (join d lo hi)
@@ -23,18 +18,12 @@ Has-map d lo hi (g ∷ gs) h = elim (Has-cases g gs hi h) [
   | inr i ↦ Has-tail (join d lo g) (map (join d lo) gs) (join d lo hi) (Has-map d lo hi gs i)
 ]
 
-Has-all_of : (list : Family → List Family) (fs : List Family) (f g : Family) → Has fs f → Has (list f) g → Has (all_of list fs) g
-Has-all_of list [] f g h i = absurd (Has-nil f h)
-Has-all_of list (k ∷ ks) f g h i = elim (Has-cases k ks f h) [
-  | inl e ↦ Has-append_left (list k) (all_of list ks) g (subst (λ x. Has (list x) g) (sym e) i)
-  | inr j ↦ Has-append_right (list k) (all_of list ks) g (Has-all_of list ks f g j i)
-]
-
 -- the families without a variable
 constants : (f : Family) → IsFamily 0 f → Has ([] ∷ (0 ∷ []) ∷ []) f
 unfolding family_where numbers_below
 constants f is = ⊎_elim
-    (λ t. subst (Has ([] ∷ (0 ∷ []) ∷ [])) (sym (family_where_has 0 f is ∙ (ap (λ b. cond b (0 ∷ []) []) t))) (Has-tail [] ((0 ∷ []) ∷ []) (0 ∷ []) (Has-head (0 ∷ []) [])))
+    (λ t. subst (Has ([] ∷ (0 ∷ []) ∷ [])) (sym (family_where_has 0 f is ∙ (ap (λ b. cond b (0 ∷ []) []) t)))
+    (Has-tail [] ((0 ∷ []) ∷ []) (0 ∷ []) (Has-head (0 ∷ []) [])))
     (λ t. subst (Has ([] ∷ (0 ∷ []) ∷ [])) (sym (family_where_has 0 f is ∙ (ap (λ b. cond b (0 ∷ []) []) t))) (Has-head [] ((0 ∷ []) ∷ [])))
     (cases_Bool (has f 0))
 
@@ -54,25 +43,31 @@ MayHoldAny-later vars s t grows any = record {
   planned = λ f is. rw (grows.plan, grows.vars) (any.planned f is);
 }
 
-MayHoldAny-fresh : (s : State) (vars slots : ℕ) (fs : List Family) → s ≡ plain_state vars slots fs 0 [] → fs ≡ working_set vars (every_family vars) → MayHoldAny vars s
+-- a store that was made with such a plan
+pub MayHoldAny-made : (s : State) (vars slots : ℕ) (fs : List Family) → s ≡ plain_state vars slots fs 0 []
+    → fs ≡ working_set vars (every_family vars) → MayHoldAny vars s
 unfolding plain_state
-MayHoldAny-fresh s vars slots fs fresh plan =
-    subst (MayHoldAny vars) (sym fresh)
+MayHoldAny-made s vars slots fs made plan =
+    subst (MayHoldAny vars) (sym made)
     (record {
       vars_are = refl;
       planned = λ f is g h.
-          subst (λ gs. Has gs g) (sym plan) (working_set_members vars (every_family vars) g ∙ Has-all_of (sub vars) (every_family vars) f g (every_has vars f is) h);
+          subst (λ gs. Has gs g) (sym plan) (working_set_members vars (every_family vars) g
+          ∙ Has-all_of (sub vars) (every_family vars) f g (every_has vars f is) h);
     })
-
--- a store that was made with such a plan
-pub MayHoldAny-made : (r : Result PlainStore Memory) (vars slots : ℕ) (fs : List Family) → IfOk r (λ s. state_of s ≡ plain_state vars slots fs 0 []) → fs ≡ working_set vars (every_family vars) → IfOk r (λ s. MayHoldAny vars (state_of s))
-MayHoldAny-made (Ok s) vars slots fs fresh plan = MayHoldAny-fresh (state_of s) vars slots fs fresh plan
-MayHoldAny-made (Err e) vars slots fs fresh plan = tt
 
 -- what such a plan has
 
-pub any_combined : (test : Bool → Bool → Bool) (vars : ℕ) (s : State) (f g : Family) → MayHoldAny vars s → IsPlanned s (combine test s.vars f g)
-any_combined test vars s f g any = any.planned (combine test s.vars f g) (subst (λ v. IsFamily v (combine test s.vars f g)) any.vars_are (IsFamily-combine test s.vars f g))
+pub any_combined : (test : Bool → Bool → Bool) (vars : ℕ) (s : State) (f g : Family) → MayHoldAny vars s
+    → IsPlanned s (combine test s.vars f g)
+any_combined test vars s f g any = any.planned (combine test s.vars f g)
+    (subst (λ v. IsFamily v (combine test s.vars f g)) any.vars_are (IsFamily-combine test s.vars f g))
 
 pub any_power : (vars : ℕ) (s : State) → MayHoldAny vars s → IsPlanned s (power s.vars)
 any_power vars s any = any.planned (power s.vars) (subst (λ v. IsFamily v (power s.vars)) any.vars_are (IsFamily-power s.vars))
+
+pub any_one : (vars : ℕ) (s : State) (m : ℕ) → m < 2 ^ vars → MayHoldAny vars s → IsPlanned s (m ∷ [])
+any_one vars s m below any = any.planned (m ∷ []) (IsFamily-single vars m below)
+
+pub any_below : (vars : ℕ) (s : State) (m : ℕ) → m < 2 ^ vars → MayHoldAny vars s → m < 2 ^ s.vars
+any_below vars s m below any = subst (λ v. m < 2 ^ v) (sym any.vars_are) below

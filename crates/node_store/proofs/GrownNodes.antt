@@ -2,7 +2,7 @@
 use Rattle.std.proofs.Common.{◌≡◌, ◌≢◌, ℕ, ◌-◌, ◌<◌, Result, [], sym, ◌∙◌, ap, subst, arith, unwrap_or}
 use Rattle.lattice.specs.Family.{Family, IsFamily, Has}
 use Rattle.lattice.specs.Cofactors.{join}
-use Rattle.lattice.proofs.Subfamilies.{sub-join_self}
+use Rattle.lattice.proofs.Diagrams.{sub-join_self}
 use Rattle.node_store.specs.Stores.{State, family, Denotes, AreParts, IsNode, IsSound, IsPlanned, Grows, Reads, Builds}
 use Rattle.node_store.specs.declared.store.Handle.{Handle}
 use Rattle.node_store.specs.declared.store.Full.{Full}
@@ -10,10 +10,12 @@ use Rattle.node_store.proofs.StoreLemmas.{Denotes-knows, Denotes-family, Builds-
 
 -- the handle of a family with a member is not that of the empty one
 pub not_empty : (s : State) (h : Handle) (f : Family) → IsSound s → Denotes s h f → f ≢ [] → h.0 ≢ 0
-not_empty s h f ok is some zero = some (sym (Denotes-family s h f is) ∙ (ap (λ i. unwrap_or (s.known i) []) zero ∙ ap (λ o. unwrap_or o []) ok.empty))
+not_empty s h f ok is some zero = some (sym (Denotes-family s h f is)
+    ∙ (ap (λ i. unwrap_or (s.known i) []) zero ∙ ap (λ o. unwrap_or o []) ok.empty))
 
 -- s is the state before, t the one in which the node is grown
-module _ (s t : State) (d var : ℕ) (lo hi : Handle) (L H F : Family) (grows : Grows s t) (less : d < s.vars) (at : var ≡ t.vars - d) (l : Denotes t lo L) (h : Denotes t hi H) (lf : IsFamily d L) (hf : IsFamily d H) (whole : F ≡ join d L H) where
+module _ (s t : State) (d var : ℕ) (lo hi : Handle) (L H F : Family) (grows : Grows s t) (less : d < s.vars) (at : var ≡ t.vars - d)
+    (l : Denotes t lo L) (h : Denotes t hi H) (lf : IsFamily d L) (hf : IsFamily d H) (whole : F ≡ join d L H) where
   depth : t.vars - var ≡ d
   depth = omega (arith, grows.vars, at, less)
 
@@ -44,5 +46,6 @@ module _ (s t : State) (d var : ℕ) (lo hi : Handle) (L H F : Family) (grows : 
       rw (grown_is, grows.plan) (planned F (rw whole (sub-join_self d s.vars L H lf hf less some)))
 
   -- what was grown after reads
-  pub grown_builds : (u : State) (r : Result Handle Full) → Reads s t → Builds t u r (join (t.vars - var) (family t lo) (family t hi)) → Builds s u r F
+  pub grown_builds : (u : State) (r : Result Handle Full) → Reads s t → Builds t u r (join (t.vars - var) (family t lo) (family t hi))
+      → Builds s u r F
   grown_builds u r reads builds = Builds-after s t u r F reads (subst (Builds t u r) grown_is builds)

@@ -1,4 +1,9 @@
-pub mod StoreLemmas
-pub mod GrownNodes
-pub mod PlainLemmas
-pub mod AnyPlanned
+mod StoreLemmas
+mod GrownNodes
+mod PlainLemmas
+mod AnyPlanned
+mod CallsInRow
+mod SoundStates
+mod GrownHalves
+pub mod StoreLaws
+mod KeptCalls

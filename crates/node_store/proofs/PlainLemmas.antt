@@ -1,5 +1,7 @@
 -- The table of a store for one thread, as it grows.
-use Rattle.std.proofs.Common.{◌≡◌, ◌≢◌, ℕ, zero, suc, ◌+◌, ◌-◌, ◌*◌, ◌%◌, ◌^◌, ◌<◌, ◌≤◌, ◌⊎◌, inl, inr, Bool, true, false, ◌&&◌, not, Option, Some, None, is_some, List, [], position, get_or, ◌∷◌, ◌++◌, slice_get, length, unwrap_or, refl, sym, ◌∙◌, ap, subst, arith, rules}
+use Rattle.std.proofs.Common.{◌≡◌, ◌≢◌, ℕ, zero, suc, ◌+◌, ◌-◌, ◌*◌, ◌%◌, ◌^◌, ◌<◌, ◌≤◌, ◌⊎◌, inl, inr, Bool, true, false, ◌&&◌, not}
+use Rattle.std.proofs.Common.{Option, Some, None, is_some, List, [], position, get_or, ◌∷◌, ◌++◌, slice_get, length, unwrap_or, refl, sym}
+use Rattle.std.proofs.Common.{◌∙◌, ap, subst, arith, rules}
 use Rattle.std.proofs.lemmas.Bool.{false≢true, and_parts, or_parts}
 use Rattle.std.proofs.Math.Nat.{mod-eq_of_lt}
 use Rattle.std.proofs.Math.Pow.{pow_mono}
@@ -10,12 +12,13 @@ use Rattle.std.specs.Prelude.{Result, Ok, Err, IsOk, IfOk, IsNone, ◌↔◌, if
 use Rattle.indexmap.specs.IndexSet.{insert_key}
 use Rattle.lattice.specs.Family.{Family, IsFamily, Has, Covers, includes, is_distinct}
 use Rattle.lattice.specs.Cofactors.{join, low_cofactor, high_cofactor, level}
-use Rattle.lattice.proofs.FamilyLists.{Has_at, index_of, covered_length, Has-cases, none_of}
-use Rattle.lattice.proofs.Subfamilies.{level-join, low_cofactor-join, high_cofactor-join, level-nil, level-unit}
+use Rattle.lattice.proofs.Diagrams.{Has-cases, Has_at, index_of, none_of, covered_length, low_cofactor-join, high_cofactor-join, level-nil}
+use Rattle.lattice.proofs.Diagrams.{level-unit, level-join, join_parts}
 use Rattle.lattice.specs.Counts.{Rose}
 use Rattle.node_store.specs.Stores.{State, Knows, family, Denotes, node_family, IsNode, IsSound, Grows, Builds, IsResult}
 use Rattle.node_store.specs.Plain.{families, plain_state, IsTable, AreResults}
-use Rattle.node_store.specs.PlainLaws.{get_more, get_last, get_cases, grown-push, two_on, entry, empty_known, length-families, length-held, held-planned, held-known, held-distinct, some_same, some_at, some_is, within}
+use Rattle.node_store.specs.PlainLaws.{get_more, get_last, get_cases, grown-push, two_on, entry, empty_known, length-families, length-held}
+use Rattle.node_store.specs.PlainLaws.{held-planned, held-known, held-distinct, some_same, some_at, some_is, within}
 use Rattle.node_store.specs.declared.store.Handle.{Handle}
 use Rattle.node_store.specs.declared.store.Node.{Node}
 use Rattle.node_store.specs.declared.store.Full.{Full}
@@ -86,32 +89,31 @@ table_none vars capacity plan refusals = record {
 
 -- the families of nodes tell them apart
 
-module _ (vars capacity : ℕ) (plan : List Family) (refusals : ℕ) (nodes : List Node) (is : IsTable (plain_state vars capacity plan refusals nodes) nodes) where
+module _ (vars capacity : ℕ) (plan : List Family) (refusals : ℕ) (nodes : List Node)
+    (is : IsTable (plain_state vars capacity plan refusals nodes) nodes) where
   abbrev s : State
   s = plain_state vars capacity plan refusals nodes
 
   filled_hi : (n : Node) → IsNode s n → family s n.hi ≢ []
-  filled_hi n node none = node.full (is.one_to_one n.hi.0 0 [] (Knows-denotes s n.hi node.parts.hi_known ∙ ap Some none) (empty_known vars capacity plan refusals nodes))
+  filled_hi n node none = node.full
+      (is.one_to_one n.hi.0 0 [] (Knows-denotes s n.hi node.parts.hi_known ∙ ap Some none) (empty_known vars capacity plan refusals nodes))
 
   level_of : (n : Node) → IsNode s n → level s.vars (node_family s n) ≡ suc (s.vars - n.var)
   level_of n node =
-      level-join (s.vars - n.var) s.vars (family s n.lo) (family s n.hi) node.parts.lo_after node.parts.hi_after (filled_hi n node) (omega (arith, node.parts.first, node.parts.last))
+      level-join (s.vars - n.var) s.vars (family s n.lo) (family s n.hi) node.parts.lo_after node.parts.hi_after (filled_hi n node)
+      (omega (arith, node.parts.first, node.parts.last))
 
   same_handle : (a b : Handle) → Knows s a → Knows s b → family s a ≡ family s b → a.0 ≡ b.0
   same_handle a b ka kb e = is.one_to_one a.0 b.0 (family s b) (Knows-denotes s a ka ∙ ap Some e) (Knows-denotes s b kb)
 
   same_family : (m n : Node) → IsNode s m → IsNode s n → node_family s m ≡ node_family s n → m ≡ n
   same_family m n nm nn e =
-      let levels : suc (s.vars - m.var) ≡ suc (s.vars - n.var) = sym (level_of m nm) ∙ (ap (level s.vars) e ∙ level_of n nn) in
-      let depth : s.vars - m.var ≡ s.vars - n.var = omega arith in
-      let vars' : m.var ≡ n.var = omega (arith, nm.parts.first, nm.parts.last, nn.parts.first, nn.parts.last) in
-      let d : ℕ = s.vars - n.var in
-      let lo_m : IsFamily d (family s m.lo) = subst (λ i. IsFamily i (family s m.lo)) depth nm.parts.lo_after in
-      let hi_m : IsFamily d (family s m.hi) = subst (λ i. IsFamily i (family s m.hi)) depth nm.parts.hi_after in
-      let e' : join d (family s m.lo) (family s m.hi) ≡ join d (family s n.lo) (family s n.hi) = ap (λ i. join i (family s m.lo) (family s m.hi)) (sym depth) ∙ e in
-      let lows : family s m.lo ≡ family s n.lo = sym (low_cofactor-join d (family s m.lo) (family s m.hi) lo_m) ∙ (ap (low_cofactor d) e' ∙ low_cofactor-join d (family s n.lo) (family s n.hi) nn.parts.lo_after) in
-      let highs : family s m.hi ≡ family s n.hi = sym (high_cofactor-join d (family s m.lo) (family s m.hi) lo_m hi_m) ∙ (ap (high_cofactor d) e' ∙ high_cofactor-join d (family s n.lo) (family s n.hi) nn.parts.lo_after nn.parts.hi_after) in
-      node_path m n vars' (same_handle m.lo n.lo nm.parts.lo_known nn.parts.lo_known lows) (same_handle m.hi n.hi nm.parts.hi_known nn.parts.hi_known highs)
+      let parts = join_parts s.vars (s.vars - m.var) (s.vars - n.var) (family s m.lo) (family s m.hi) (family s n.lo) (family s n.hi)
+      nm.parts.lo_after nm.parts.hi_after nn.parts.lo_after nn.parts.hi_after (filled_hi m nm) (filled_hi n nn)
+      (omega (arith, nm.parts.first, nm.parts.last)) (omega (arith, nn.parts.first, nn.parts.last)) e in
+      node_path m n (omega (arith, nm.parts.last, nn.parts.last, parts.0))
+      (same_handle m.lo n.lo nm.parts.lo_known nn.parts.lo_known parts.1)
+      (same_handle m.hi n.hi nm.parts.hi_known nn.parts.hi_known parts.2)
 
   -- a node that is in no slot stands for a family that no handle has
   pub fresh : (n : Node) → IsNode s n → ((k : ℕ) → slice_get nodes k ≡ Some n → ⊥) → (h : ℕ) → s.known h ≡ Some (node_family s n) → ⊥
@@ -133,13 +135,18 @@ module _ (vars capacity : ℕ) (plan : List Family) (refusals : ℕ) (nodes : Li
   plan_is f h = h
 
   -- where each slot is taken, the plan has more families than the store has slots
-  pub over : (n : Node) → IsNode s n → Has plan (node_family s n) → ((k : ℕ) → slice_get nodes k ≡ Some n → ⊥) → length nodes ≡ capacity → capacity < length plan
+  pub over : (n : Node) → IsNode s n → Has plan (node_family s n) → ((k : ℕ) → slice_get nodes k ≡ Some n → ⊥) → length nodes ≡ capacity
+      → capacity < length plan
   over n node planned none full =
       let F : Family = node_family s n in
-      let out : includes s.held F ≡ false = none_of s.held F (λ h. let k = held-known vars capacity plan refusals nodes is F h in fresh n node none (k.0 + 2) k.1) in
-      let apart : is_distinct s.held ≡ true = (and_parts (is_distinct s.held) (not (includes s.held []) && not (includes s.held (0 ∷ []))) (held-distinct vars capacity plan refusals nodes is)).0 in
+      let out : includes s.held F ≡ false = none_of s.held F (λ h. let k = held-known vars capacity plan refusals nodes is F h in
+      fresh n node none (k.0 + 2) k.1) in
+      let apart : is_distinct s.held ≡ true =
+      (and_parts (is_distinct s.held) (not (includes s.held []) && not (includes s.held (0 ∷ [])))
+      (held-distinct vars capacity plan refusals nodes is)).0 in
       let all : is_distinct (F ∷ s.held) ≡ true = rw (out, apart) refl in
-      let covers : Covers plan (F ∷ s.held) = λ f h. elim (Has-cases F s.held f h) [ inl x ↦ subst (Has plan) x planned | inr x ↦ plan_is f (held-planned vars capacity plan refusals nodes is f x) ] in
+      let covers : Covers plan (F ∷ s.held) = λ f h. elim (Has-cases F s.held f h)
+      [ inl x ↦ subst (Has plan) x planned | inr x ↦ plan_is f (held-planned vars capacity plan refusals nodes is f x) ] in
       let long : length (F ∷ s.held) ≤ length plan = covered_length (F ∷ s.held) plan all covers in
       omega (arith, length-held vars capacity plan refusals nodes is)
 
@@ -171,7 +178,8 @@ module _ (vars capacity : ℕ) (plan : List Family) (refusals : ℕ) (nodes : Li
   unfolding plain_state
   held_kept f h =
       let i = index_of before.held f h in
-      Has_at after.held i.0 f (two_on (families vars (nodes ++ n ∷ [])) i.0 ∙ kept (i.0 + 2) f (sym (two_on (families vars nodes) i.0) ∙ i.1))
+      Has_at after.held i.0 f (two_on (families vars (nodes ++ n ∷ [])) i.0
+      ∙ kept (i.0 + 2) f (sym (two_on (families vars nodes) i.0) ∙ i.1))
 
   pub push_grows : Grows before after
   unfolding plain_state
@@ -191,7 +199,8 @@ module _ (vars capacity : ℕ) (plan : List Family) (refusals : ℕ) (nodes : Li
       let long : length nodes + 2 ≡ length (families vars nodes) = omega (arith, length-families vars capacity plan refusals nodes) in
       ap after.known long ∙ (after-known (length (families vars nodes)) ∙ get_last (families vars nodes) (node_family before n))
 
-  known_cases : (h : ℕ) (f : Family) → after.known h ≡ Some f → (before.known h ≡ Some f) ⊎ ((h ≡ length nodes + 2) × (node_family before n ≡ f))
+  known_cases : (h : ℕ) (f : Family) → after.known h ≡ Some f
+      → (before.known h ≡ Some f) ⊎ ((h ≡ length nodes + 2) × (node_family before n ≡ f))
   known_cases h f e = elim (get_cases (families vars nodes) (node_family before n) h f (sym (after-known h) ∙ e)) [
     | inl x ↦ inl (before-known h ∙ x)
     | inr x ↦ inr (omega (arith, x.0, length-families vars capacity plan refusals nodes), x.1)
@@ -201,19 +210,24 @@ module _ (vars capacity : ℕ) (plan : List Family) (refusals : ℕ) (nodes : Li
   unfolding plain_state
   plan_after f h = h
 
-  pub push_table : IsTable before nodes → IsNode before n → Has plan (node_family before n) → ((k : ℕ) → slice_get nodes k ≡ Some n → ⊥) → IsTable after (nodes ++ n ∷ [])
+  pub push_table : IsTable before nodes → IsNode before n → Has plan (node_family before n) → ((k : ℕ) → slice_get nodes k ≡ Some n → ⊥)
+      → IsTable after (nodes ++ n ∷ [])
   push_table is node planned none = record {
     node = λ k m e. elim (get_cases nodes n k m e) [
       | inl x ↦ Grows-node before after m push_grows (is.node k m x)
       | inr x ↦ subst (IsNode after) x.1 (Grows-node before after n push_grows node)
     ];
     here = λ k m e. elim (get_cases nodes n k m e) [
-      | inl x ↦ kept (k + 2) (node_family before m) (is.here k m x) ∙ ap Some (sym (Grows-node_family before after m push_grows (is.node k m x)))
-      | inr x ↦ ap (λ i. after.known (i + 2)) x.0 ∙ (push_new ∙ ap Some (sym (Grows-node_family before after n push_grows node) ∙ ap (node_family after) x.1))
+      | inl x ↦ kept (k + 2) (node_family before m) (is.here k m x)
+          ∙ ap Some (sym (Grows-node_family before after m push_grows (is.node k m x)))
+      | inr x ↦ ap (λ i. after.known (i + 2)) x.0
+          ∙ (push_new ∙ ap Some (sym (Grows-node_family before after n push_grows node) ∙ ap (node_family after) x.1))
     ];
     planned = λ k m e. elim (get_cases nodes n k m e) [
-      | inl x ↦ subst (Has after.plan) (sym (Grows-node_family before after m push_grows (is.node k m x))) (subst (λ p. Has p (node_family before m)) (sym push_grows.plan) (is.planned k m x))
-      | inr x ↦ subst (Has after.plan) (sym (Grows-node_family before after n push_grows node) ∙ ap (node_family after) x.1) (plan_after (node_family before n) planned)
+      | inl x ↦ subst (Has after.plan) (sym (Grows-node_family before after m push_grows (is.node k m x)))
+          (subst (λ p. Has p (node_family before m)) (sym push_grows.plan) (is.planned k m x))
+      | inr x ↦ subst (Has after.plan) (sym (Grows-node_family before after n push_grows node) ∙ ap (node_family after) x.1)
+          (plan_after (node_family before n) planned)
     ];
     one_to_one = λ i j f a b. elim (known_cases i f a) [
       | inl x ↦ elim (known_cases j f b) [
@@ -227,20 +241,26 @@ module _ (vars capacity : ℕ) (plan : List Family) (refusals : ℕ) (nodes : Li
     ];
   }
 
-quiet_here : (vars capacity : ℕ) (plan : List Family) (refusals : ℕ) (nodes new : List Node) → (plain_state vars capacity plan refusals new).refusals ≡ (plain_state vars capacity plan refusals nodes).refusals
+quiet_here : (vars capacity : ℕ) (plan : List Family) (refusals : ℕ) (nodes new : List Node)
+    → (plain_state vars capacity plan refusals new).refusals ≡ (plain_state vars capacity plan refusals nodes).refusals
 unfolding plain_state
 quiet_here vars capacity plan refusals nodes new = refl
 
 -- a new node's handle
-pub pushed_gives : (vars capacity : ℕ) (plan : List Family) (refusals : ℕ) (nodes new : List Node) (n : Node) (h : ℕ) → new ≡ nodes ++ n ∷ [] → h ≡ length nodes + 2
+pub pushed_gives : (vars capacity : ℕ) (plan : List Family) (refusals : ℕ) (nodes new : List Node) (n : Node) (h : ℕ)
+    → new ≡ nodes ++ n ∷ [] → h ≡ length nodes + 2
     → IsSound (plain_state vars capacity plan refusals new)
-    → Builds (plain_state vars capacity plan refusals nodes) (plain_state vars capacity plan refusals new) (Ok (record { 0 = h })) (node_family (plain_state vars capacity plan refusals nodes) n)
+    → Builds (plain_state vars capacity plan refusals nodes) (plain_state vars capacity plan refusals new) (Ok (record { 0 = h }))
+    (node_family (plain_state vars capacity plan refusals nodes) n)
 pushed_gives vars capacity plan refusals nodes new n h keys at ok =
     let s = plain_state vars capacity plan refusals nodes in
     let t = plain_state vars capacity plan refusals new in
-    let grows : Grows s t = subst (λ (ns : List Node). Grows s (plain_state vars capacity plan refusals ns)) (sym keys) (push_grows vars capacity plan refusals nodes n) in
+    let grows : Grows s t = subst (λ (ns : List Node). Grows s (plain_state vars capacity plan refusals ns)) (sym keys)
+    (push_grows vars capacity plan refusals nodes n) in
     let is : Denotes t (record { 0 = h }) (node_family s n) =
-    ap t.known at ∙ subst (λ (ns : List Node). (plain_state vars capacity plan refusals ns).known (length nodes + 2) ≡ Some (node_family s n)) (sym keys) (push_new vars capacity plan refusals nodes n) in
+    ap t.known at ∙ subst
+    (λ (ns : List Node). (plain_state vars capacity plan refusals ns).known (length nodes + 2) ≡ Some (node_family s n)) (sym keys)
+    (push_new vars capacity plan refusals nodes n) in
     Builds-grown s t (record { 0 = h }) (node_family s n) ok grows (quiet_here vars capacity plan refusals nodes new) is
 
 -- a refusal
@@ -259,7 +279,8 @@ module _ (vars capacity : ℕ) (plan : List Family) (r q : ℕ) (nodes : List No
     history = ([], refl);
   }
 
-  pub refused_gives : r ≤ q → Rose r q → capacity < length plan → (e : Full) (f : Family) → Builds (plain_state vars capacity plan r nodes) (plain_state vars capacity plan q nodes) (Err e) f
+  pub refused_gives : r ≤ q → Rose r q → capacity < length plan → (e : Full) (f : Family)
+      → Builds (plain_state vars capacity plan r nodes) (plain_state vars capacity plan q nodes) (Err e) f
   unfolding plain_state
   refused_gives h rose over' e f = record {
     grows = refused_grows h;
@@ -269,42 +290,45 @@ module _ (vars capacity : ℕ) (plan : List Family) (r q : ℕ) (nodes : List No
     full = record { rose = rose; over = over' };
   }
 
-  pub refused_table : r ≤ q → IsTable (plain_state vars capacity plan r nodes) nodes → IsTable (plain_state vars capacity plan q nodes) nodes
+  pub refused_table : r ≤ q → IsTable (plain_state vars capacity plan r nodes) nodes
+      → IsTable (plain_state vars capacity plan q nodes) nodes
   unfolding plain_state
   refused_table h is = record {
-    node = λ k n e. Grows-node (plain_state vars capacity plan r nodes) (plain_state vars capacity plan q nodes) n (refused_grows h) (is.node k n e);
+    node = λ k n e. Grows-node (plain_state vars capacity plan r nodes) (plain_state vars capacity plan q nodes) n (refused_grows h)
+        (is.node k n e);
     here = is.here;
     planned = is.planned;
     one_to_one = is.one_to_one;
   }
 
 -- an insert of a new node that had room
-pub pushed : {E : Type 0} (ns new : List Node) (n : Node) (r : Result Bool E) → IsOk r → IfOk r (λ b. new ≡ insert_key same_node ns n) → list_any (same_node n) ns ≡ false → new ≡ ns ++ n ∷ []
+pub pushed : {E : Type 0} (ns new : List Node) (n : Node) (r : Result Bool E) → IsOk r → IfOk r (λ b. new ≡ insert_key same_node ns n)
+    → list_any (same_node n) ns ≡ false → new ≡ ns ++ n ∷ []
 pushed ns new n (Ok b) ok is none = is ∙ ap (λ c. if c then ns else ns ++ n ∷ []) none
 pushed ns new n (Err e) ok is none = absurd (false≢true ok)
 
-pub planned_here : (vars capacity : ℕ) (plan : List Family) (r : ℕ) (nodes : List Node) (f : Family) → Has (plain_state vars capacity plan r nodes).plan f → Has plan f
+pub planned_here : (vars capacity : ℕ) (plan : List Family) (r : ℕ) (nodes : List Node) (f : Family)
+    → Has (plain_state vars capacity plan r nodes).plan f → Has plan f
 unfolding plain_state
 planned_here vars capacity plan r nodes f h = h
 
 -- a known handle other than the constants has a slot
-pub slot_there : (vars capacity : ℕ) (plan : List Family) (r : ℕ) (nodes : List Node) (h : Handle) (found : Option Node) → found ≡ slice_get nodes (h.0 - 2) → 2 ≤ h.0
+pub slot_there : (vars capacity : ℕ) (plan : List Family) (r : ℕ) (nodes : List Node) (h : Handle) (found : Option Node)
+    → found ≡ slice_get nodes (h.0 - 2) → 2 ≤ h.0
     → Knows (plain_state vars capacity plan r nodes) h → IsNone found ↔ (h.0 < 2)
 unfolding plain_state
 slot_there vars capacity plan r nodes h (Some n) e big known = (λ none. cc, λ less. absurd (omega arith))
 slot_there vars capacity plan r nodes h None e big known =
     let f = some_is (slice_get (families vars nodes) h.0) known in
-    let fits : h.0 < length (families vars nodes) = within (families vars nodes) h.0 (unwrap_or (slice_get (families vars nodes) h.0) []) f in
+    let fits : h.0 < length (families vars nodes) = within (families vars nodes) h.0 (unwrap_or (slice_get (families vars nodes) h.0) []) f
+    in
     let n = some_at nodes (h.0 - 2) (omega (arith, length-families vars capacity plan r nodes)) in
     absurd (false≢true (ap is_some (e ∙ n.1)))
 
-pub nothing_yet : (vars capacity : ℕ) (plan : List Family) (nodes : List Node) → nodes ≡ [] → IsTable (plain_state vars capacity plan 0 nodes) nodes
-nothing_yet vars capacity plan nodes e = subst (λ (ns : List Node). IsTable (plain_state vars capacity plan 0 ns) ns) (sym e) (table_none vars capacity plan 0)
-
--- 1 shifted left by at most 19
-pub slots : (bits : ℕ) → bits ≤ 19 → (1 * 2 ^ bits % 18446744073709551616 ≡ 2 ^ bits) × (2 ^ bits ≤ 2 ^ 19)
-slots bits h =
-    let small : 2 ^ bits ≤ 2 ^ 19 = pow_mono h in (ap (λ k. k % 18446744073709551616) (omega arith) ∙ mod-eq_of_lt (omega (arith, small)), small)
+pub nothing_yet : (vars capacity : ℕ) (plan : List Family) (nodes : List Node) → nodes ≡ []
+    → IsTable (plain_state vars capacity plan 0 nodes) nodes
+nothing_yet vars capacity plan nodes e = subst (λ (ns : List Node). IsTable (plain_state vars capacity plan 0 ns) ns) (sym e)
+    (table_none vars capacity plan 0)
 
 -- the kept results
 
@@ -320,13 +344,15 @@ results_later s t es grows is i e at = Grows-result s t e.0.op e.0.a e.0.b e.1 g
 pub results_none : (s : State) (es : List (Key × Handle)) → es ≡ [] → AreResults s es
 results_none s es none i e at = absurd (false≢true (ap is_some (sym (ap (λ (x : List (Key × Handle)). slice_get x i) none) ∙ at)))
 
-pub results_push : (s : State) (es : List (Key × Handle)) (k : Key) (r : Handle) → AreResults s es → IsResult s k.op k.a k.b r → AreResults s (es ++ (k, r) ∷ [])
+pub results_push : (s : State) (es : List (Key × Handle)) (k : Key) (r : Handle) → AreResults s es → IsResult s k.op k.a k.b r
+    → AreResults s (es ++ (k, r) ∷ [])
 results_push s es k r is one i e at = elim (get_cases es (k, r) i e at) [
   | inl x ↦ is i e x
   | inr x ↦ subst (λ (p : Key × Handle). IsResult s p.0.op p.0.a p.0.b p.1) x.1 one
 ]
 
-pub kept_found : (s : State) (es : List (Key × Handle)) (k : Key) (found : Option Handle) → AreResults s es → found ≡ lookup (same_key k) es → IfSome found (IsResult s k.op k.a k.b)
+pub kept_found : (s : State) (es : List (Key × Handle)) (k : Key) (found : Option Handle) → AreResults s es
+    → found ≡ lookup (same_key k) es → IfSome found (IsResult s k.op k.a k.b)
 kept_found s es k None is e = tt
 kept_found s es k (Some r) is e =
     let at = place_from_lookup (same_key k) es r (sym e) in

@@ -1,16 +1,18 @@
 -- What follows of such a table.
-use Rattle.std.specs.Prelude.{◌≡◌, ◌≢◌, ℕ, zero, suc, ◌+◌, ◌-◌, ◌^◌, ◌<◌, ◌≤◌, ◌⊎◌, Option, Some, None, List, [], ◌∷◌, ◌++◌, slice_get, drop, length, unwrap_or, refl, true, false, is_some}
+use Rattle.std.specs.Prelude.{◌≡◌, ◌≢◌, ℕ, zero, suc, ◌+◌, ◌-◌, ◌^◌, ◌<◌, ◌≤◌, ◌⊎◌, Option, Some, None, List, [], ◌∷◌, ◌++◌, slice_get}
+use Rattle.std.specs.Prelude.{drop, length, unwrap_or, refl, true, false, is_some}
 use Rattle.std.proofs.Common.{sym, ◌∙◌, ap, subst, inl, inr, arith, length-append, length-drop}
 use Rattle.lattice.specs.Family.{Family, IsFamily, Has, Covers, includes, is_node_list, is_distinct}
 use Rattle.lattice.specs.Cofactors.{join, low_cofactor, high_cofactor, sub}
-use Rattle.lattice.proofs.Cofactors.{IsFamily-low_cofactor}
-use Rattle.lattice.proofs.MoreVariables.{IsFamily_wider}
-use Rattle.lattice.proofs.FamilyLists.{Has-cases, Has-nil, Has-append_cases, Has_at, index_of, distinct_from, none_of}
-use Rattle.lattice.proofs.Subfamilies.{IsFamily-join_suc, IsFamily-nil, IsFamily-unit, low_cofactor-join, high_cofactor-join, high_cofactor_none, sub-full, sub-empty, cases_empty, low_cofactor_whole, sub-zero, join_level}
+use Rattle.lattice.proofs.Diagrams.{Has-nil, Has-cases, Has-append_cases, Has_at, index_of, distinct_from, none_of, IsFamily-nil}
+use Rattle.lattice.proofs.Diagrams.{IsFamily-unit, cases_empty, high_cofactor_none, low_cofactor_whole, IsFamily-join_suc}
+use Rattle.lattice.proofs.Diagrams.{low_cofactor-join, high_cofactor-join, sub-zero, sub-empty, sub-full, join_level}
+use Rattle.lattice.proofs.Polynomials.{IsFamily_wider, IsFamily-low_cofactor}
 use Rattle.node_store.specs.Stores.{State, IsSound, node_family, family, Knows}
 use Rattle.node_store.specs.Plain.{at_node, grown, families, plain_state, IsTable}
 use Rattle.node_store.specs.declared.store.Node.{Node}
 use Rattle.node_store.specs.declared.store.Handle.{Handle}
+use Rattle.lattice.specs.declared.limits.TheConstants.{MAX_VARS}
 
 pub some_is : (o : Option Family) → is_some o ≡ true → o ≡ Some (unwrap_or o [])
 some_is (Some f) h = refl
@@ -30,7 +32,8 @@ pub get_last : {X : Type 0} (xs : List X) (y : X) → slice_get (xs ++ y ∷ [])
 get_last [] y = refl
 get_last (x ∷ xs) y = get_last xs y
 
-pub get_cases : {X : Type 0} (xs : List X) (y : X) (k : ℕ) (f : X) → slice_get (xs ++ y ∷ []) k ≡ Some f → (slice_get xs k ≡ Some f) ⊎ ((k ≡ length xs) × (y ≡ f))
+pub get_cases : {X : Type 0} (xs : List X) (y : X) (k : ℕ) (f : X) → slice_get (xs ++ y ∷ []) k ≡ Some f
+    → (slice_get xs k ≡ Some f) ⊎ ((k ≡ length xs) × (y ≡ f))
 get_cases [] y zero f e = inr (refl, cc)
 get_cases [] y (suc k) f e = cc
 get_cases (x ∷ xs) y zero f e = inl e
@@ -39,15 +42,18 @@ get_cases (x ∷ xs) y (suc k) f e = elim (get_cases xs y k f e) [
   | inr h ↦ inr (ap suc h.0, h.1)
 ]
 
-pub grown-push : (vars : ℕ) (fs : List Family) (ns : List Node) (n : Node) → grown vars fs (ns ++ n ∷ []) ≡ grown vars fs ns ++ at_node vars (grown vars fs ns) n ∷ []
+pub grown-push : (vars : ℕ) (fs : List Family) (ns : List Node) (n : Node)
+    → grown vars fs (ns ++ n ∷ []) ≡ grown vars fs ns ++ at_node vars (grown vars fs ns) n ∷ []
 grown-push vars fs [] n = refl
 grown-push vars fs (m ∷ ns) n = grown-push vars (fs ++ at_node vars fs m ∷ []) ns n
 
 pub length-grown : (vars : ℕ) (fs : List Family) (ns : List Node) → length (grown vars fs ns) ≡ length fs + length ns
 length-grown vars fs [] = omega arith
-length-grown vars fs (n ∷ ns) = length-grown vars (fs ++ at_node vars fs n ∷ []) ns ∙ omega (arith, length-append fs (at_node vars fs n ∷ []))
+length-grown vars fs (n ∷ ns) = length-grown vars (fs ++ at_node vars fs n ∷ []) ns
+    ∙ omega (arith, length-append fs (at_node vars fs n ∷ []))
 
-pub grown-front : (vars : ℕ) (fs : List Family) (ns : List Node) (k : ℕ) (f : Family) → slice_get fs k ≡ Some f → slice_get (grown vars fs ns) k ≡ Some f
+pub grown-front : (vars : ℕ) (fs : List Family) (ns : List Node) (k : ℕ) (f : Family) → slice_get fs k ≡ Some f
+    → slice_get (grown vars fs ns) k ≡ Some f
 grown-front vars fs [] k f e = e
 grown-front vars fs (n ∷ ns) k f e = grown-front vars (fs ++ at_node vars fs n ∷ []) ns k f (get_more fs (at_node vars fs n ∷ []) k f e)
 
@@ -92,11 +98,13 @@ module _ (vars capacity : ℕ) (plan : List Family) (refusals : ℕ) (nodes : Li
 
   module _ (is : IsTable s nodes) where
     -- a known handle is a constant, or a slot
-    pub entry : (h : ℕ) (f : Family) → s.known h ≡ Some f → (f ≡ []) ⊎ ((f ≡ 0 ∷ []) ⊎ ((k : ℕ) × (n : Node) × (h ≡ k + 2) × (slice_get nodes k ≡ Some n) × (f ≡ node_family s n)))
+    pub entry : (h : ℕ) (f : Family) → s.known h ≡ Some f
+        → (f ≡ []) ⊎ ((f ≡ 0 ∷ []) ⊎ ((k : ℕ) × (n : Node) × (h ≡ k + 2) × (slice_get nodes k ≡ Some n) × (f ≡ node_family s n)))
     entry zero f e = inl (sym (some_same (sym empty_known ∙ e)))
     entry (suc zero) f e = inr (inl (sym (some_same (sym unit_known ∙ e))))
     entry (suc (suc k)) f e =
-        let fits : suc (suc k) < 2 + length nodes = subst (λ i. suc (suc k) < i) length-families (within (families vars nodes) (suc (suc k)) f (sym (known-is (suc (suc k))) ∙ e)) in
+        let fits : suc (suc k) < 2 + length nodes = subst (λ i. suc (suc k) < i) length-families
+        (within (families vars nodes) (suc (suc k)) f (sym (known-is (suc (suc k))) ∙ e)) in
         let n = some_at nodes k (omega arith) in
         let at : k + 2 ≡ suc (suc k) = omega arith in
         inr (inr (k, n.0, sym at, n.1, some_same (sym e ∙ (ap s.known (sym at) ∙ is.here k n.0 n.1))))
@@ -117,7 +125,8 @@ module _ (vars capacity : ℕ) (plan : List Family) (refusals : ℕ) (nodes : Li
         | inr z ↦
             let parts = (is.node z.0 z.1 z.3).parts in
             let less : suc (s.vars - z.1.var) ≤ s.vars = omega (arith, parts.first, parts.last) in
-            subst (IsFamily s.vars) (sym z.4) (IsFamily_wider (suc (s.vars - z.1.var)) s.vars (node_family s z.1) (node-after z.0 z.1 z.3) less)
+            subst (IsFamily s.vars) (sym z.4)
+            (IsFamily_wider (suc (s.vars - z.1.var)) s.vars (node_family s z.1) (node-after z.0 z.1 z.3) less)
       ]
     ]
 
@@ -133,7 +142,8 @@ module _ (vars capacity : ℕ) (plan : List Family) (refusals : ℕ) (nodes : Li
     subs : (d h : ℕ) (f : Family) → s.known h ≡ Some f → IsFamily d f → Covers s.held (sub d f)
     subs zero h f e hf g has = absurd (Has-nil g (subst (λ gs. Has gs g) (sub-zero f) has))
     subs (suc d) h f e hf g has = elim (cases_empty (high_cofactor d f)) [
-      | inl none ↦ subs d h f e (subst (IsFamily d) (low_cofactor_whole d f hf none) (IsFamily-low_cofactor d f)) g (subst (λ gs. Has gs g) (sub-empty d f none) has)
+      | inl none ↦ subs d h f e (subst (IsFamily d) (low_cofactor_whole d f hf none) (IsFamily-low_cofactor d f)) g
+          (subst (λ gs. Has gs g) (sub-empty d f none) has)
       | inr full ↦ elim (entry h f e) [
         | inl x ↦ absurd (full (ap (high_cofactor d) x ∙ high_cofactor_none d [] (IsFamily-nil d)))
         | inr y ↦ elim y [
@@ -141,17 +151,22 @@ module _ (vars capacity : ℕ) (plan : List Family) (refusals : ℕ) (nodes : Li
           | inr z ↦
               let n = z.1 in
               let parts = (is.node z.0 n z.3).parts in
-              let level : s.vars - n.var ≡ d = join_level d (s.vars - n.var) f (family s n.lo) (family s n.hi) parts.lo_after parts.hi_after (hi-filled z.0 n z.3) z.4 hf full in
+              let level : s.vars - n.var ≡ d = join_level d (s.vars - n.var) f (family s n.lo) (family s n.hi) parts.lo_after
+              parts.hi_after (hi-filled z.0 n z.3) z.4 hf full in
               let lo_after : IsFamily d (family s n.lo) = subst (λ i. IsFamily i (family s n.lo)) level parts.lo_after in
               let hi_after : IsFamily d (family s n.hi) = subst (λ i. IsFamily i (family s n.hi)) level parts.hi_after in
               let whole : f ≡ join d (family s n.lo) (family s n.hi) = z.4 ∙ ap (λ i. join i (family s n.lo) (family s n.hi)) level in
-              let low_is : low_cofactor d f ≡ family s n.lo = ap (low_cofactor d) whole ∙ low_cofactor-join d (family s n.lo) (family s n.hi) lo_after in
-              let high_is : high_cofactor d f ≡ family s n.hi = ap (high_cofactor d) whole ∙ high_cofactor-join d (family s n.lo) (family s n.hi) lo_after hi_after in
+              let low_is : low_cofactor d f ≡ family s n.lo = ap (low_cofactor d) whole
+              ∙ low_cofactor-join d (family s n.lo) (family s n.hi) lo_after in
+              let high_is : high_cofactor d f ≡ family s n.hi = ap (high_cofactor d) whole
+              ∙ high_cofactor-join d (family s n.lo) (family s n.hi) lo_after hi_after in
               elim (Has-cases f (sub d (low_cofactor d f) ++ sub d (high_cofactor d f)) g (subst (λ gs. Has gs g) (sub-full d f full) has)) [
                 | inl same ↦ subst (Has s.held) same (Has_at s.held z.0 f (held-is z.0 ∙ (ap s.known (sym z.2) ∙ e)))
                 | inr rest ↦ elim (Has-append_cases (sub d (low_cofactor d f)) (sub d (high_cofactor d f)) g rest) [
-                  | inl a ↦ subs d n.lo.0 (family s n.lo) (known-family n.lo parts.lo_known) lo_after g (subst (λ x. Has (sub d x) g) low_is a)
-                  | inr b ↦ subs d n.hi.0 (family s n.hi) (known-family n.hi parts.hi_known) hi_after g (subst (λ x. Has (sub d x) g) high_is b)
+                  | inl a ↦ subs d n.lo.0 (family s n.lo) (known-family n.lo parts.lo_known) lo_after g
+                      (subst (λ x. Has (sub d x) g) low_is a)
+                  | inr b ↦ subs d n.hi.0 (family s n.hi) (known-family n.hi parts.hi_known) hi_after g
+                      (subst (λ x. Has (sub d x) g) high_is b)
                 ]
               ]
         ]
@@ -165,8 +180,10 @@ module _ (vars capacity : ℕ) (plan : List Family) (refusals : ℕ) (nodes : Li
     held-distinct =
         let one : is_distinct s.held ≡ true = distinct_from s.held (λ i j f a b.
         let e : i + 2 ≡ j + 2 = is.one_to_one (i + 2) (j + 2) f (sym (held-is i) ∙ a) (sym (held-is j) ∙ b) in omega arith) in
-        let two : includes s.held [] ≡ false = none_of s.held [] (λ h. let k = held-known [] h in let e : k.0 + 2 ≡ 0 = is.one_to_one (k.0 + 2) 0 [] k.1 empty_known in omega arith) in
-        let three : includes s.held (0 ∷ []) ≡ false = none_of s.held (0 ∷ []) (λ h. let k = held-known (0 ∷ []) h in let e : k.0 + 2 ≡ 1 = is.one_to_one (k.0 + 2) 1 (0 ∷ []) k.1 unit_known in omega arith) in
+        let two : includes s.held [] ≡ false = none_of s.held [] (λ h. let k = held-known [] h in
+        let e : k.0 + 2 ≡ 0 = is.one_to_one (k.0 + 2) 0 [] k.1 empty_known in omega arith) in
+        let three : includes s.held (0 ∷ []) ≡ false = none_of s.held (0 ∷ []) (λ h. let k = held-known (0 ∷ []) h in
+        let e : k.0 + 2 ≡ 1 = is.one_to_one (k.0 + 2) 1 (0 ∷ []) k.1 unit_known in omega arith) in
         rw (one, two, three) refl
 
     pub held-planned : Covers s.plan s.held
@@ -184,7 +201,7 @@ module _ (vars capacity : ℕ) (plan : List Family) (refusals : ℕ) (nodes : Li
     unfolding plain_state
     length-held = length-drop 2 (families vars nodes) ∙ omega (arith, length-families)
 
-    pub plain_sound : 1 ≤ vars → vars ≤ 62 → length nodes ≤ capacity → refusals < 2 ^ 64 → IsSound s
+    pub plain_sound : 1 ≤ vars → vars ≤ MAX_VARS → length nodes ≤ capacity → refusals < 2 ^ 64 → IsSound s
     unfolding plain_state
     plain_sound low' high' room small = record {
       empty = empty_known;

@@ -1,11 +1,13 @@
 -- What contracts see of a store of diagram nodes, and what each of its calls may do to it.
-use Rattle.std.specs.Prelude.{◌≡◌, ◌≢◌, ℕ, ◌+◌, ◌-◌, ◌^◌, ◌<◌, ◌≤◌, suc, ◌↔◌, Option, Some, is_some, IsNone, IfSome, Result, IfOk, OnOk, OnErr, List, [], ◌∷◌, ◌++◌, length, unwrap_or, true, false, cond}
+use Rattle.std.specs.Prelude.{◌≡◌, ◌≢◌, ℕ, ◌+◌, ◌-◌, ◌^◌, ◌<◌, ◌≤◌, suc, ◌↔◌, Option, Some, is_some, IsNone, IfSome, Result, IfOk, OnOk}
+use Rattle.std.specs.Prelude.{OnErr, List, [], ◌∷◌, ◌++◌, length, unwrap_or, true, false, cond}
 use Rattle.lattice.specs.Family.{Family, IsFamily, Covers, is_node_list}
 use Rattle.lattice.specs.Cofactors.{join, low_cofactor, high_cofactor, sub}
 use Rattle.lattice.specs.Counts.{Rose}
 use Rattle.lattice.specs.History.{IsLegal}
 use Rattle.lattice.specs.Operations.{takes_family, takes_variable, answer, IsAllowed}
 use Rattle.lattice.specs.WorkingLists.{needs}
+use Rattle.lattice.specs.declared.limits.TheConstants.{MAX_VARS}
 use Rattle.lattice.specs.declared.op.Op.{Op}
 use Rattle.lattice.specs.declared.entry.Entry.{Entry}
 use Rattle.node_store.specs.declared.store.Handle.{Handle}
@@ -72,7 +74,7 @@ pub record IsSound (s : State) : Type 0 where
   pub room : length s.held ≤ s.capacity
   pub planned : Covers s.plan s.held
   pub vars_low : 1 ≤ s.vars
-  pub vars_high : s.vars ≤ 62
+  pub vars_high : s.vars ≤ MAX_VARS
   pub counted : s.refusals < 2 ^ 64
   pub legal : IsLegal s.capacity s.history
 
@@ -114,7 +116,8 @@ pub record Gives (before after : State) (result : Result Handle Full) (f : Famil
 -- lo and hi are the parts of a at var, wherever the node is the one of a, and a has no variable before var
 abbrev pub ArePartsOf : Handle → Option Node → ℕ → Handle → Handle → Type 0
 ArePartsOf a node var lo hi =
-    (s t : State) → IsSound s → IsSound t → Grows s t → Knows s a → IsNodeOf s t a node → 1 ≤ var → var ≤ s.vars → IsFamily (suc (s.vars - var)) (family s a)
+    (s t : State) → IsSound s → IsSound t → Grows s t → Knows s a → IsNodeOf s t a node → 1 ≤ var → var ≤ s.vars
+    → IsFamily (suc (s.vars - var)) (family s a)
     → Denotes t lo (low_cofactor (s.vars - var) (family s a)) × Denotes t hi (high_cofactor (s.vars - var) (family s a))
 
 -- the plan has the families of f's diagram

@@ -1,6 +1,7 @@
 //! Handles, nodes and stores of diagram nodes.
 #![tactic(auto)]
 
+mod any_family;
 mod key;
 pub mod laws;
 mod plain;
@@ -8,6 +9,7 @@ mod store;
 mod walk;
 mod word;
 
+pub use crate::any_family::any_plan;
 pub use crate::plain::PlainStore;
 pub use crate::store::{Full, Handle, Node, Store};
 pub use crate::walk::{first_var, grow, parts, parts_of};

@@ -3,6 +3,7 @@ ghost use Rattle.std.specs.Prelude.{◌≡◌, ◌≤◌, ◌<◌, ◌+◌, ◌^
 ghost use Rattle.indexmap.specs.IndexSet.{spare};
 ghost use Rattle.indexmap.specs.IndexMap.{spare as map_spare};
 ghost use Rattle.std.proofs.Props.{props};
+ghost use Rattle.lattice.specs.declared.limits.TheConstants.{MIN_BITS, MAX_BITS, MAX_VARS};
 ghost use Rattle.node_store.specs.Plain.{plain_state, IsTable, AreResults};
 
 use crate::key::Key;
@@ -21,7 +22,7 @@ pub struct PlainStore {
     refused: u64,
     plan: Plan,
     ghost table: { IsTable (plain_state vars capacity plan.families refused nodes.keys) nodes.keys } by { Prim.hlevel props },
-    ghost sizes: { (1 ≤ vars) × (vars ≤ 62) × (capacity ≤ 2 ^ 19) },
+    ghost sizes: { (1 ≤ vars) × (vars ≤ MAX_VARS) × (capacity ≤ 2 ^ MAX_BITS) },
     ghost counted: { refused < 2 ^ 64 },
     ghost room: { length nodes.keys ≤ capacity },
     ghost results: { AreResults (plain_state vars capacity plan.families refused nodes.keys) kept.entries } by { Prim.hlevel props },
@@ -34,8 +35,8 @@ impl PlainStore {
 
     /// A store of 2^bits slots over so many variables. It takes the room for all nodes and all kept results before it answers.
     pub fn make(alloc: Global, bits: u32, vars: u32, plan: Plan) -> Result<PlainStore, Memory>
-        requires bits { (4 ≤ bits) × (bits ≤ 19) }
-        requires vars { (1 ≤ vars) × (vars ≤ 62) }
+        requires bits { (MIN_BITS ≤ bits) × (bits ≤ MAX_BITS) }
+        requires vars { (1 ≤ vars) × (vars ≤ MAX_VARS) }
         ensures state { IfOk result (λ s. state_of s ≡ plain_state vars (2 ^ bits) plan.families 0 []) }
         ensures nodes { IfOk result (λ s. nodes_of s ≡ []) }
         ensures kept { IfOk result (λ s. kept_of s ≡ []) }

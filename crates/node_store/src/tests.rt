@@ -1,33 +1,12 @@
-ghost use Rattle.std.specs.Prelude.{◌≡◌, ◌≤◌, IfOk};
+ghost use Rattle.std.specs.Prelude.{◌≡◌, ◌≤◌};
 ghost use Rattle.lattice.specs.Family.{power};
-ghost use Rattle.lattice.specs.WorkingLists.{working_set};
-ghost use Rattle.lattice.proofs.WorkingSets.{working_set_is_node_list};
 ghost use Rattle.node_store.specs.Stores.{Denotes, Builds};
-ghost use Rattle.node_store.specs.PlainOf.{state_of};
-ghost use Rattle.node_store.specs.AnyFamily.{every_family, MayHoldAny};
+ghost use Rattle.node_store.specs.AnyFamily.{MayHoldAny};
 
-use crate::{Full, Handle, Node, PlainStore, Store, first_var, grow, pack, parts, unpack};
-use lattice::{Memory, Planned, plan_of};
-use std::alloc::Global;
+use crate::{
+    Full, Handle, Node, PlainStore, Store, any_plan, first_var, grow, pack, parts, unpack,
+};
 use std::test::Fail;
-
-// Every family over so many variables.
-#[derive(Drop)]
-struct EveryFamily(u32);
-
-impl Planned for EveryFamily {
-    ghost families = { λ p. working_set p.0 (every_family p.0) };
-
-    ghost node_list = { λ p. working_set_is_node_list p.0 (every_family p.0) };
-}
-
-// A store of 16 slots that may be asked for any family.
-fn store_for_any(alloc: Global, vars: u32) -> Result<PlainStore, Memory>
-    requires { (1 ≤ vars) × (vars ≤ 62) }
-    ensures { IfOk result (λ s. MayHoldAny vars (state_of s)) }
-{
-    PlainStore::make(alloc, 4, vars, plan_of(&EveryFamily(vars)))
-}
 
 // All numbers over the last variables, so many of them.
 fn all_over<S: Store>(store: &mut S, vars: u32, count: u32) -> Result<Handle, Full>
@@ -65,7 +44,7 @@ fn taken_apart<S: Store>(
 // A node is interned once, and its handle tells its slot.
 #[test]
 fn slots_in_order(rt: HostRuntime) -> Result<(), Fail> {
-    let mut store = store_for_any(rt.alloc(), 3)?;
+    let mut store = PlainStore::make(rt.alloc(), 4, 3, any_plan(3))?;
     assert_eq!(rt; all_over(&mut store, 3, 1), Ok(Handle(2)));
     assert_eq!(rt; all_over(&mut store, 3, 1), Ok(Handle(2)));
     let all = all_over(&mut store, 3, 2)?;
@@ -80,13 +59,14 @@ fn slots_in_order(rt: HostRuntime) -> Result<(), Fail> {
 // Each slot takes a node; then the store is full, and still gives the handles of the nodes that it has.
 #[test]
 fn full_after_the_last_slot(rt: HostRuntime) -> Result<(), Fail> {
-    let mut store = store_for_any(rt.alloc(), 17)?;
+    let mut store = PlainStore::make(rt.alloc(), 4, 17, any_plan(17))?;
     assert_eq!(rt; all_over(&mut store, 17, 16), Ok(Handle(17)));
     assert_eq!(rt; all_over(&mut store, 17, 17), Err(Full));
     assert_eq!(rt; all_over(&mut store, 17, 16), Ok(Handle(17)));
     Ok(())
 }
 
+// The words as Python computes them: 3 * 2**48 + 1 * 2**24 + 1, and 62 * 2**48 + (2**23 + 1) * 2**24 + 2**23.
 #[test]
 fn words_of_nodes(rt: HostRuntime) {
     let node = Node {
@@ -94,8 +74,15 @@ fn words_of_nodes(rt: HostRuntime) {
         lo: Handle(1),
         hi: Handle(1),
     };
-    assert_eq!(rt; pack(&node), 3298535931905);
-    assert_eq!(rt; unpack(3298535931905), Some(node));
-    assert_eq!(rt; unpack(3298535931904), None);
+    assert_eq!(rt; pack(&node), 844424946909185);
+    assert_eq!(rt; unpack(844424946909185), Some(node));
+    assert_eq!(rt; unpack(844424946909184), None);
     assert_eq!(rt; unpack(0), None);
+    let last = Node {
+        var: 62,
+        lo: Handle(8388609),
+        hi: Handle(8388608),
+    };
+    assert_eq!(rt; pack(&last), 17592186069581824);
+    assert_eq!(rt; unpack(17592186069581824), Some(last));
 }

@@ -1,13 +1,15 @@
 -- Where a line is cut: at its line feed, its comment, its first word.
-use Rattle.std.proofs.Common.{◌≡◌, ℕ, zero, suc, ◌+◌, ◌<◌, ◌≤◌, Bool, not, cond, eqb, ltb, List, [], ◌∷◌, length, get_or, take, drop, Option, Some, None, refl, ap, ◌∙◌, arith, inl, inr}
+use Rattle.std.proofs.Common.{◌≡◌, ℕ, suc, ◌+◌, ◌<◌, ◌≤◌, Bool, not, cond, eqb, ltb, List, [], ◌∷◌, length, take, drop}
+use Rattle.std.proofs.Common.{Option, Some, None, refl, ap, ◌∙◌, arith, inl, inr}
 use Rattle.std.specs.Prelude.{unwrap_or}
 use Rattle.std.specs.List.{position_or_len}
 use Rattle.std.proofs.lemmas.List.Sums.{prefix_len-le-length}
-use Rattle.std.proofs.lemmas.Bool.{cases_Bool, cases_lt, eq-eqb, ne_eqb, lt-ltb, le-ltb}
-use Rattle.pla_reader.specs.Lines.{lines_of, without_last}
+use Rattle.std.proofs.lemmas.Bool.{cases_Bool, cases_lt, lt-ltb, le-ltb}
+use Rattle.pla_reader.specs.Lines.{lines_of}
 
 -- the place that a search gives, or the length
-pub first_or_len : {X : Type 0} (p : X → Bool) (xs : List X) (r : Option ℕ) → r ≡ cond (ltb (position_or_len p xs) (length xs)) (Some (position_or_len p xs)) None → unwrap_or r (length xs) ≡ position_or_len p xs
+pub first_or_len : {X : Type 0} (p : X → Bool) (xs : List X) (r : Option ℕ)
+    → r ≡ cond (ltb (position_or_len p xs) (length xs)) (Some (position_or_len p xs)) None → unwrap_or r (length xs) ≡ position_or_len p xs
 first_or_len p xs r e =
     elim (cases_lt (position_or_len p xs) (length xs)) [
       | inl lt ↦ ap (λ o. unwrap_or o (length xs)) e ∙ rw (lt-ltb _ _ lt) refl
@@ -17,13 +19,13 @@ first_or_len p xs r e =
 
 -- ---- the first line
 
+-- the place of the first line feed, or the length
 abbrev pub feed_at : List ℕ → ℕ
 feed_at bytes = position_or_len (λ b. eqb b 10) bytes
 
-pub feed_at-le : (bytes : List ℕ) → feed_at bytes ≤ length bytes
-feed_at-le bytes = prefix_len-le-length (λ b. not (eqb b 10)) bytes
-
-pub line_cut : (bytes : List ℕ) → feed_at bytes < length bytes → lines_of bytes ≡ take (feed_at bytes + 1) bytes ∷ lines_of (drop (feed_at bytes + 1) bytes)
+-- a line with its line feed is cut off
+pub line_cut : (bytes : List ℕ) → feed_at bytes < length bytes
+    → lines_of bytes ≡ take (feed_at bytes + 1) bytes ∷ lines_of (drop (feed_at bytes + 1) bytes)
 line_cut [] lt = absurd (omega arith)
 line_cut (b ∷ bs) lt =
     elim (cases_Bool (eqb b 10)) [
@@ -35,6 +37,7 @@ line_cut (b ∷ bs) lt =
           rw e (rw (more, later) refl)
     ]
 
+-- a text without a line feed is one line
 pub last_line : (bytes : List ℕ) → 0 < length bytes → length bytes ≤ feed_at bytes → lines_of bytes ≡ bytes ∷ []
 last_line [] some le = absurd (omega arith)
 last_line (b ∷ []) some le =
@@ -49,19 +52,3 @@ last_line (b ∷ c ∷ bs) some le =
           let longer : suc (length (c ∷ bs)) ≤ 1 + feed_at (c ∷ bs) = rw e at le in
           rw e (rw (last_line (c ∷ bs) (omega arith) (omega arith)) refl)
     ]
-
--- ---- the last byte
-
-pub without_last_yes : (last n : ℕ) (line : List ℕ) → length line ≡ suc n → get_or line n 0 ≡ last → take n line ≡ without_last last line
-without_last_yes last n [] len same = absurd (omega arith)
-without_last_yes last zero (a ∷ []) len same = rw (eq-eqb a last same) refl
-without_last_yes last (suc n) (a ∷ []) len same = absurd (omega arith)
-without_last_yes last zero (a ∷ b ∷ bytes) len same = absurd (omega arith)
-without_last_yes last (suc n) (a ∷ b ∷ bytes) len same = ap (λ (t : List ℕ). a ∷ t) (without_last_yes last n (b ∷ bytes) (omega arith) same)
-
-pub without_last_no : (last n : ℕ) (line : List ℕ) → length line ≡ suc n → (get_or line n 0 ≡ last → ⊥) → line ≡ without_last last line
-without_last_no last n [] len other = absurd (omega arith)
-without_last_no last zero (a ∷ []) len other = rw (ne_eqb a last other) refl
-without_last_no last (suc n) (a ∷ []) len other = absurd (omega arith)
-without_last_no last zero (a ∷ b ∷ bytes) len other = absurd (omega arith)
-without_last_no last (suc n) (a ∷ b ∷ bytes) len other = ap (λ (t : List ℕ). a ∷ t) (without_last_no last n (b ∷ bytes) (omega arith) other)

@@ -1,13 +1,12 @@
 mod Examples
 pub mod Cuts
-pub mod WordCuts
-pub mod Numbers
-pub mod Symbols
-pub mod Masks
-pub mod RowParts
-pub mod Earlier
-pub mod DraftSteps
-pub mod Fitting
-pub mod Steps
-pub mod Whole
-pub mod Answered
+mod WordCuts
+mod Numbers
+mod Symbols
+mod Masks
+mod RowParts
+mod Earlier
+mod Fitting
+mod DraftSteps
+mod Whole
+mod Answered

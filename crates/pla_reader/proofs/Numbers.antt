@@ -17,7 +17,8 @@ digit_is byte e =
 capped : (v d n : ℕ) → v ≡ min 1000 n → min (v * 10 + d) 1000 ≡ min 1000 (n * 10 + d)
 capped v d n e = omega arith
 
-pub number_more : (digits : List ℕ) (i v : ℕ) → i < length digits → list_all is_digit digits ≡ true → v ≡ min 1000 (digits_value 10 (take i digits))
+pub number_more : (digits : List ℕ) (i v : ℕ) → i < length digits → list_all is_digit digits ≡ true
+    → v ≡ min 1000 (digits_value 10 (take i digits))
     → min (v * 10 + (get_or digits i 0 - 48)) 1000 ≡ min 1000 (digits_value 10 (take (i + 1) digits))
 number_more digits i v lt all e =
     let digit = digit_is (get_or digits i 0) (AllPass-from_list_all is_digit digits all i 0 lt) in

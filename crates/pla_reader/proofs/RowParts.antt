@@ -1,5 +1,7 @@
 -- A row from the parts of its line.
-use Rattle.std.proofs.Common.{◌≡◌, ℕ, ◌+◌, ◌<◌, true, false, cond, leb, eqb, List, length, take, drop, Some, None, refl, sym, ap, ◌∙◌}
+use Rattle.pla_reader.specs.Description.{has_off, has_dc}
+use Rattle.std.proofs.Common.{◌≡◌, ℕ, ◌+◌, ◌<◌, true, false, cond, leb, eqb, List, length, take, drop, Some, None, refl, sym}
+use Rattle.std.proofs.Common.{ap, ◌∙◌, codes, ◌&&◌}
 use Rattle.std.specs.List.{list_all}
 use Rattle.std.proofs.lemmas.Bool.{lt-leb, eq-eqb}
 use Rattle.std.proofs.lemmas.Option.{cond_some}
@@ -7,24 +9,25 @@ use Rattle.lattice.specs.declared.kind.Kind.{Kind}
 use Rattle.lattice.specs.declared.row.Row.{Row}
 use Rattle.pla_reader.specs.declared.row.Cube.{Cube}
 use Rattle.pla_reader.specs.declared.row.Marks.{Marks}
-use Rattle.pla_reader.specs.Grammar.{symbols, is_input_symbol, is_output_symbol, row_fault}
-use Rattle.pla_reader.specs.Reading.{is_fixed, is_one, is_on, is_off, is_dc, input_mask, output_mask, row_of}
+use Rattle.pla_reader.specs.Grammar.{symbols, is_input_symbol, is_output_symbol, row_fault, is_one_of}
+use Rattle.pla_reader.specs.Reading.{input_mask, output_mask, row_of}
 
 -- the cube and the marks of symbols
 abbrev cube_from : List ℕ → Cube
-cube_from ins = record { care = input_mask is_fixed ins; value = input_mask is_one ins }
+cube_from ins = record { care = input_mask (is_one_of (codes "01")) ins; value = input_mask (is_one_of (codes "1")) ins }
 
 abbrev marks_from : Kind → List ℕ → Marks
-marks_from kind outs = record { on = output_mask is_on outs; off = output_mask (is_off kind) outs; dc = output_mask (is_dc kind) outs }
+marks_from kind outs = record {
+  on = output_mask (is_one_of (codes "14")) outs;
+  off = output_mask (λ s. has_off kind && is_one_of (codes "0") s) outs;
+  dc = output_mask (λ s. has_dc kind && is_one_of (codes "-2") s) outs;
+}
 
 abbrev row_from : ℕ → Cube → Marks → Row
 row_from number cube marks = record { line = number; care = cube.care; value = cube.value; on = marks.on; off = marks.off; dc = marks.dc }
 
-pub row_given : (inputs outputs rows number : ℕ) (kind : Kind) (line front back : List ℕ) (cube : Cube) (marks : Marks)
-    → rows < 8192
-    → length (symbols line) ≡ inputs + outputs
-    → symbols front ≡ take inputs (symbols line)
-    → symbols back ≡ drop inputs (symbols line)
+pub row_given : (inputs outputs rows number : ℕ) (kind : Kind) (line front back : List ℕ) (cube : Cube) (marks : Marks) → rows < 8192
+    → length (symbols line) ≡ inputs + outputs → symbols front ≡ take inputs (symbols line) → symbols back ≡ drop inputs (symbols line)
     → Some cube ≡ cond (list_all is_input_symbol (symbols front)) (Some (cube_from (symbols front))) None
     → Some marks ≡ cond (list_all is_output_symbol (symbols back)) (Some (marks_from kind (symbols back))) None
     → (row_fault (Some (inputs, outputs)) rows line ≡ None) × (row_from number cube marks ≡ row_of inputs kind number line)

@@ -1,5 +1,6 @@
 -- Where the words of a line begin and end.
-use Rattle.std.proofs.Common.{◌≡◌, ℕ, suc, ◌+◌, ◌<◌, ◌≤◌, true, not, ltb, List, [], ◌∷◌, length, take, drop, refl, sym, ap, ◌∙◌, arith, inl, inr}
+use Rattle.std.proofs.Common.{◌≡◌, ℕ, suc, ◌+◌, ◌<◌, ◌≤◌, true, not, ltb, List, [], ◌∷◌, length, take, drop, refl, sym, ap, ◌∙◌, arith, inl}
+use Rattle.std.proofs.Common.{inr}
 use Rattle.std.specs.List.{filter, position_or_len, slice_split}
 use Rattle.std.proofs.lemmas.Bool.{cases_Bool, lt-ltb}
 use Rattle.std.proofs.lemmas.List.{length-take, length-drop}
@@ -12,9 +13,6 @@ word_at line = position_or_len (λ b. not (is_blank b)) line
 
 abbrev pub blank_at : List ℕ → ℕ
 blank_at line = position_or_len is_blank line
-
-pub word_at-le : (line : List ℕ) → word_at line ≤ length line
-word_at-le line = prefix_len-le-length (λ b. not (not (is_blank b))) line
 
 pub blank_at-le : (line : List ℕ) → blank_at line ≤ length line
 blank_at-le line = prefix_len-le-length (λ b. not (is_blank b)) line
@@ -76,11 +74,13 @@ pub begins : (line : List ℕ) → 0 < blank_at line → words_of line ≡ take 
 unfolding words_of
 begins line some =
     let p = parts_of line in
-    let word : ltb 0 (length (take (blank_at line) line)) ≡ true = lt-ltb 0 (length (take (blank_at line) line)) (omega (arith, length-take (blank_at line) line, blank_at-le line)) in
+    let word : ltb 0 (length (take (blank_at line) line)) ≡ true = lt-ltb 0 (length (take (blank_at line) line))
+    (omega (arith, length-take (blank_at line) line, blank_at-le line)) in
     ap (filter (λ word. ltb 0 (length word))) p.parts ∙ rw word (ap (λ (ws : List (List ℕ)). take (blank_at line) line ∷ ws) p.rest)
 
 -- what a line with a word is cut into
-pub cut_word : (line : List ℕ) → word_at line < length line → (rest : List ℕ) → rest ≡ drop (word_at line) line → BeginsWithWord line (take (blank_at rest) rest) (drop (blank_at rest) rest)
+pub cut_word : (line : List ℕ) → word_at line < length line → (rest : List ℕ) → rest ≡ drop (word_at line) line
+    → BeginsWithWord line (take (blank_at rest) rest) (drop (blank_at rest) rest)
 cut_word line lt rest e =
     let some : 0 < blank_at rest = rw e (word_begins line lt) in
     let fits = blank_at-le rest in

@@ -5,20 +5,19 @@ use Rattle.std.specs.List.Sorted.{IsStrictlyIncreasing}
 use Rattle.lattice.specs.Family.{divides}
 use Rattle.lattice.specs.declared.row.Row.{Row}
 use Rattle.lattice.specs.declared.kind.Kind.{Kind}
-use Rattle.lattice.specs.declared.kind.Kind.TheVariants.{F, Fd, Fr, Fdr}
+use Rattle.lattice.specs.declared.kind.Kind.TheVariants.{Fd, Fr, Fdr}
+use Rattle.lattice.specs.declared.limits.TheConstants.{MAX_VARS}
 
 -- whether the rows of a type may say that an output is 0, and that it is not cared for
 abbrev pub has_off : Kind → Bool
-has_off F = false
-has_off Fd = false
 has_off Fr = true
 has_off Fdr = true
+has_off other = false
 
 abbrev pub has_dc : Kind → Bool
-has_dc F = false
 has_dc Fd = true
-has_dc Fr = false
 has_dc Fdr = true
+has_dc other = false
 
 -- a row over so many inputs and outputs, of this type
 pub record FitsSizes (inputs outputs : ℕ) (kind : Kind) (r : Row) : Type 0 where
@@ -39,7 +38,7 @@ CountsNames count names = (names ≢ []) → length names ≡ count
 
 pub record IsDescription (inputs outputs : ℕ) (kind : Kind) (rows : List Row) (in_names out_names : List (List ℕ)) : Type 0 where
   pub some_inputs : 1 ≤ inputs
-  pub few_inputs : inputs ≤ 62
+  pub few_inputs : inputs ≤ MAX_VARS
   pub some_outputs : 1 ≤ outputs
   pub few_outputs : outputs ≤ 64
   pub few_rows : length rows ≤ 8192

@@ -1,6 +1,7 @@
 -- The lines of a text, what stands on a line, and its words.
 use Rattle.std.specs.Prelude.{ℕ, Bool, true, ◌&&◌, ◌||◌, ◌==◌, nat_lt, nat_le, List, [], ◌∷◌, length, if◌then◌else◌}
 use Rattle.std.specs.List.{filter, onto_first, slice_split}
+use Rattle.std.specs.Io.BufRead.{strip_last}
 
 -- the lines, each with its line feed, which the last one may lack
 abbrev pub lines_of : List ℕ → List (List ℕ)
@@ -15,12 +16,6 @@ is_blank byte = byte == 32 || byte == 9
 abbrev pub is_printable : ℕ → Bool
 is_printable byte = byte == 9 || (nat_le 32 byte && nat_le byte 126)
 
--- the bytes, less the last one if it is this one
-abbrev pub without_last : ℕ → List ℕ → List ℕ
-without_last last [] = []
-without_last last (byte ∷ []) = if byte == last then [] else byte ∷ []
-without_last last (byte ∷ next ∷ bytes) = byte ∷ without_last last (next ∷ bytes)
-
 -- the bytes before the first # that follows a blank, or that comes first if a comment may begin there
 abbrev pub before_comment : (may_begin : Bool) → List ℕ → List ℕ
 before_comment may_begin [] = []
@@ -28,7 +23,7 @@ before_comment may_begin (byte ∷ bytes) = if may_begin && byte == 35 then [] e
 
 -- what stands on a line: no line feed, no carriage return before it, and no comment
 unfoldable pub content : List ℕ → List ℕ
-content line = before_comment true (without_last 13 (without_last 10 line))
+content line = before_comment true (strip_last 13 (strip_last 10 line))
 
 -- the parts between blanks that are not empty
 unfoldable pub words_of : List ℕ → List (List ℕ)

@@ -14,13 +14,13 @@ pub record BeginsWithWord (line word rest : List ℕ) : Type 0 where
   pub some : 0 < length word
   pub less : length rest < length line
 
--- the refusal of a line, with its number
-abbrev pub refused : LineRefusal → ℕ → ReadRefusal
-refused (Bad why) line = whole.Bad (record { line = line; why = why })
-refused Memory line = whole.Memory
+-- the refusal of the line of this number
+abbrev pub read_refusal : LineRefusal Why → ℕ → ReadRefusal
+read_refusal (Bad why) line = whole.Bad (record { line = line; why = why })
+read_refusal Memory line = whole.Memory
 
 -- the line has this fault, or memory ran out
-abbrev pub Stops : LineRefusal → Option Why → Type 0
+abbrev pub Stops : {W : Type 0} → LineRefusal W → Option W → Type 0
 Stops (Bad why) fault = fault ≡ Some why
 Stops Memory fault = Unit {0}
 

@@ -1,5 +1,6 @@
 -- What a text describes, or why it is refused.
-use Rattle.std.specs.Prelude.{◌≡◌, ℕ, ◌+◌, ◌*◌, ◌^◌, Bool, ◌&&◌, List, [], ◌∷◌, ◌++◌, length, map, take, drop, codes, sum_by, Option, Some, None, unwrap_or, Result, Ok, Err, option_map, if◌then◌else◌}
+use Rattle.std.specs.Prelude.{◌≡◌, ℕ, ◌+◌, ◌*◌, ◌^◌, Bool, ◌&&◌, List, [], ◌∷◌, ◌++◌, length, map, take, drop, codes, sum_by, Option, Some}
+use Rattle.std.specs.Prelude.{None, unwrap_or, option_and_then, Result, Ok, Err, option_map, if◌then◌else◌}
 use Rattle.std.specs.List.{filter, enumerate_from}
 use Rattle.std.specs.Option.{option_or}
 use Rattle.lattice.specs.declared.kind.Kind.{Kind}
@@ -9,30 +10,12 @@ use Rattle.pla_reader.specs.declared.refusal.Why.TheVariants.{NoSize}
 use Rattle.pla_reader.specs.declared.refusal.Refusal.{Refusal}
 use Rattle.pla_reader.specs.declared.refusal.ReadRefusal.{ReadRefusal}
 use Rattle.pla_reader.specs.declared.refusal.ReadRefusal.TheVariants.{Bad, Memory}
-use Rattle.pla_reader.specs.declared.command.Command.TheVariants.{InNames, OutNames}
 use Rattle.pla_reader.specs.declared.pla.Pla.{Pla}
 use Rattle.pla_reader.specs.Description.{has_off, has_dc}
 use Rattle.pla_reader.specs.Lines.{lines_of, content}
-use Rattle.pla_reader.specs.Grammar.{arguments_of, sizes_given, kind_given, is_row, is_end, symbols, is_one_of, fault_of}
+use Rattle.pla_reader.specs.Grammar.{arguments_of, sizes_given, kind_in, is_row, is_end, symbols, is_one_of, fault_of}
 
 -- ---- rows
-
--- the symbols that fix an input, and that fix it to 1
-abbrev pub is_fixed : ℕ → Bool
-is_fixed = is_one_of (codes "01")
-
-abbrev pub is_one : ℕ → Bool
-is_one = is_one_of (codes "1")
-
--- the symbols that put a row's cube into an output's ON, OFF and DC
-abbrev pub is_on : ℕ → Bool
-is_on = is_one_of (codes "14")
-
-abbrev pub is_off : Kind → ℕ → Bool
-is_off kind symbol = has_off kind && is_one_of (codes "0") symbol
-
-abbrev pub is_dc : Kind → ℕ → Bool
-is_dc kind symbol = has_dc kind && is_one_of (codes "-2") symbol
 
 -- the inputs whose symbols pass a test; the last one has weight 1
 unfoldable pub input_mask : (ℕ → Bool) → List ℕ → ℕ
@@ -44,18 +27,19 @@ unfoldable pub output_mask : (ℕ → Bool) → List ℕ → ℕ
 output_mask test [] = 0
 output_mask test (symbol ∷ symbols) = (if test symbol then 1 else 0) + 2 * output_mask test symbols
 
--- the row on the line of this number
+-- the row on the line of this number: the inputs that it fixes, those that it fixes to 1, and the outputs that have its
+-- cube in ON, in OFF and in DC
 unfoldable pub row_of : (inputs : ℕ) → Kind → (number : ℕ) → (line : List ℕ) → Row
 row_of inputs kind number line =
     let ins = take inputs (symbols line) in
     let outs = drop inputs (symbols line) in
     record {
       line = number;
-      care = input_mask is_fixed ins;
-      value = input_mask is_one ins;
-      on = output_mask is_on outs;
-      off = output_mask (is_off kind) outs;
-      dc = output_mask (is_dc kind) outs;
+      care = input_mask (is_one_of (codes "01")) ins;
+      value = input_mask (is_one_of (codes "1")) ins;
+      on = output_mask (is_one_of (codes "14")) outs;
+      off = output_mask (λ symbol. has_off kind && is_one_of (codes "0") symbol) outs;
+      dc = output_mask (λ symbol. has_dc kind && is_one_of (codes "-2") symbol) outs;
     }
 
 -- the rows among lines, by the numbers of their lines
@@ -77,7 +61,8 @@ description_lines bytes = map content (up_to_end (lines_of bytes))
 unfoldable pub first_fault : (earlier lines : List (List ℕ)) → Option Refusal
 first_fault earlier [] = None
 first_fault earlier (line ∷ lines) =
-    option_or (option_map (λ why. record { line = length earlier + 1; why = why }) (fault_of earlier line)) (first_fault (earlier ++ line ∷ []) lines)
+    option_or (option_map (λ why. record { line = length earlier + 1; why = why }) (fault_of earlier line))
+    (first_fault (earlier ++ line ∷ []) lines)
 
 -- what a description says
 pub record Description : Type 0 where
@@ -91,14 +76,14 @@ pub record Description : Type 0 where
 -- what lines without a fault say, by these sizes
 unfoldable pub description_of : (inputs outputs : ℕ) → List (List ℕ) → Description
 description_of inputs outputs lines =
-    let kind = unwrap_or (kind_given lines) Fd in
+    let kind = unwrap_or (option_and_then kind_in (arguments_of (codes ".type") lines)) Fd in
     record {
       inputs = inputs;
       outputs = outputs;
       kind = kind;
       rows = rows_of inputs kind lines;
-      in_names = unwrap_or (arguments_of InNames lines) [];
-      out_names = unwrap_or (arguments_of OutNames lines) [];
+      in_names = unwrap_or (arguments_of (codes ".ilb") lines) [];
+      out_names = unwrap_or (arguments_of (codes ".ob") lines) [];
     }
 
 -- the description, unless there is a fault or a size is missing
@@ -121,10 +106,11 @@ bytes_taken bytes = sum_by length (up_to_end (lines_of bytes))
 
 -- what a file says
 abbrev pub description : Pla → Description
-description pla = record { inputs = pla.inputs; outputs = pla.outputs; kind = pla.kind; rows = pla.rows; in_names = pla.in_names; out_names = pla.out_names }
+description pla = record
+    { inputs = pla.inputs; outputs = pla.outputs; kind = pla.kind; rows = pla.rows; in_names = pla.in_names; out_names = pla.out_names }
 
 -- an answer gives what was read, unless memory ran out
-abbrev pub Answers : Result (Pla × ℕ) ReadRefusal → Result Description Refusal → Type 0
-Answers (Ok (pla, taken)) reading = reading ≡ Ok (description pla)
-Answers (Err (Bad refusal)) reading = reading ≡ Err refusal
-Answers (Err Memory) reading = Unit {0}
+abbrev pub GivesReading : Result (Pla × ℕ) ReadRefusal → Result Description Refusal → Type 0
+GivesReading (Ok (pla, taken)) reading = reading ≡ Ok (description pla)
+GivesReading (Err (Bad refusal)) reading = reading ≡ Err refusal
+GivesReading (Err Memory) reading = Unit {0}

@@ -6,8 +6,7 @@ ghost use Rattle.pla_reader.specs.Lines.{words_of};
 ghost use Rattle.pla_reader.specs.Grammar.{is_digit, kind_named, number_in, kind_in, size_fault, kind_fault, names_fault};
 ghost use Rattle.pla_reader.specs.Parts.{Stops};
 
-use crate::command::is_word;
-use crate::lines::{count_words, first_word, only_word};
+use crate::lines::{count_words, first_word, is_word, only_word};
 use crate::refusal::{LineRefusal, Why};
 use lattice::{Kind, Name, Names};
 use std::alloc::Global;
@@ -97,7 +96,7 @@ pub fn kind_in(before: Option<Kind>, rows: usize, arguments: &[u8]) -> Result<Ki
 }
 
 /// The words, as names.
-fn names(alloc: Global, words: &[u8]) -> Result<Names, LineRefusal>
+fn names(alloc: Global, words: &[u8]) -> Result<Names, LineRefusal<Why>>
     ensures { MatchResult result (λ names. names ≡ words_of words.now) (λ e. e ≡ LineRefusal.Memory) }
 {
     let mut names = Names::new(alloc);
@@ -116,7 +115,7 @@ pub fn names_in(
     before: &Option<Names>,
     count: Option<u32>,
     arguments: &[u8],
-) -> Result<Names, LineRefusal>
+) -> Result<Names, LineRefusal<Why>>
     ensures { MatchResult result
         (λ names. (names_fault (is_some before.now) count (words_of arguments.now) ≡ None) × (names ≡ words_of arguments.now))
         (λ e. Stops e (names_fault (is_some before.now) count (words_of arguments.now))) }

@@ -1,19 +1,37 @@
 //! What the lines read so far say.
-ghost use Rattle.std.specs.Prelude.{◌≤◌};
+ghost use Rattle.std.specs.Prelude.{◌≡◌, ◌≤◌};
 ghost use Rattle.std.specs.Option.{ForSome};
+ghost use Rattle.lattice.specs.declared.limits.TheConstants.{MAX_VARS};
+ghost use Rattle.pla_reader.specs.Grammar.{is_end_word, is_unsupported};
 
 use crate::arguments::{kind_in, names_in, size_in};
-use crate::command::{Command, command_named};
-use crate::lines::{first_word, is_printable};
+use crate::lines::{first_word, is_printable, is_word};
 use crate::pla::Rows;
 use crate::refusal::{LineRefusal, Why};
 use crate::row::row_in;
-use lattice::{Kind, Names};
+use lattice::{Kind, MAX_VARS, Names};
 use std::alloc::Global;
 
-const MOST_INPUTS: u32 = 62;
-
 const MOST_OUTPUTS: u32 = 64;
+
+/// Whether the command ends the description.
+fn is_end_word(command: &[u8]) -> bool
+    ensures { result ≡ is_end_word command.now }
+{
+    is_word(command, ".e") || is_word(command, ".end")
+}
+
+/// Whether the command is one that is known and not supported.
+fn is_unsupported(command: &[u8]) -> bool
+    ensures { result ≡ is_unsupported command.now }
+{
+    is_word(command, ".mv")
+        || is_word(command, ".kiss")
+        || is_word(command, ".pair")
+        || is_word(command, ".phase")
+        || is_word(command, ".symbolic")
+        || is_word(command, ".symbolic-output")
+}
 
 /// What the lines read so far say.
 #[derive(Drop)]
@@ -24,18 +42,19 @@ pub struct Draft {
     pub rows: Rows,
     pub in_names: Option<Names>,
     pub out_names: Option<Names>,
-    pub ghost few_inputs: { ForSome inputs (λ n. n ≤ 62) },
+    pub ghost few_inputs: { ForSome inputs (λ n. n ≤ MAX_VARS) },
     pub ghost few_outputs: { ForSome outputs (λ n. n ≤ 64) },
 }
 
 impl Draft {
     ghost use Rattle.std.specs.Prelude.{◌≡◌, ℕ, ◌+◌, List, [], length};
     ghost use Rattle.std.specs.Option.{option_map, option_zip};
-    ghost use Rattle.pla_reader.specs.Draft.{Agrees, Adds};
+    ghost use Rattle.pla_reader.specs.Lines.{words_of};
+    ghost use Rattle.pla_reader.specs.Draft.{IsDraftOf, IsCommandLine, AddsLine};
 
     /// Where no line was read.
     pub fn new(alloc: Global) -> Draft
-        ensures { Agrees result [] }
+        ensures { IsDraftOf result [] }
     {
         Draft {
             inputs: None,
@@ -69,8 +88,13 @@ impl Draft {
     }
 
     /// Adds what a line says, and answers whether it ends the description. After an `Err` nothing is said of the draft.
-    pub fn add_line(&mut self, alloc: Global, number: u32, line: &[u8]) -> Result<bool, LineRefusal>
-        ensures { (earlier : List (List ℕ)) → length earlier + 1 ≡ number → Agrees self.old earlier → Adds result self.new earlier line.now }
+    pub fn add_line(
+        &mut self,
+        alloc: Global,
+        number: u32,
+        line: &[u8],
+    ) -> Result<bool, LineRefusal<Why>>
+        ensures { (earlier : List (List ℕ)) → length earlier + 1 ≡ number → IsDraftOf self.old earlier → AddsLine result self.new earlier line.now }
     {
         if !is_printable(line) {
             return Err(LineRefusal::Bad(Why::BadByte));
@@ -78,38 +102,45 @@ impl Draft {
         let Some((word, arguments)) = first_word(line) else {
             return Ok(false);
         };
-        if word[0] != b'.' {
-            let kind = self.kind.unwrap_or(Kind::Fd);
-            let row = row_in(self.sizes(), kind, self.rows.len(), number, line)?;
-            self.rows.push(row)?;
-            return Ok(false);
+        if word[0] == b'.' {
+            return self.add_command(alloc, word, arguments);
         }
-        match command_named(word) {
-            Command::Inputs => {
-                self.inputs = Some(size_in(self.inputs, MOST_INPUTS, arguments)?);
-                Ok(false)
-            }
-            Command::Outputs => {
-                self.outputs = Some(size_in(self.outputs, MOST_OUTPUTS, arguments)?);
-                Ok(false)
-            }
-            Command::RowKind => {
-                self.kind = Some(kind_in(self.kind, self.rows.len(), arguments)?);
-                Ok(false)
-            }
-            Command::InNames => {
-                let count = self.sized_inputs();
-                self.in_names = Some(names_in(alloc, &self.in_names, count, arguments)?);
-                Ok(false)
-            }
-            Command::OutNames => {
-                let count = self.sized_outputs();
-                self.out_names = Some(names_in(alloc, &self.out_names, count, arguments)?);
-                Ok(false)
-            }
-            Command::End => Ok(true),
-            Command::Unsupported => Err(LineRefusal::Bad(Why::Unsupported)),
-            Command::Other => Ok(false),
+        let kind = self.kind.unwrap_or(Kind::Fd);
+        let row = row_in(self.sizes(), kind, self.rows.len(), number, line)?;
+        self.rows.push(row)?;
+        Ok(false)
+    }
+
+    /// Adds what the command on a line says, and answers whether it ends the description.
+    fn add_command(
+        &mut self,
+        alloc: Global,
+        word: &[u8],
+        arguments: &[u8],
+    ) -> Result<bool, LineRefusal<Why>>
+        ensures { (earlier : List (List ℕ)) (line : List ℕ) → IsCommandLine line word.now (words_of arguments.now) → IsDraftOf self.old earlier → AddsLine result self.new earlier line }
+    {
+        if is_word(word, ".i") {
+            self.inputs = Some(size_in(self.inputs, MAX_VARS, arguments)?);
+            Ok(false)
+        } else if is_word(word, ".o") {
+            self.outputs = Some(size_in(self.outputs, MOST_OUTPUTS, arguments)?);
+            Ok(false)
+        } else if is_word(word, ".type") {
+            self.kind = Some(kind_in(self.kind, self.rows.len(), arguments)?);
+            Ok(false)
+        } else if is_word(word, ".ilb") {
+            let count = self.sized_inputs();
+            self.in_names = Some(names_in(alloc, &self.in_names, count, arguments)?);
+            Ok(false)
+        } else if is_word(word, ".ob") {
+            let count = self.sized_outputs();
+            self.out_names = Some(names_in(alloc, &self.out_names, count, arguments)?);
+            Ok(false)
+        } else if is_unsupported(word) {
+            Err(LineRefusal::Bad(Why::Unsupported))
+        } else {
+            Ok(is_end_word(word))
         }
     }
 }

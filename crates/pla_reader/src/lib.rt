@@ -2,7 +2,6 @@
 #![tactic(auto)]
 
 mod arguments;
-mod command;
 mod draft;
 mod lines;
 mod names;
@@ -11,11 +10,12 @@ mod reading;
 mod refusal;
 mod row;
 
-pub use crate::lines::{split_line, without_last};
-pub use crate::names::{is_plain, plain_names};
+pub use crate::lines::{is_word, split_line, without_last};
+pub use crate::names::{includes, is_plain, plain_names};
 pub use crate::pla::{Pla, Rows};
 pub use crate::reading::read;
-pub use crate::refusal::{ReadRefusal, Refusal, Why};
+pub use crate::refusal::{LineRefusal, ReadRefusal, Refusal, Why};
+pub use crate::row::Marks;
 
 #[cfg(test)]
 mod tests;

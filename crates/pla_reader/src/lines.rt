@@ -1,7 +1,9 @@
 //! The lines of a text, and the words that stand on a line.
 ghost use Rattle.std.specs.Prelude.{◌≡◌, ◌+◌, ◌<◌, ◌≤◌, ◌==◌, true, not, [], ◌∷◌, length, Some, None, MatchOption};
 ghost use Rattle.std.specs.List.{list_all, position_or_len};
-ghost use Rattle.pla_reader.specs.Lines.{lines_of, is_blank, is_printable, without_last, before_comment, content, words_of};
+ghost use Rattle.std.specs.Str.{bytes_eq};
+ghost use Rattle.std.specs.Io.BufRead.{strip_last};
+ghost use Rattle.pla_reader.specs.Lines.{lines_of, is_blank, is_printable, before_comment, content, words_of};
 ghost use Rattle.pla_reader.specs.Parts.{BeginsWithWord};
 ghost use Rattle.pla_reader.specs.Grammar.{only};
 
@@ -48,7 +50,7 @@ fn first_feed(bytes: &[u8]) -> usize
 
 /// The bytes, less the last one if it is `last`.
 pub fn without_last(line: &[u8], last: u8) -> &[u8]
-    ensures { result.now ≡ without_last last line.now }
+    ensures { result.now ≡ strip_last last line.now }
 {
     match line {
         [front @ .., byte] if *byte == last => front,
@@ -132,4 +134,11 @@ pub fn only_word(line: &[u8]) -> Option<&[u8]>
         None => Some(word),
         Some(_) => None,
     }
+}
+
+/// Whether the word is the text.
+pub fn is_word(word: &[u8], text: &str) -> bool
+    ensures { result ≡ bytes_eq word.now text.now }
+{
+    word == text.as_bytes()
 }

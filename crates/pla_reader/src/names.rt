@@ -41,7 +41,7 @@ pub fn is_plain(name: &[u8]) -> bool
 
 /// Whether the name is one of the names.
 #[tactic(auto, unfolding(lattice::specs::Family::includes))]
-fn includes(names: &[Name], name: &[u8]) -> bool
+pub fn includes(names: &[Name], name: &[u8]) -> bool
     ensures { result ≡ includes names.now name.now }
 {
     names.iter().any(|other| other.as_slice() == name)

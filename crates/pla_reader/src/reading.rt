@@ -1,6 +1,6 @@
 //! Reading a description from bytes.
 ghost use Rattle.std.specs.Prelude.{◌≡◌, ◌<◌, ◌≤◌, ◌^◌, [], length, IfOk, MatchResult};
-ghost use Rattle.pla_reader.specs.Reading.{description_lines, first_fault, reading_of, bytes_taken, Answers};
+ghost use Rattle.pla_reader.specs.Reading.{description_lines, first_fault, reading_of, bytes_taken, GivesReading};
 ghost use Rattle.pla_reader.specs.Parts.{Refuses};
 ghost use Rattle.pla_reader.specs.Draft.{AllRead};
 
@@ -40,7 +40,7 @@ fn read_lines(alloc: Global, bytes: &[u8]) -> Result<Lines, ReadRefusal>
                     taken: bytes.len() - rest.len(),
                 });
             }
-            Err(refusal) => return Err(refusal.at(count)),
+            Err(refusal) => return Err(ReadRefusal::of_line(refusal, count)),
         }
     }
     Ok(Lines {
@@ -56,7 +56,7 @@ fn read_lines(alloc: Global, bytes: &[u8]) -> Result<Lines, ReadRefusal>
 /// line and the first check that it fails.
 pub fn read(alloc: Global, bytes: &[u8]) -> Result<(Pla, usize), ReadRefusal>
     requires { length bytes.now < 2 ^ 32 }
-    ensures reading { Answers result (reading_of bytes.now) }
+    ensures reading { GivesReading result (reading_of bytes.now) }
     ensures taken { IfOk result (λ answer. answer.1 ≡ bytes_taken bytes.now) }
     ensures within { IfOk result (λ answer. answer.1 ≤ length bytes.now) }
 {

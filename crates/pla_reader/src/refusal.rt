@@ -1,9 +1,10 @@
 //! Why a description was not read.
 ghost use Rattle.std.specs.Prelude.{◌≡◌};
 ghost use Rattle.pla_reader.specs.declared.refusal.LineRefusal.TheVariants.{Bad, Memory};
-ghost use Rattle.pla_reader.specs.Parts.{refused};
+ghost use Rattle.pla_reader.specs.Causes.{why_name};
+ghost use Rattle.pla_reader.specs.Parts.{read_refusal};
 
-use std::alloc::AllocError;
+use std::alloc::{AllocError, AllocFailed};
 
 /// What is wrong with a line, or with the description as a whole.
 #[derive(Clone, Copy, Debug, PartialEq, Eq)]
@@ -38,6 +39,30 @@ pub enum Why {
     NoSize,
 }
 
+impl Why {
+    /// The name of the cause, by which a line of the status tells of it.
+    pub fn name(self) -> &'static str
+        ensures { result.now ≡ why_name self }
+    {
+        match self {
+            Why::BadByte => "BadByte",
+            Why::BadNumber => "BadNumber",
+            Why::SizeRange => "SizeRange",
+            Why::Twice => "Twice",
+            Why::TypeLate => "TypeLate",
+            Why::BadType => "BadType",
+            Why::NamesEarly => "NamesEarly",
+            Why::NameCount => "NameCount",
+            Why::Unsupported => "Unsupported",
+            Why::RowBeforeSize => "RowBeforeSize",
+            Why::RowLength => "RowLength",
+            Why::BadSymbol => "BadSymbol",
+            Why::TooManyRows => "TooManyRows",
+            Why::NoSize => "NoSize",
+        }
+    }
+}
+
 /// The first bad line of a description, counted from 1, and the first check that it fails.
 ///
 /// For `NoSize` it is the line of the command that ended the description, else the number of lines.
@@ -54,45 +79,53 @@ pub enum ReadRefusal {
     Memory,
 }
 
-/// Why a line was not read.
+/// Why a line was not read: it has this fault, or there was no memory.
 #[derive(Clone, Copy)]
-pub enum LineRefusal {
-    Bad(Why),
+pub enum LineRefusal<W: Copy> {
+    Bad(W),
     Memory,
 }
 
-impl LineRefusal {
-    /// The refusal, at the line of this number.
-    pub fn at(self, line: u32) -> ReadRefusal
-        ensures { result ≡ refused self line }
+impl ReadRefusal {
+    /// The refusal of the line of this number.
+    pub fn of_line(refusal: LineRefusal<Why>, line: u32) -> ReadRefusal
+        ensures { result ≡ read_refusal refusal line }
     {
-        match self {
+        match refusal {
             LineRefusal::Bad(why) => ReadRefusal::Bad(Refusal { line, why }),
             LineRefusal::Memory => ReadRefusal::Memory,
         }
     }
 }
 
-impl From<Why> for LineRefusal {
+impl From<Why> for LineRefusal<Why> {
     ghost from_gives = { λ why e. e ≡ Bad why };
 
-    fn from(why: Why) -> LineRefusal {
+    fn from(why: Why) -> LineRefusal<Why> {
         LineRefusal::Bad(why)
     }
 }
 
-impl From<AllocError> for LineRefusal {
+impl<W: Copy> From<AllocError> for LineRefusal<W> {
     ghost from_gives = { λ _ e. e ≡ Memory };
 
-    fn from(_e: AllocError) -> LineRefusal {
+    fn from(_e: AllocError) -> LineRefusal<W> {
         LineRefusal::Memory
     }
 }
 
-impl From<lattice::Memory> for LineRefusal {
+impl<W: Copy, T: Drop> From<AllocFailed<T>> for LineRefusal<W> {
     ghost from_gives = { λ _ e. e ≡ Memory };
 
-    fn from(_e: lattice::Memory) -> LineRefusal {
+    fn from(_e: AllocFailed<T>) -> LineRefusal<W> {
+        LineRefusal::Memory
+    }
+}
+
+impl<W: Copy> From<lattice::Memory> for LineRefusal<W> {
+    ghost from_gives = { λ _ e. e ≡ Memory };
+
+    fn from(_e: lattice::Memory) -> LineRefusal<W> {
         LineRefusal::Memory
     }
 }

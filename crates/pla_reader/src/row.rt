@@ -1,9 +1,10 @@
 //! The rows of a description.
-ghost use Rattle.std.specs.Prelude.{◌≡◌, ◌≤◌, ℕ, length, take, drop, Option, Some, None, IfSome, MatchOption, MatchResult, if◌then◌else◌};
+ghost use Rattle.std.specs.Prelude.{◌≡◌, ◌≤◌, ◌&&◌, ℕ, codes, length, take, drop, Option, Some, None, IfSome, MatchOption, MatchResult, if◌then◌else◌};
 ghost use Rattle.std.specs.List.{list_all};
+ghost use Rattle.lattice.specs.declared.limits.TheConstants.{MAX_VARS};
 ghost use Rattle.pla_reader.specs.Description.{has_off, has_dc};
-ghost use Rattle.pla_reader.specs.Grammar.{is_symbol, symbols, is_input_symbol, is_output_symbol, row_fault};
-ghost use Rattle.pla_reader.specs.Reading.{is_fixed, is_one, is_on, is_off, is_dc, input_mask, output_mask, row_of};
+ghost use Rattle.pla_reader.specs.Grammar.{is_symbol, symbols, is_one_of, is_input_symbol, is_output_symbol, row_fault};
+ghost use Rattle.pla_reader.specs.Reading.{input_mask, output_mask, row_of};
 
 use crate::lines::is_blank;
 use crate::refusal::Why;
@@ -65,24 +66,24 @@ struct Cube {
 
 /// Whether the symbol fixes its input.
 fn is_fixed(symbol: u8) -> bool
-    ensures { result ≡ is_fixed symbol }
+    ensures { result ≡ is_one_of (codes "01") symbol }
 {
     symbol == b'0' || symbol == b'1'
 }
 
 /// Whether the symbol fixes its input to 1.
-fn is_one(symbol: u8) -> bool
-    ensures { result ≡ is_one symbol }
+fn fixes_to_one(symbol: u8) -> bool
+    ensures { result ≡ is_one_of (codes "1") symbol }
 {
     symbol == b'1'
 }
 
 /// The cube of the symbols of a line, one for each input.
 fn cube_of(line: &[u8]) -> Option<Cube>
-    requires { length (symbols line.now) ≤ 62 }
+    requires { length (symbols line.now) ≤ MAX_VARS }
     ensures { result ≡ (if list_all is_input_symbol (symbols line.now) then Some (record {
-      care = input_mask is_fixed (symbols line.now);
-      value = input_mask is_one (symbols line.now);
+      care = input_mask (is_one_of (codes "01")) (symbols line.now);
+      value = input_mask (is_one_of (codes "1")) (symbols line.now);
     }) else None) }
 {
     let mut cube = Cube { care: 0, value: 0 };
@@ -93,38 +94,38 @@ fn cube_of(line: &[u8]) -> Option<Cube>
             }
             cube = Cube {
                 care: 2 * cube.care + u64::from(is_fixed(*byte)),
-                value: 2 * cube.value + u64::from(is_one(*byte)),
+                value: 2 * cube.value + u64::from(fixes_to_one(*byte)),
             };
         }
     }
     Some(cube)
 }
 
-/// The outputs whose ON, OFF and DC a row's cube is in. The first output has weight 1.
+/// For each of ON, OFF and DC the outputs that have a cube or a point in it, as a mask. The first output has weight 1.
 #[derive(Clone, Copy)]
-struct Marks {
-    on: u64,
-    off: u64,
-    dc: u64,
+pub struct Marks {
+    pub on: u64,
+    pub off: u64,
+    pub dc: u64,
 }
 
 /// Whether the symbol puts the cube into ON.
 fn is_on(symbol: u8) -> bool
-    ensures { result ≡ is_on symbol }
+    ensures { result ≡ is_one_of (codes "14") symbol }
 {
     symbol == b'1' || symbol == b'4'
 }
 
 /// Whether the symbol puts the cube into OFF, where the type has it.
 fn is_off(kind: Kind, symbol: u8) -> bool
-    ensures { result ≡ is_off kind symbol }
+    ensures { result ≡ (has_off kind && is_one_of (codes "0") symbol) }
 {
     matches!(kind, Kind::Fr | Kind::Fdr) && symbol == b'0'
 }
 
 /// Whether the symbol puts the cube into DC, where the type has it.
 fn is_dc(kind: Kind, symbol: u8) -> bool
-    ensures { result ≡ is_dc kind symbol }
+    ensures { result ≡ (has_dc kind && is_one_of (codes "-2") symbol) }
 {
     matches!(kind, Kind::Fd | Kind::Fdr) && (symbol == b'-' || symbol == b'2')
 }
@@ -133,9 +134,9 @@ fn is_dc(kind: Kind, symbol: u8) -> bool
 fn marks_of(kind: Kind, line: &[u8]) -> Option<Marks>
     requires { length (symbols line.now) ≤ 64 }
     ensures { result ≡ (if list_all is_output_symbol (symbols line.now) then Some (record {
-      on = output_mask is_on (symbols line.now);
-      off = output_mask (is_off kind) (symbols line.now);
-      dc = output_mask (is_dc kind) (symbols line.now);
+      on = output_mask (is_one_of (codes "14")) (symbols line.now);
+      off = output_mask (λ symbol. has_off kind && is_one_of (codes "0") symbol) (symbols line.now);
+      dc = output_mask (λ symbol. has_dc kind && is_one_of (codes "-2") symbol) (symbols line.now);
     }) else None) }
 {
     let mut marks = Marks {
@@ -169,7 +170,7 @@ pub fn row_in(
     number: u32,
     line: &[u8],
 ) -> Result<Row, Why>
-    requires { IfSome sizes (λ s. (s.0 ≤ 62) × (s.1 ≤ 64)) }
+    requires { IfSome sizes (λ s. (s.0 ≤ MAX_VARS) × (s.1 ≤ 64)) }
     ensures { MatchResult result
         (λ row. (row_fault sizes rows line.now ≡ None) × IfSome sizes (λ s. row ≡ row_of s.0 kind number line.now))
         (λ why. row_fault sizes rows line.now ≡ Some why) }

@@ -1,58 +1,59 @@
 -- Each event leaves a state that fits, over every list of events.
-use Rattle.std.proofs.Common.{◌≡◌, ◌≢◌, ℕ, zero, suc, ◌+◌, ◌^◌, ◌<◌, ◌≤◌, Result, Ok, Err, OnOk, OnErr, true, false, cond, ◌==◌, if◌then◌else◌, eq-eqb, ne_eqb, List, [], ◌∷◌, ◌++◌, length, replicate, take, slice_index, get_or, set, sym, refl, ap, ◌∙◌, subst, arith, get_or-set_same}
+use Rattle.std.proofs.Common.{◌≡◌, ◌≢◌, ℕ, zero, suc, ◌+◌, ◌^◌, ◌<◌, ◌≤◌, Result, Ok, Err, OnOk, OnErr, true, false, cond, ◌==◌}
+use Rattle.std.proofs.Common.{if◌then◌else◌, eq-eqb, ne_eqb, List, [], ◌∷◌, ◌++◌, length, replicate, take, slice_index, get_or, set, sym}
+use Rattle.std.proofs.Common.{refl, ap, ◌∙◌, subst, arith, get_or-set_same}
 use Rattle.std.specs.List.{All}
 use Rattle.std.proofs.lemmas.List.{length-replicate, get_or-replicate, get_or_default, take_more}
 use Rattle.std.proofs.lemmas.List.Elements.{All-nil, All-cons, All-head, All-tail, All-push, All-set, All-weaker}
 use mathlib.Core.Logic.{dite}
 use native.Mathlib.Decide.{ℕ_discrete}
+use Rattle.lattice.specs.declared.limits.TheConstants.{MAX_BITS}
 use Rattle.lattice.specs.NodeWords.{lo_of, hi_of, place}
 use Rattle.lattice.specs.Tables.{IsFilled, IsHandle, IsCanonical, MayFill, KeepsWords}
-use Rattle.lattice.proofs.Fills.{fills, filling_grows, node_some, filled_within}
-use Rattle.lattice.proofs.Legal.{legal}
+use Rattle.lattice.proofs.Diagrams.{fills, filling_grows, filled_within, node_some, legal, denoted, met_slot}
 use Rattle.node_store.specs.declared.store.Handle.{Handle}
 use Rattle.probe_core.specs.declared.event.Event.{Event}
 use Rattle.probe_core.specs.declared.event.Event.TheVariants.{Load, Exchange, Split, Join}
 use Rattle.probe_core.specs.declared.event.Seen.{Seen}
 use Rattle.lattice.specs.declared.memory.Memory.{Memory}
-use Rattle.probe_core.specs.States.{SeatState, State}
+use Rattle.probe_core.specs.Machines.{SeatState, Machine}
 use Rattle.probe_core.specs.Seats.{handle, met_more, first_seat, twin, joined, ended}
 use Rattle.probe_core.specs.Events.{start, no_seat, seat_at, MayExchange, MayTake, meets, takes, after, seen, after_all, MayTakeAll}
-use Rattle.probe_core.specs.Soundness.{HasFamily, IsSoundSeat, IsSound, IsLawful}
-use Rattle.probe_core.proofs.Places.{place_below}
-use Rattle.probe_core.proofs.Totality.{denoted}
-use Rattle.probe_core.proofs.MetEntries.{met_slot}
-use Rattle.probe_core.proofs.SeatLemmas.{IsHandleOf, SeatFits, seat_grows, no_seat_fits, knows-all, meeting_fits, joined_fits, twin_fits, ended_fits}
+use Rattle.probe_core.specs.Soundness.{HasFamily, IsSoundSeat, IsSoundMachine, IsLawful}
+use Rattle.probe_core.proofs.Places.{place_below, small_place}
+use Rattle.probe_core.proofs.SeatLemmas.{IsHandleOf, SeatFits, seat_grows, no_seat_fits, knows-all, meeting_fits, joined_fits}
+use Rattle.lattice.proofs.Diagrams.{none_filled}
 
 -- the seat fits the table
-abbrev pub IsSeated : State → SeatState → Type 0
+abbrev pub IsSeated : Machine → SeatState → Type 0
 IsSeated s = SeatFits (2 ^ s.bits) s.words
 
 -- what each event keeps, and all else follows from: the table is canonical, and each seat fits it
-pub record Fits (s : State) : Type 0 where
+pub record Fits (s : Machine) : Type 0 where
   pub canonical : IsCanonical s.bits s.vars s.words
   pub seats : All (IsSeated s) s.seats
 
-abbrev Knows : State → Handle → Type 0
+abbrev Knows : Machine → Handle → Type 0
 Knows s h = HasFamily s.vars s.words h.0
 
 -- ---- sound states are those that fit
 
-family_of : (s : State) → Fits s → (h : ℕ) → IsHandle s.words h → HasFamily s.vars s.words h
+family_of : (s : Machine) → Fits s → (h : ℕ) → IsHandle s.words h → HasFamily s.vars s.words h
 family_of s fits h is =
     let f = denoted s.bits s.vars s.words fits.canonical h is in record { is_handle = is; family = f.0; denotes = f.1 }
 
-pub sound : (s : State) → Fits s → IsSound s
+pub sound : (s : Machine) → Fits s → IsSoundMachine s
 sound s fits = record {
   canonical = fits.canonical;
   slots = λ i is. family_of s fits (suc (suc i)) is;
   seats = All-weaker (IsSeated s) (IsSoundSeat s) (λ seat f. record {
     fits = f.met;
-    legal = legal s.bits s.vars s.words fits.canonical (2 ^ s.bits) refl seat.met f.met;
+    legal = legal s.bits s.vars s.words fits.canonical seat.met f.met;
     known = All-weaker (IsHandleOf s.words) (Knows s) (λ h is. family_of s fits h.0 is) seat.known f.known;
   }) s.seats fits.seats;
 }
 
-pub fitting : (s : State) → IsSound s → Fits s
+pub fitting : (s : Machine) → IsSoundMachine s → Fits s
 fitting s is = record {
   canonical = is.canonical;
   seats = All-weaker (IsSoundSeat s) (IsSeated s) (λ seat f. record {
@@ -62,11 +63,6 @@ fitting s is = record {
 }
 
 -- ---- the first state
-
-none_filled : (n i : ℕ) → IsFilled (replicate n 0) i → ⊥
-none_filled n i is =
-    let inside : i < length (replicate n 0) = filled_within (replicate n 0) i is in
-    is (get_or-replicate n i 0 0 (subst (λ (k : ℕ). i < k) (length-replicate n 0) inside))
 
 pub start_fits : (bits vars : ℕ) → Fits (start bits vars)
 start_fits bits vars = record {
@@ -79,7 +75,8 @@ start_fits bits vars = record {
   seats =
       let Is = IsHandleOf (replicate (2 ^ bits) 0) in
       let Fit = IsSeated (start bits vars) in
-      let constants : All Is (handle 0 ∷ handle 1 ∷ []) = All-cons Is (handle 0) (handle 1 ∷ []) tt (All-cons Is (handle 1) [] tt (All-nil Is)) in
+      let constants : All Is (handle 0 ∷ handle 1 ∷ []) = All-cons Is (handle 0) (handle 1 ∷ []) tt
+      (All-cons Is (handle 1) [] tt (All-nil Is)) in
       All-cons Fit first_seat [] (record { met = tt; known = constants }) (All-nil Fit);
 }
 
@@ -90,15 +87,15 @@ at_or P [] i d is all = is
 at_or P (x ∷ xs) zero d is all = All-head P x xs all
 at_or P (x ∷ xs) (suc i) d is all = at_or P xs i d is (All-tail P x xs all)
 
-seat_fits : (s : State) → Fits s → (id : ℕ) → IsSeated s (seat_at s id)
+seat_fits : (s : Machine) → Fits s → (id : ℕ) → IsSeated s (seat_at s id)
 seat_fits s fits id = at_or (IsSeated s) s.seats id no_seat (no_seat_fits (2 ^ s.bits) s.words) fits.seats
 
 -- an exchange is made at a place of the table
-within : (s : State) (seat : SeatState) (at w : ℕ) → MayExchange s seat at w → at < 2 ^ s.bits
+pub within : (s : Machine) (seat : SeatState) (at w : ℕ) → MayExchange s seat at w → at < 2 ^ s.bits
 within s seat at w may = let p = may.probed in subst (λ (k : ℕ). k < 2 ^ s.bits) p.there (place_below s.bits w p.steps)
 
 -- what lets a seat exchange a word at a vacant place lets the place be filled
-may_fill : (s : State) → Fits s → (id at w : ℕ) → MayExchange s (seat_at s id) at w → MayFill s.bits s.vars s.words at w
+may_fill : (s : Machine) → Fits s → (id at w : ℕ) → MayExchange s (seat_at s id) at w → MayFill s.bits s.vars s.words at w
 may_fill s fits id at w may =
     let seat = seat_at s id in
     let f = seat_fits s fits id in
@@ -123,14 +120,14 @@ may_fill s fits id at w may =
     }
 
 -- a seat meets a filled slot
-meets_fit : (s : State) → Fits s → (id at w : ℕ) → slice_index s.words at ≡ w → w ≢ 0 → Fits (meets s id at w)
+meets_fit : (s : Machine) → Fits s → (id at w : ℕ) → slice_index s.words at ≡ w → w ≢ 0 → Fits (meets s id at w)
 meets_fit s fits id at w found some =
     let seat = seat_at s id in
     let met = meeting_fits s.words s.bits s.vars fits.canonical at w found some (2 ^ s.bits) seat (seat_fits s fits id) in
     record { canonical = fits.canonical; seats = All-set (IsSeated s) s.seats id (met_more seat at w) met fits.seats }
 
 -- a vacant place takes a word
-takes_fit : (s : State) → Fits s → (id at w : ℕ) → slice_index s.words at ≡ 0
+takes_fit : (s : Machine) → Fits s → (id at w : ℕ) → slice_index s.words at ≡ 0
     → MayExchange s (seat_at s id) at w → Fits (takes s at w)
 takes_fit s fits id at w vacant may =
     let fill = may_fill s fits id at w may in
@@ -141,7 +138,7 @@ takes_fit s fits id at w vacant may =
     }
 
 -- the same where the seat that exchanged the word meets its slot
-won_fits : (s : State) → Fits s → (id at w : ℕ) → slice_index s.words at ≡ 0
+won_fits : (s : Machine) → Fits s → (id at w : ℕ) → slice_index s.words at ≡ 0
     → MayExchange s (seat_at s id) at w → Fits (takes (meets s id at w) at w)
 won_fits s fits id at w vacant may =
     let inside = subst (λ (k : ℕ). at < k) (sym (fits.canonical).size) (within s (seat_at s id) at w may) in
@@ -150,7 +147,7 @@ won_fits s fits id at w vacant may =
     meets_fit (takes s at w) (takes_fit s fits id at w vacant may) id at w here some
 
 -- by whether the place is vacant
-by_place : (P : State → Type 0) (s t u : State) (at : ℕ) → (slice_index s.words at ≡ 0 → P t) → (slice_index s.words at ≢ 0 → P u)
+by_place : (P : Machine → Type 0) (s t u : Machine) (at : ℕ) → (slice_index s.words at ≡ 0 → P t) → (slice_index s.words at ≢ 0 → P u)
     → P (if slice_index s.words at == 0 then t else u)
 by_place P s t u at vacant filled =
     let found : ℕ = slice_index s.words at in
@@ -158,7 +155,7 @@ by_place P s t u at vacant filled =
     (λ none. subst (λ b. P (cond b t u)) (sym (eq-eqb found 0 none)) (vacant none))
     (λ some. subst (λ b. P (cond b t u)) (sym (ne_eqb found 0 some)) (filled some))
 
-pub after_fits : (s : State) (e : Event) → Fits s → MayTake s e → Fits (after s e)
+pub after_fits : (s : Machine) (e : Event) → Fits s → MayTake s e → Fits (after s e)
 after_fits s (Load id at) fits may =
     let w : ℕ = slice_index s.words at in by_place Fits s s (meets s id at w) at (λ none. fits) (meets_fit s fits id at w refl)
 after_fits s (Exchange id at w) fits may =
@@ -167,22 +164,22 @@ after_fits s (Exchange id at w) fits may =
     (λ none. won_fits s fits id at w none may.1)
     (meets_fit s fits id at found refl)
 after_fits s (Split id) fits may =
-    let seat = seat_at s id in
-    let new = twin_fits s.words (2 ^ s.bits) seat (seat_fits s fits id) in
-    record { canonical = fits.canonical; seats = All-push (IsSeated s) s.seats (twin seat) fits.seats new }
+    let new : IsSeated s (twin (seat_at s id)) = record { met = tt; known = (seat_fits s fits id).known } in
+    record { canonical = fits.canonical; seats = All-push (IsSeated s) s.seats (twin (seat_at s id)) fits.seats new }
 after_fits s (Join id other) fits may =
     let a = seat_at s id in
     let b = seat_at s other in
     let both = joined_fits s.words (2 ^ s.bits) a b (seat_fits s fits id) (seat_fits s fits other) in
-    let end = ended_fits s.words (2 ^ s.bits) b (seat_fits s fits other) in
+    let last = seat_fits s fits other in
+    let end : IsSeated s (ended b) = record { met = last.met; known = last.known } in
     let first = All-set (IsSeated s) s.seats id (joined a b) both fits.seats in
     record { canonical = fits.canonical; seats = All-set (IsSeated s) (set s.seats id (joined a b)) other (ended b) end first }
 
 -- no event changes the word of a filled slot
-abbrev IsKept : State → State → Type 0
+abbrev IsKept : Machine → Machine → Type 0
 IsKept s t = KeepsWords s.words t.words
 
-pub after_keeps : (s : State) (e : Event) → IsKept s (after s e)
+pub after_keeps : (s : Machine) (e : Event) → IsKept s (after s e)
 after_keeps s (Load id at) = by_place (IsKept s) s s (meets s id at (slice_index s.words at)) at (λ none j is. refl) (λ some j is. refl)
 after_keeps s (Exchange id at w) =
     by_place (IsKept s) s (takes (meets s id at w) at w) (meets s id at (slice_index s.words at)) at
@@ -191,51 +188,55 @@ after_keeps s (Exchange id at w) =
 after_keeps s (Split id) = λ j is. refl
 after_keeps s (Join id other) = λ j is. refl
 
-pub exchanged_within : (s : State) (id at w bits : ℕ) → bits ≡ s.bits → MayTake s (Exchange id at w) → at < 2 ^ bits
-exchanged_within s id at w bits same may = subst (λ (b : ℕ). at < 2 ^ b) (sym same) (within s (seat_at s id) at w may.1)
+-- a place of the table of s, where s is held as t
+pub held_within : (s t : Machine) (at : ℕ) → t ≡ s → t.bits ≤ MAX_BITS → length t.words ≡ 2 ^ t.bits → at < 2 ^ s.bits
+    → (at < length t.words) × (at < 2 ^ MAX_BITS)
+held_within s t at same small size less =
+    let within_t : at < 2 ^ t.bits = subst (λ (m : Machine). at < 2 ^ m.bits) (sym same) less in
+    (subst (λ (n : ℕ). at < n) (sym size) within_t, small_place t.bits at small within_t)
 
 -- an exchange at a place that is not vacant is a load
-pub lost_after : (s : State) (id at w : ℕ) → slice_index s.words at ≢ 0
+pub lost_after : (s : Machine) (id at w : ℕ) → slice_index s.words at ≢ 0
     → after s (Load id at) ≡ after s (Exchange id at w)
 lost_after s id at w some =
     let no = ne_eqb (slice_index s.words at) 0 some in
     let t = meets s id at (slice_index s.words at) in
     ap (λ b. cond b s t) no ∙ ap (λ b. cond b (takes (meets s id at w) at w) t) (sym no)
 
-pub lost_seen : (s : State) (id at w : ℕ) → slice_index s.words at ≢ 0 → seen s (Load id at) ≡ seen s (Exchange id at w)
+pub lost_seen : (s : Machine) (id at w : ℕ) → slice_index s.words at ≢ 0 → seen s (Load id at) ≡ seen s (Exchange id at w)
 lost_seen s id at w some =
     let no = ne_eqb (slice_index s.words at) 0 some in
     let won : Seen = record { word = w; won = true } in
     let t : Seen = record { word = slice_index s.words at; won = false } in ap (λ b. cond b won t) (sym no)
 
 -- a word other than 0 that was read at a place of the table
-pub some_word : (s : State) (ws : List ℕ) (at x : ℕ) → ws ≡ s.words → at < length ws → x ≡ get_or ws at x → x ≢ 0
+pub some_word : (s : Machine) (ws : List ℕ) (at x : ℕ) → ws ≡ s.words → at < length ws → x ≡ get_or ws at x → x ≢ 0
     → slice_index s.words at ≢ 0
 some_word s ws at x same less is some none =
     let read : x ≡ slice_index ws at = is ∙ get_or_default ws at x 0 less in
     some (read ∙ (ap (λ (l : List ℕ). slice_index l at) same ∙ none))
 
 -- a state stays sound, by the clauses of a call that takes the event
-pub stays_sound : (s t : State) (e e' : Event) (r : Result Seen Memory) → e ≡ e' → MayTake s e → OnOk r (t ≡ after s e') → OnErr r (t ≡ s)
-    → IsSound s → IsSound t
+pub stays_sound : (s t : Machine) (e e' : Event) (r : Result Seen Memory) → e ≡ e' → MayTake s e → OnOk r (t ≡ after s e') → OnErr r (t ≡ s)
+    → IsSoundMachine s → IsSoundMachine t
 stays_sound s t e e' (Ok seen) same may ok err is =
-    subst IsSound (sym ok) (sound (after s e') (after_fits s e' (fitting s is) (subst (MayTake s) same may)))
-stays_sound s t e e' (Err none) same may ok err is = subst IsSound (sym err) is
+    subst IsSoundMachine (sym ok) (sound (after s e') (after_fits s e' (fitting s is) (subst (MayTake s) same may)))
+stays_sound s t e e' (Err none) same may ok err is = subst IsSoundMachine (sym err) is
 
 -- ---- lists of events
 
 -- one event more
-pub MayTakeAll-push : (s : State) (es : List Event) (e : Event) → MayTakeAll s es → MayTake (after_all s es) e
+pub MayTakeAll-push : (s : Machine) (es : List Event) (e : Event) → MayTakeAll s es → MayTake (after_all s es) e
     → MayTakeAll s (es ++ e ∷ [])
 MayTakeAll-push s [] e may last = (last, tt)
 MayTakeAll-push s (x ∷ es) e may last = (may.0, MayTakeAll-push (after s x) es e may.1 last)
 
-pub after_all-push : (s : State) (es : List Event) (e : Event) → after_all s (es ++ e ∷ []) ≡ after (after_all s es) e
+pub after_all-push : (s : Machine) (es : List Event) (e : Event) → after_all s (es ++ e ∷ []) ≡ after (after_all s es) e
 after_all-push s [] e = refl
 after_all-push s (x ∷ es) e = after_all-push (after s x) es e
 
 -- the step of a loop that takes the events in turn
-pub taken_more : (s : State) (es : List Event) (i : ℕ) (d : Event) (t u : State) → i < length es
+pub taken_more : (s : Machine) (es : List Event) (i : ℕ) (d : Event) (t u : Machine) → i < length es
     → MayTakeAll s (take i es) → t ≡ after_all s (take i es) → MayTake t (get_or es i d) → u ≡ after t (get_or es i d)
     → MayTakeAll s (take (i + 1) es) × (u ≡ after_all s (take (i + 1) es))
 taken_more s es i d t u less may is last now =
@@ -245,18 +246,18 @@ taken_more s es i d t u less may is last now =
       now ∙ (ap (λ v. after v e) is ∙ (sym (after_all-push s (take i es) e) ∙ ap (after_all s) more)),
     )
 
-run_fits : (s : State) (es : List Event) → Fits s → MayTakeAll s es → (n : ℕ) → Fits (after_all s (take n es))
+run_fits : (s : Machine) (es : List Event) → Fits s → MayTakeAll s es → (n : ℕ) → Fits (after_all s (take n es))
 run_fits s es fits may zero = fits
 run_fits s [] fits may (suc n) = fits
 run_fits s (e ∷ es) fits may (suc n) = run_fits (after s e) es (after_fits s e fits may.0) may.1 n
 
-kept_from : (s : State) (es : List Event) → IsKept s (after_all s es)
+kept_from : (s : Machine) (es : List Event) → IsKept s (after_all s es)
 kept_from s [] = λ j is. refl
 kept_from s (e ∷ es) = λ j is.
     let one = after_keeps s e j is in
     kept_from (after s e) es j (λ none. is (sym one ∙ none)) ∙ one
 
-run_keeps : (s : State) (es : List Event) (n m : ℕ) → n ≤ m → IsKept (after_all s (take n es)) (after_all s (take m es))
+run_keeps : (s : Machine) (es : List Event) (n m : ℕ) → n ≤ m → IsKept (after_all s (take n es)) (after_all s (take m es))
 run_keeps s es zero m less = kept_from s (take m es)
 run_keeps s [] (suc n) zero less = λ j is. refl
 run_keeps s [] (suc n) (suc m) less = λ j is. refl

@@ -1,8 +1,6 @@
-pub mod Places
-pub mod Probing
-pub mod Totality
-pub mod MetEntries
-pub mod SeatLemmas
-pub mod EventLemmas
-pub mod NodeLemmas
-pub mod KnownMaps
+mod Places
+mod Probing
+mod SeatLemmas
+mod EventLemmas
+mod NodeLemmas
+pub mod ProbedWords

@@ -1,52 +1,33 @@
 -- The arithmetic of a probe path.
 use Rattle.std.proofs.Common.{◌≡◌, ℕ, ◌+◌, ◌-◌, ◌*◌, ◌/◌, ◌%◌, ◌^◌, ◌<◌, ◌≤◌, sym, ap, ◌∙◌, subst, pow-add, arith}
-use Rattle.std.proofs.Math.Pow.{pow_mono}
-use Rattle.std.proofs.Math.Nat.{mod-eq_of_lt, mod-lt}
+use Rattle.std.proofs.Math.Nat.{mod-lt}
 use Rattle.std.proofs.lemmas.Nat.{pow_pos, div_below}
-use Rattle.lattice.specs.NodeWords.{place}
+use Rattle.lattice.specs.NodeWords.{mixed, place}
+use Rattle.lattice.specs.declared.limits.TheConstants.{MAX_BITS, MIXING}
+use Rattle.lattice.proofs.Diagrams.{shifted_one, slots_most}
 
-small_size : (b : ℕ) → b ≤ 20 → 2 ^ b ≤ 1048576
-small_size b le = pow_mono le
-
--- `1 << b` is 2 ^ b
-pub shifted_one : (b : ℕ) → b ≤ 20 → 1 * 2 ^ b % 18446744073709551616 ≡ 2 ^ b
-shifted_one b le =
-    let n : ℕ = 2 ^ b in
-    let s : n ≤ 1048576 = small_size b le in
-    let one : 1 * n ≡ n = omega arith in
-    ap (λ (k : ℕ). k % 18446744073709551616) one ∙ mod-eq_of_lt (omega arith)
-
-start_below : (b w : ℕ) → b ≤ 20 → w * 11400714819323198485 % 18446744073709551616 / 2 ^ (64 - b) < 2 ^ b
+start_below : (b w : ℕ) → b ≤ MAX_BITS → mixed b w < 2 ^ b
 start_below b w le =
-    let x : ℕ = w * 11400714819323198485 % 18446744073709551616 in
-    let less : x < 18446744073709551616 = mod-lt (w * 11400714819323198485) (omega arith) in
     let sum : b + (64 - b) ≡ 64 = omega arith in
-    let whole : 2 ^ b * 2 ^ (64 - b) ≡ 18446744073709551616 = sym (pow-add 2 b (64 - b)) ∙ ap (λ (k : ℕ). 2 ^ k) sum in
-    div_below x (2 ^ (64 - b)) (2 ^ b) (pow_pos (64 - b)) (subst (λ (k : ℕ). x < k) (sym whole) less)
+    let whole : 2 ^ b * 2 ^ (64 - b) ≡ 2 ^ 64 = sym (pow-add 2 b (64 - b)) ∙ ap (λ (k : ℕ). 2 ^ k) sum in
+    div_below (w * MIXING % 2 ^ 64) (2 ^ (64 - b)) (2 ^ b) (pow_pos (64 - b))
+    (subst (λ (k : ℕ). w * MIXING % 2 ^ 64 < k) (sym whole) (mod-lt (w * MIXING) (omega arith)))
 
-pub start_fits : (b w d : ℕ) → b ≤ 20 → d < 2 ^ b
-    → w * 11400714819323198485 % 18446744073709551616 / 2 ^ (64 - b) + d < 2097152
+pub start_fits : (b w d : ℕ) → b ≤ MAX_BITS → d < 2 ^ b → mixed b w + d < 2 ^ 24
 start_fits b w d le less =
-    let x : ℕ = w * 11400714819323198485 % 18446744073709551616 / 2 ^ (64 - b) in
-    let n : ℕ = 2 ^ b in
-    let h : x < n = start_below b w le in
-    let h' : d < n = less in
-    let s : n ≤ 1048576 = small_size b le in omega arith
+    let start : mixed b w < 2 ^ b = start_below b w le in
+    let most : 2 ^ b ≤ 2 ^ MAX_BITS = slots_most b le in omega (arith, start, most)
 
-pub place_is : (b w d : ℕ) → b ≤ 20
-    → (w * 11400714819323198485 % 18446744073709551616 / 2 ^ (64 - b) + d) % (1 * 2 ^ b % 18446744073709551616) ≡ place b w d
+pub place_is : (b w d : ℕ) → b ≤ MAX_BITS → (mixed b w + d) % (1 * 2 ^ b % 18446744073709551616) ≡ place b w d
 unfolding place
-place_is b w d le =
-    let sum : ℕ = w * 11400714819323198485 % 18446744073709551616 / 2 ^ (64 - b) + d in ap (λ (k : ℕ). sum % k) (shifted_one b le)
+place_is b w d le = ap (λ (k : ℕ). (mixed b w + d) % k) (shifted_one b le)
 
 -- a place of a path is within the table
 pub place_below : (b w d : ℕ) → place b w d < 2 ^ b
 unfolding place
 place_below b w d = mod-lt _ (pow_pos b)
 
--- a place of a small table is a small number
-pub small_place : (b at : ℕ) → b ≤ 20 → at < 2 ^ b → at < 1048576
+-- a place of a table is a small number
+pub small_place : (b at : ℕ) → b ≤ MAX_BITS → at < 2 ^ b → at < 2 ^ MAX_BITS
 small_place b at le less =
-    let n : ℕ = 2 ^ b in
-    let h : at < n = less in
-    let s : n ≤ 1048576 = small_size b le in omega arith
+    let most : 2 ^ b ≤ 2 ^ MAX_BITS = slots_most b le in omega (arith, most)

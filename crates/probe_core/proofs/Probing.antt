@@ -3,7 +3,7 @@ use Rattle.std.proofs.Common.{◌≡◌, ◌≢◌, ℕ, ◌+◌, ◌^◌, ◌<�
 use borrow.Author.Count.{below_more}
 use Rattle.lattice.specs.declared.entry.Entry.{Entry}
 use Rattle.lattice.specs.NodeWords.{place}
-use Rattle.lattice.proofs.Fills.{ℕ_trichotomy}
+use Rattle.lattice.proofs.Diagrams.{ℕ_trichotomy}
 use Rattle.probe_core.specs.Events.{HasPassed, HasProbed}
 
 -- no place of the first steps is the one sought, and each was met with another word

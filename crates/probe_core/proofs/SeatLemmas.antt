@@ -1,5 +1,6 @@
 -- What a seat has fits the table, and stays fitting where the seat learns.
-use Rattle.std.proofs.Common.{◌≡◌, ◌≢◌, ℕ, suc, ◌+◌, Bool, true, false, cond, ◌&&◌, eqb, inl, inr, List, [], ◌∷◌, ◌++◌, slice_index, sym, ◌∙◌, subst, arith}
+use Rattle.std.proofs.Common.{◌≡◌, ◌≢◌, ℕ, suc, ◌+◌, Bool, true, false, cond, ◌&&◌, eqb, inl, inr, List, [], ◌∷◌, ◌++◌, slice_index, sym}
+use Rattle.std.proofs.Common.{◌∙◌, subst, arith}
 use Rattle.std.specs.List.{All}
 use Rattle.std.proofs.lemmas.List.Elements.{All-nil, All-head, All-tail, All-push, All-weaker}
 use Rattle.std.proofs.lemmas.Bool.{or_cases, eqb-true}
@@ -7,13 +8,11 @@ use Rattle.lattice.specs.declared.entry.Entry.TheVariants.{Met}
 use Rattle.lattice.specs.NodeWords.{lo_of, hi_of}
 use Rattle.lattice.specs.Tables.{IsFilled, IsHandle, IsNodeWord, IsCanonical, KeepsWords}
 use Rattle.lattice.specs.History.{FitsHistory}
-use Rattle.lattice.proofs.Fills.{grows_handle}
-use Rattle.lattice.proofs.Legal.{fits_append, fits_grows}
+use Rattle.lattice.proofs.Diagrams.{grows_handle, fits_append, fits_grows, slot_holds}
 use Rattle.node_store.specs.declared.store.Handle.{Handle}
-use Rattle.probe_core.specs.States.{SeatState}
-use Rattle.probe_core.specs.Seats.{handle, knows, learned, taught, united, met_more, twin, joined, ended}
+use Rattle.probe_core.specs.Machines.{SeatState}
+use Rattle.probe_core.specs.Seats.{handle, knows, learned, taught, united, met_more, joined}
 use Rattle.probe_core.specs.Events.{no_seat}
-use Rattle.probe_core.proofs.MetEntries.{slot_holds}
 
 -- the handle is a constant or that of a filled slot
 abbrev pub IsHandleOf : List ℕ → Handle → Type 0
@@ -95,9 +94,3 @@ module _ (ws : List ℕ) where
     met = fits_append size ws seat.met other.met fits.met fits'.met;
     known = united_fits seat.known other.known fits.known fits'.known;
   }
-
-  pub twin_fits : (size : ℕ) (seat : SeatState) → SeatFits size ws seat → SeatFits size ws (twin seat)
-  twin_fits size seat fits = record { met = tt; known = fits.known }
-
-  pub ended_fits : (size : ℕ) (seat : SeatState) → SeatFits size ws seat → SeatFits size ws (ended seat)
-  ended_fits size seat fits = record { met = fits.met; known = fits.known }

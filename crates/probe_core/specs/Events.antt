@@ -1,5 +1,6 @@
 -- The events of the machine: which may be taken, what each does, and what it sees.
-use Rattle.std.specs.Prelude.{◌≡◌, ◌≢◌, ℕ, ◌+◌, ◌-◌, ◌^◌, ◌<◌, ◌≤◌, true, false, ◌==◌, if◌then◌else◌, List, [], ◌∷◌, ◌++◌, length, replicate, slice_index, slice_index_or, slice_set}
+use Rattle.std.specs.Prelude.{◌≡◌, ◌≢◌, ℕ, ◌+◌, ◌-◌, ◌^◌, ◌<◌, ◌≤◌, true, false, ◌==◌, if◌then◌else◌, List, [], ◌∷◌, ◌++◌, length}
+use Rattle.std.specs.Prelude.{replicate, slice_index, slice_index_or, slice_set}
 use Rattle.std.specs.List.{Contains}
 use Rattle.lattice.specs.declared.entry.Entry.{Entry}
 use Rattle.lattice.specs.declared.entry.Entry.TheVariants.{Met}
@@ -9,11 +10,11 @@ use Rattle.node_store.specs.declared.store.Handle.{Handle}
 use Rattle.probe_core.specs.declared.event.Event.{Event}
 use Rattle.probe_core.specs.declared.event.Event.TheVariants.{Load, Exchange, Split, Join}
 use Rattle.probe_core.specs.declared.event.Seen.{Seen}
-use Rattle.probe_core.specs.States.{SeatState, State}
+use Rattle.probe_core.specs.Machines.{SeatState, Machine}
 use Rattle.probe_core.specs.Seats.{knows, met_more, first_seat, twin, joined, ended}
 
 -- a machine with a vacant table and one seat
-abbrev pub start : ℕ → ℕ → State
+abbrev pub start : ℕ → ℕ → Machine
 start bits vars = record { bits = bits; vars = vars; words = replicate (2 ^ bits) 0; seats = first_seat ∷ [] }
 
 -- where there is no seat of a number
@@ -21,10 +22,10 @@ abbrev pub no_seat : SeatState
 no_seat = record { live = false; met = []; known = [] }
 
 -- the seat of a number
-abbrev pub seat_at : State → ℕ → SeatState
+abbrev pub seat_at : Machine → ℕ → SeatState
 seat_at s id = slice_index_or s.seats id no_seat
 
-abbrev pub IsLive : State → ℕ → Type 0
+abbrev pub IsLive : Machine → ℕ → Type 0
 IsLive s id = (seat_at s id).live ≡ true
 
 -- ---- which events may be taken
@@ -51,12 +52,12 @@ pub record IsOverKnown (vars : ℕ) (words : List ℕ) (known : List Handle) (w 
   pub high_later : var_of w < var_at vars words (hi_of w)
 
 -- the seat may exchange the word at the place
-pub record MayExchange (s : State) (seat : SeatState) (at w : ℕ) : Type 0 where
+pub record MayExchange (s : Machine) (seat : SeatState) (at w : ℕ) : Type 0 where
   pub node : IsOverKnown s.vars s.words seat.known w
   pub probed : HasProbed s.bits seat.met at w
 
 -- the event may be taken
-abbrev pub MayTake : State → Event → Type 0
+abbrev pub MayTake : Machine → Event → Type 0
 MayTake s (Load id at) = IsLive s id × (at < 2 ^ s.bits)
 MayTake s (Exchange id at w) = IsLive s id × MayExchange s (seat_at s id) at w
 MayTake s (Split id) = IsLive s id × (length s.seats < 2 ^ 32 - 1)
@@ -65,24 +66,25 @@ MayTake s (Join id other) = IsLive s id × IsLive s other × (id ≢ other)
 -- ---- what they do
 
 -- the seat of a number meets the slot of a place with this word
-abbrev pub meets : State → ℕ → ℕ → ℕ → State
+abbrev pub meets : Machine → ℕ → ℕ → ℕ → Machine
 meets s id at w = record s { seats = slice_set s.seats id (met_more (seat_at s id) at w) }
 
 -- the place takes the word
-abbrev pub takes : State → ℕ → ℕ → State
+abbrev pub takes : Machine → ℕ → ℕ → Machine
 takes s at w = record s { words = slice_set s.words at w }
 
 -- the state after an event
-abbrev pub after : State → Event → State
+abbrev pub after : Machine → Event → Machine
 after s (Load id at) = if slice_index s.words at == 0 then s else meets s id at (slice_index s.words at)
 after s (Exchange id at w) =
     if slice_index s.words at == 0 then takes (meets s id at w) at w else meets s id at (slice_index s.words at)
 after s (Split id) = record s { seats = s.seats ++ twin (seat_at s id) ∷ [] }
 after s (Join id other) =
-    let both = joined (seat_at s id) (seat_at s other) in record s { seats = slice_set (slice_set s.seats id both) other (ended (seat_at s other)) }
+    let both = joined (seat_at s id) (seat_at s other) in
+    record s { seats = slice_set (slice_set s.seats id both) other (ended (seat_at s other)) }
 
 -- what an event sees, before which the state is s
-abbrev pub seen : State → Event → Seen
+abbrev pub seen : Machine → Event → Seen
 seen s (Load id at) = record { word = slice_index s.words at; won = false }
 seen s (Exchange id at w) =
     if slice_index s.words at == 0 then record { word = w; won = true } else record { word = slice_index s.words at; won = false }
@@ -92,11 +94,11 @@ seen s (Join id other) = record { word = slice_index s.words 0; won = false }
 -- ---- lists of events
 
 -- the state after events in turn
-abbrev pub after_all : State → List Event → State
+abbrev pub after_all : Machine → List Event → Machine
 after_all s [] = s
 after_all s (e ∷ es) = after_all (after s e) es
 
 -- each event may be taken at its turn
-abbrev pub MayTakeAll : State → List Event → Type 0
+abbrev pub MayTakeAll : Machine → List Event → Type 0
 MayTakeAll s [] = Unit {0}
 MayTakeAll s (e ∷ es) = MayTake s e × MayTakeAll (after s e) es

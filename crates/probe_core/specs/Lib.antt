@@ -1,5 +1,4 @@
-pub mod States
+pub mod Machines
 pub mod Seats
 pub mod Events
 pub mod Soundness
-pub mod TableLaws

@@ -4,7 +4,7 @@ use Rattle.std.specs.List.{list_any}
 use Rattle.lattice.specs.declared.entry.Entry.TheVariants.{Met}
 use Rattle.lattice.specs.NodeWords.{lo_of, hi_of}
 use Rattle.node_store.specs.declared.store.Handle.{Handle}
-use Rattle.probe_core.specs.States.{SeatState}
+use Rattle.probe_core.specs.Machines.{SeatState}
 
 -- the handle with this number
 abbrev pub handle : ℕ → Handle

@@ -6,7 +6,7 @@ use Rattle.lattice.specs.Tables.{IsFilled, IsHandle, IsCanonical, KeepsWords, De
 use Rattle.lattice.specs.History.{FitsHistory, IsLegal}
 use Rattle.node_store.specs.declared.store.Handle.{Handle}
 use Rattle.probe_core.specs.declared.event.Event.{Event}
-use Rattle.probe_core.specs.States.{SeatState, State}
+use Rattle.probe_core.specs.Machines.{SeatState, Machine}
 use Rattle.probe_core.specs.Events.{after_all}
 
 -- the handle is a constant or that of a filled slot, and denotes a family
@@ -16,18 +16,18 @@ pub record HasFamily (vars : ℕ) (words : List ℕ) (h : ℕ) : Type 0 where
   pub denotes : DenotesIn vars words h family
 
 -- the seat's history fits the table and is legal, and each handle that it knows has a family
-pub record IsSoundSeat (s : State) (seat : SeatState) : Type 0 where
+pub record IsSoundSeat (s : Machine) (seat : SeatState) : Type 0 where
   pub fits : FitsHistory (2 ^ s.bits) s.words seat.met
   pub legal : IsLegal (2 ^ s.bits) seat.met
   pub known : All (λ (h : Handle). HasFamily s.vars s.words h.0) seat.known
 
 -- the table is canonical, each filled slot has a family, and each seat is sound
-pub record IsSound (s : State) : Type 0 where
+pub record IsSoundMachine (s : Machine) : Type 0 where
   pub canonical : IsCanonical s.bits s.vars s.words
   pub slots : (i : ℕ) → IsFilled s.words i → HasFamily s.vars s.words (suc (suc i))
   pub seats : All (IsSoundSeat s) s.seats
 
 -- the state is sound before the first event and after each one, and no later event changes the word of a filled slot
-pub record IsLawful (s : State) (events : List Event) : Type 0 where
-  pub sound : (n : ℕ) → IsSound (after_all s (take n events))
+pub record IsLawful (s : Machine) (events : List Event) : Type 0 where
+  pub sound : (n : ℕ) → IsSoundMachine (after_all s (take n events))
   pub keeps : (n m : ℕ) → n ≤ m → KeepsWords (after_all s (take n events)).words (after_all s (take m events)).words

@@ -2,7 +2,6 @@
 #![tactic(auto)]
 
 mod event;
-pub mod laws;
 mod machine;
 mod path;
 mod seat;

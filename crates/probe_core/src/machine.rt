@@ -1,14 +1,15 @@
 //! The machine: a table of node words, and seats that act on it one event at a time.
 ghost use Rattle.std.specs.Prelude.{◌≡◌, ◌<◌, ◌≤◌, ◌^◌, ◌↔◌, length, IsTrue, IfOk, OnOk, OnErr};
+ghost use Rattle.lattice.specs.declared.limits.TheConstants.{MIN_BITS, MAX_BITS, MAX_VARS};
 ghost use Rattle.lattice.specs.Tables.{var_at, KeepsWords};
-ghost use Rattle.probe_core.specs.States.{State};
+ghost use Rattle.probe_core.specs.Machines.{Machine};
 ghost use Rattle.probe_core.specs.Events.{start, seat_at, IsLive, IsOverKnown, MayExchange, MayTake, MayTakeAll, after, after_all, seen};
-ghost use Rattle.probe_core.specs.Soundness.{IsSound, IsLawful};
+ghost use Rattle.probe_core.specs.Soundness.{IsSoundMachine, IsLawful};
 
 use crate::event::{Event, Seen};
 use crate::path::has_probed;
 use crate::seat::{Seat, is_known};
-use lattice::Memory;
+use lattice::{Memory, TOP_UNIT};
 use node_store::{Handle, unpack};
 use std::alloc::Global;
 use std::marker::Model;
@@ -23,20 +24,20 @@ pub struct Core {
 }
 
 impl Model for Core {
-    ghost Value = { State };
+    ghost Value = { Machine };
 
     ghost view = { λ c. record { bits = c.bits; vars = c.vars; words = c.words.items; seats = c.seats.items } };
 
-    ghost invariant = { λ c. (4 ≤ c.bits) × (c.bits ≤ 19) × (1 ≤ c.vars) × (c.vars ≤ 62) × (length c.words.items ≡ 2 ^ c.bits) };
+    ghost invariant = { λ c. (MIN_BITS ≤ c.bits) × (c.bits ≤ MAX_BITS) × (1 ≤ c.vars) × (c.vars ≤ MAX_VARS) × (length c.words.items ≡ 2 ^ c.bits) };
 }
 
 impl Core {
     /// A machine with a vacant table of 2^bits words over so many variables, and a seat that knows the two constants.
     pub fn make(alloc: Global, bits: u32, vars: u32) -> Result<Core, Memory>
-        requires bits { (4 ≤ bits) × (bits ≤ 19) }
-        requires vars { (1 ≤ vars) × (vars ≤ 62) }
+        requires bits { (MIN_BITS ≤ bits) × (bits ≤ MAX_BITS) }
+        requires vars { (1 ≤ vars) × (vars ≤ MAX_VARS) }
         ensures start { IfOk result (λ c. c ≡ start bits vars) }
-        ensures sound { IfOk result IsSound }
+        ensures sound { IfOk result IsSoundMachine }
     {
         let words = Vec::from_elem(alloc, 0u64, 1usize << bits)?;
         let first = Seat::first(alloc)?;
@@ -83,7 +84,7 @@ impl Core {
         ensures memory { OnErr result (self.new ≡ self.old) }
 
         // A sound machine stays sound, and each filled slot keeps its word.
-        ensures sound { IsSound self.old → IsSound self.new }
+        ensures sound { IsSoundMachine self.old → IsSoundMachine self.new }
         ensures keeps { KeepsWords self.old.words self.new.words }
     {
         match *e {
@@ -179,7 +180,7 @@ impl Core {
 
 // Whether the word is that of a node over known children with later variables.
 fn is_over_known(vars: u32, words: &[u64], known: &[Handle], word: u64) -> bool
-    requires { vars ≤ 62 }
+    requires { vars ≤ MAX_VARS }
     ensures { IsTrue result ↔ IsOverKnown vars words.now known.now word }
 {
     let Some(node) = unpack(word) else {
@@ -193,22 +194,23 @@ fn is_over_known(vars: u32, words: &[u64], known: &[Handle], word: u64) -> bool
 
 // The variable of a handle; a constant counts as behind all variables.
 fn variable_at(vars: u32, words: &[u64], h: Handle) -> u32
-    requires { vars ≤ 62 }
+    requires { vars ≤ MAX_VARS }
     ensures { result ≡ var_at vars words.now h.0 }
 {
     if h.0 < 2 {
         return vars + 1;
     }
     match words.get(h.0 as usize - 2) {
-        Some(word) => (*word >> 40) as u32,
+        Some(word) => (*word / TOP_UNIT) as u32,
         None => 0,
     }
 }
 
 /// The machine after the events in turn, from a vacant table of 2^bits words over so many variables and one seat.
+#[tactic(auto, using(crate::proofs::EventLemmas::run_lawful))]
 pub fn run(alloc: Global, bits: u32, vars: u32, events: &[Event]) -> Result<Core, Memory>
-    requires bits { (4 ≤ bits) × (bits ≤ 19) }
-    requires vars { (1 ≤ vars) × (vars ≤ 62) }
+    requires bits { (MIN_BITS ≤ bits) × (bits ≤ MAX_BITS) }
+    requires vars { (1 ≤ vars) × (vars ≤ MAX_VARS) }
     requires events { MayTakeAll (start bits vars) events.now }
     ensures after { IfOk result (λ c. c ≡ after_all (start bits vars) events.now) }
 

@@ -1,16 +1,14 @@
 //! Where a table looks for a node's word.
 ghost use Rattle.std.specs.Prelude.{◌≡◌, ◌<◌, ◌≤◌, ◌^◌, ◌↔◌, IsTrue};
 ghost use Rattle.lattice.specs.NodeWords.{place};
+ghost use Rattle.lattice.specs.declared.limits.TheConstants.{MAX_BITS};
 ghost use Rattle.probe_core.specs.Events.{HasPassed, HasProbed};
 
-use lattice::Entry;
-
-/// The factor of the mixing: the odd number next to 2^64 divided by the golden ratio.
-const MIXING: u64 = 0x9E37_79B9_7F4A_7C15;
+use lattice::{Entry, MIXING};
 
 /// The place that stands so many steps after the start of the word's probe path, in a table of 2^bits places.
 pub fn probe_place(bits: u32, word: u64, steps: usize) -> usize
-    requires bits { (1 ≤ bits) × (bits ≤ 20) }
+    requires bits { (1 ≤ bits) × (bits ≤ MAX_BITS) }
     requires steps { steps < 2 ^ bits }
     ensures place { result ≡ place bits word steps }
     ensures inside { result < 2 ^ bits }
@@ -21,7 +19,7 @@ pub fn probe_place(bits: u32, word: u64, steps: usize) -> usize
 
 /// Whether the place is on the word's probe path, and each place before it there was met with another word.
 pub fn has_probed(bits: u32, met: &[Entry], at: u32, word: u64) -> bool
-    requires { (1 ≤ bits) × (bits ≤ 20) }
+    requires { (1 ≤ bits) × (bits ≤ MAX_BITS) }
     ensures { IsTrue result ↔ HasProbed bits met.now at word }
 {
     for steps in 0..1usize << bits {
@@ -38,9 +36,11 @@ pub fn has_probed(bits: u32, met: &[Entry], at: u32, word: u64) -> bool
 
 // Whether the place was met with another word.
 fn has_passed(met: &[Entry], at: usize, word: u64) -> bool
-    requires { at < 2 ^ 20 }
+    requires { at < 2 ^ MAX_BITS }
     ensures { IsTrue result ↔ HasPassed met.now at word }
 {
     let slot = at as u64 + 2;
-    met.iter().any(|entry| matches!(entry, Entry::Met(h, other) if *h == slot && *other != word))
+    met.iter().any(
+        |entry| matches!(entry, Entry::Met { handle, word: other } if *handle == slot && *other != word),
+    )
 }

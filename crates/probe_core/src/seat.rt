@@ -1,11 +1,12 @@
 //! What a seat has met and knows.
 ghost use Rattle.std.specs.Prelude.{◌≡◌, ◌+◌, ◌<◌, ◌≤◌, ◌^◌, vec_len, IfOk, OnOk, OnErr};
 ghost use Rattle.std.specs.Vec.{vec_capacity};
+ghost use Rattle.lattice.specs.declared.limits.TheConstants.{MAX_BITS};
 ghost use Rattle.lattice.specs.NodeWords.{lo_of, hi_of};
-ghost use Rattle.probe_core.specs.States.{SeatState};
+ghost use Rattle.probe_core.specs.Machines.{SeatState};
 ghost use Rattle.probe_core.specs.Seats.{knows, learned, taught, united, met_more, first_seat, twin, joined, ended};
 
-use lattice::{Entry, Memory};
+use lattice::{Entry, HANDLE_UNIT, Memory};
 use node_store::Handle;
 use std::alloc::Global;
 use std::marker::Model;
@@ -68,12 +69,15 @@ impl Seat {
 
     /// The seat meets the slot of a place with its word, and learns what it teaches. After Memory it is as before.
     pub fn meet(&mut self, at: u32, word: u64) -> Result<(), Memory>
-        requires { at < 2 ^ 20 }
+        requires { at < 2 ^ MAX_BITS }
         ensures ok { OnOk result (self.new ≡ met_more self.old at word) }
         ensures err { OnErr result (self.new ≡ self.old) }
     {
         self.known.reserve(2)?;
-        self.met.push(Entry::Met(at as u64 + 2, word))?;
+        self.met.push(Entry::Met {
+            handle: at as u64 + 2,
+            word,
+        })?;
         teach(&mut self.known, Handle(at + 2), word);
         Ok(())
     }
@@ -98,9 +102,8 @@ pub fn children(word: u64) -> (Handle, Handle)
     ensures low { result.0.0 ≡ lo_of word }
     ensures high { result.1.0 ≡ hi_of word }
 {
-    const UNIT: u64 = 1 << 20;
-    let low = word / UNIT % UNIT;
-    let high = word % UNIT;
+    let low = word / HANDLE_UNIT % HANDLE_UNIT;
+    let high = word % HANDLE_UNIT;
     (Handle(low as u32), Handle(high as u32))
 }
 

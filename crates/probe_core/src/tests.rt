@@ -7,11 +7,15 @@ use std::alloc::Global;
 use std::process::Abort;
 use std::test::Fail;
 
-// The word of the node of variable 3 over {0} twice, whose path begins at place 1.
-const FIRST: u64 = 3298535931905;
+// The words of nodes and the places where their paths begin are as Python computes them:
+// word = var * 2**48 + lo * 2**24 + hi, and place = (word * 0x9E3779B97F4A7C15 % 2**64) // 2**60.
 
-// The words of three nodes with the places that they take: the path of the last one leads over those of the other two.
-const NODES: [(u32, u64); 3] = [(1, FIRST), (0, 2199024304131), (2, 2199026401281)];
+// The word of the node of variable 3 over {0} twice, whose path begins at place 12.
+const FIRST: u64 = 844424946909185;
+
+// The words of three nodes with the places that they take; each path begins at place 12. They are the node of variable 3 over
+// the handles 1 and 1, that of variable 2 over 14 and 14, and that of variable 1 over 0 and 15.
+const NODES: [(u32, u64); 3] = [(12, FIRST), (13, 562950188302350), (14, 281474976710671)];
 
 // Takes an event that may be taken.
 fn take(rt: &impl Abort, core: &mut Core, e: &Event) -> Result<Seen, Memory>
@@ -59,16 +63,16 @@ fn three_seats(alloc: Global) -> Result<Vec<Event>, Fail> {
 fn one_exchange_wins(rt: HostRuntime) -> Result<(), Fail> {
     let events = [
         Event::Split { seat: 0 },
-        Event::Load { seat: 0, place: 1 },
-        Event::Load { seat: 1, place: 1 },
+        Event::Load { seat: 0, place: 12 },
+        Event::Load { seat: 1, place: 12 },
         Event::Exchange {
             seat: 0,
-            place: 1,
+            place: 12,
             word: FIRST,
         },
         Event::Exchange {
             seat: 1,
-            place: 1,
+            place: 12,
             word: FIRST,
         },
     ];
@@ -105,8 +109,8 @@ fn three_slots_for_three_nodes(rt: HostRuntime) -> Result<(), Fail> {
 #[test]
 fn refused_events(rt: HostRuntime) -> Result<(), Fail> {
     let fresh = Core::make(rt.alloc(), 4, 3)?;
-    assert!(rt; fresh.may(&first_at(1)));
-    assert!(rt; !fresh.may(&first_at(2)), "not the next place of the path");
+    assert!(rt; fresh.may(&first_at(12)));
+    assert!(rt; !fresh.may(&first_at(13)), "not the next place of the path");
     let events = three_seats(rt.alloc())?;
     let core = take_all(&rt, rt.alloc(), events.as_slice())?;
     assert!(rt; core.may(&Event::Load { seat: 0, place: 15 }));
@@ -131,17 +135,17 @@ fn refused_words(rt: HostRuntime) -> Result<(), Fail> {
     let core = take_all(&rt, rt.alloc(), events.as_slice())?;
     let words = [
         (
-            "variable 1 over the handles 2 and 3",
-            5,
-            1099513724931,
+            "variable 1 over the handles 14 and 15, past the word at place 14",
+            15,
+            281475211591695,
             true,
         ),
-        ("its own word was met before", 3, 2199026401281, false),
-        ("a child is not known", 2, 1099518967809, false),
-        ("a child has the same variable", 10, 2199025352707, false),
-        ("no high child", 1, 1099514773504, false),
-        ("no variable", 3, 1048577, false),
-        ("a variable too many", 6, 4398047559681, false),
+        ("its own word was met before", 15, 281474976710671, false),
+        ("a child is not known", 8, 281475010265089, false),
+        ("a child has the same variable", 7, 562950205079553, false),
+        ("no high child", 10, 281475211591680, false),
+        ("no variable", 5, 16777217, false),
+        ("a variable too many", 4, 1125899923619841, false),
     ];
     for (why, place, word, may) in words {
         let e = Event::Exchange {

@@ -1,3 +1,5 @@
-pub mod PairLemmas
-pub mod SingleLemmas
-pub mod CountedLemmas
+pub mod Levels
+mod HalvesLemmas
+mod SingleLemmas
+mod PairLemmas
+mod CountedLemmas

@@ -1,47 +1,32 @@
 -- Two families cut at their first variable, and put together again.
-use Rattle.std.proofs.Common.{◌≡◌, ◌≢◌, ℕ, suc, ◌-◌, ◌<◌, ◌≤◌, max, min, Bool, true, false, Option, Some, None, Result, Ok, [], refl, sym, ◌∙◌, ap, subst, arith, unwrap_or, cond, ⊎_elim, inl, inr}
+use Rattle.std.proofs.Common.{◌≡◌, ℕ, suc, ◌-◌, ◌<◌, ◌≤◌, max, Bool, true, false, Option, Some, None, Ok, [], refl, sym, ◌∙◌, ap}
+use Rattle.std.proofs.Common.{subst, arith, cond, inl, inr}
+use Rattle.std.proofs.lemmas.Bool.{cases_Bool, false≢true}
 use Rattle.lattice.specs.Family.{Family, IsFamily, has, combine, includes, Has, Covers}
-use Rattle.lattice.proofs.Comprehension.{family_where-agree}
-use Rattle.lattice.specs.Cofactors.{join, low_cofactor, high_cofactor, sub, level}
-use Rattle.lattice.proofs.Cofactors.{IsFamily-low_cofactor, IsFamily-high_cofactor}
-use Rattle.lattice.proofs.MoreVariables.{IsFamily_wider}
-use Rattle.lattice.proofs.Subfamilies.{level-below, IsFamily_level, combine-join, combine-low_after, combine-high_after, combine-covers_low, combine-covers_high, combine-planned}
-use Rattle.node_store.specs.Stores.{State, Knows, family, Denotes, IsNodeOf, ArePartsOf, AreParts, IsSound, IsPlanned, Grows, Reads, Builds, second, needs_of, AreOperands, IsResult}
+use Rattle.lattice.specs.Cofactors.{low_cofactor, high_cofactor, sub, level}
 use Rattle.lattice.specs.Operations.{answer, test_of, is_pointwise}
 use Rattle.lattice.specs.declared.op.Op.{Op}
-use Rattle.lattice.proofs.Pointwise.{test_none, answer-pointwise, takes_family-pointwise, takes_variable-pointwise, includes-needs, IsAllowed-pointwise, combine-same, combine-same_lost, combine-right_empty, combine-right_empty_lost, combine-left_empty, combine-left_empty_lost}
-use Rattle.std.proofs.lemmas.Bool.{cases_Bool, false≢true}
+use Rattle.lattice.proofs.Diagrams.{level-below, combine-join, combine-low_after, combine-high_after, combine-covers_low}
+use Rattle.lattice.proofs.Diagrams.{combine-covers_high, combine-same, combine-same_lost, combine-right_empty, combine-right_empty_lost}
+use Rattle.lattice.proofs.Diagrams.{combine-left_empty, combine-left_empty_lost, includes-needs, test_none, answer-pointwise}
+use Rattle.lattice.proofs.Diagrams.{takes_family-pointwise, takes_variable-pointwise, IsAllowed-pointwise}
+use Rattle.lattice.proofs.Polynomials.{family_where-agree, IsFamily-low_cofactor, IsFamily-high_cofactor}
+use Rattle.node_store.specs.Stores.{State, Knows, family, Denotes, IsNodeOf, ArePartsOf, IsSound, IsPlanned, Grows, Reads, Builds, second}
+use Rattle.node_store.specs.Stores.{needs_of, AreOperands, IsResult}
 use Rattle.node_store.specs.declared.store.Handle.{Handle}
 use Rattle.node_store.specs.declared.store.Node.{Node}
-use Rattle.node_store.specs.declared.store.Full.{Full}
-use Rattle.node_store.proofs.StoreLemmas.{Knows-denotes, Denotes-knows, Denotes-family, known_after, Grows-family, Grows-knows, Reads-trans, Builds-grown, Builds-after, filled, zero_family, node_level, level_constant}
-use Rattle.set_algebra.proofs.SingleLemmas.{level_later}
-use Rattle.set_algebra.specs.Pairs.{AreCofactors, AreInOrder, IsFirstOf}
+use Rattle.node_store.proofs.StoreLaws.{Denotes-family, Denotes-knows, Gives-reads, Grows-family, Grows-knows, Reads-refl}
+use Rattle.node_store.proofs.StoreLaws.{MayGrow, Reads-trans, given_kept, gives_as, gives_fewer, kept_given, level_constant, node_level}
+use Rattle.set_algebra.proofs.Levels.{top_after}
+use Rattle.set_algebra.specs.Pairs.{AreCofactors, AreInOrder, IsFirstOf, level_at, IsAt}
 use Rattle.set_algebra.specs.declared.pairs.Cofactors.{Cofactors}
-
--- the families of two handles have no variable before the first of both
-pub top_after : (s : State) (a b : Handle) (d : ℕ) → IsSound s → Knows s a → Knows s b → max (level s.vars (family s a)) (level s.vars (family s b)) ≡ d
-    → IsFamily d (family s a) × IsFamily d (family s b)
-top_after s a b d ok ka kb top = (
-  IsFamily_wider (level s.vars (family s a)) d (family s a) (IsFamily_level s.vars (family s a) (known_after s a ok ka)) (omega arith),
-  IsFamily_wider (level s.vars (family s b)) d (family s b) (IsFamily_level s.vars (family s b) (known_after s b ok kb)) (omega arith),
-)
-
--- the same in a later state
-
-pub combine_later : (k : Bool → Bool → Bool) (s t : State) (a b : Handle) → Grows s t → Knows s a → Knows s b
-    → combine k t.vars (family t a) (family t b) ≡ combine k s.vars (family s a) (family s b)
-combine_later k s t a b grows ka kb = rw (grows.vars, Grows-family s t a grows ka, Grows-family s t b grows kb) refl
-
-pub top_later : (s t : State) (a b : Handle) → Grows s t → Knows s a → Knows s b
-    → max (level t.vars (family t a)) (level t.vars (family t b)) ≡ max (level s.vars (family s a)) (level s.vars (family s b))
-top_later s t a b grows ka kb = rw (grows.vars, Grows-family s t a grows ka, Grows-family s t b grows kb) refl
 
 -- operands in order
 
 combine-swap : (t : Bool → Bool → Bool) (n : ℕ) (f g : Family) → ((p q : Bool) → t p q ≡ t q p) → combine t n f g ≡ combine t n g f
 unfolding combine
-combine-swap t n f g same = family_where-agree n (λ x. t (has f x) (has g x)) (λ x. t (has g x) (has f x)) (λ x less. same (has f x) (has g x))
+combine-swap t n f g same = family_where-agree n (λ x. t (has f x) (has g x)) (λ x. t (has g x) (has f x))
+    (λ x less. same (has f x) (has g x))
 
 module _ (op : Op) (s : State) (a b x y : Handle) (is : AreInOrder op a b x y) where
   pub order-knows : Knows s a → Knows s b → Knows s x × Knows s y
@@ -64,14 +49,15 @@ module _ (op : Op) (s : State) (a b x y : Handle) (is : AreInOrder op a b x y) w
 
 -- what a kept result says
 
-answer_is : (op : Op) (s : State) (a b : Handle) → is_pointwise op ≡ true → answer op s.vars (family s a) (second s op b.0) b.0 ≡ combine (test_of op) s.vars (family s a) (family s b)
+answer_is : (op : Op) (s : State) (a b : Handle) → is_pointwise op ≡ true
+    → answer op s.vars (family s a) (second s op b.0) b.0 ≡ combine (test_of op) s.vars (family s a) (family s b)
 answer_is op s a b is =
     answer-pointwise op s.vars (family s a) (second s op b.0) b.0 is
     ∙ ap (λ g. combine (test_of op) s.vars (family s a) g) (ap (λ t. cond t (family s b) []) (takes_family-pointwise op is))
 
 -- what is kept
 
-pub operands : (op : Op) (s : State) (a b : Handle) → is_pointwise op ≡ true → Knows s a → Knows s b → AreOperands s op a b.0
+operands : (op : Op) (s : State) (a b : Handle) → is_pointwise op ≡ true → Knows s a → Knows s b → AreOperands s op a b.0
 operands op s a b is ka kb = record {
   first = ka;
   second_handle = λ h. kb;
@@ -80,220 +66,197 @@ operands op s a b is ka kb = record {
 }
 
 -- the working set is what the result's subfamilies are
-pub includes_is : (op : Op) (s : State) (a b : Handle) (k : Family) → is_pointwise op ≡ true → includes (needs_of s op a b.0) k ≡ includes (sub s.vars (combine (test_of op) s.vars (family s a) (family s b))) k
+includes_is : (op : Op) (s : State) (a b : Handle) (k : Family) → is_pointwise op ≡ true
+    → includes (needs_of s op a b.0) k ≡ includes (sub s.vars (combine (test_of op) s.vars (family s a) (family s b))) k
 includes_is op s a b k is =
     includes-needs op s.vars (family s a) (second s op b.0) b.0 k is
-    ∙ ap (λ g. includes (sub s.vars (combine (test_of op) s.vars (family s a) g)) k) (ap (λ t. cond t (family s b) []) (takes_family-pointwise op is))
+    ∙ ap (λ g. includes (sub s.vars (combine (test_of op) s.vars (family s a) g)) k)
+    (ap (λ t. cond t (family s b) []) (takes_family-pointwise op is))
 
-pub kept_result : (op : Op) (s t : State) (a b r : Handle) → is_pointwise op ≡ true → IsSound t → Grows s t → Knows s a → Knows s b → Denotes t r (combine (test_of op) s.vars (family s a) (family s b)) → IsResult t op a b.0 r
-kept_result op s t a b r is ok grows ka kb result =
-    let here : Denotes t r (combine (test_of op) t.vars (family t a) (family t b)) = result ∙ ap Some (sym (combine_later (test_of op) s t a b grows ka kb)) in
+-- ---- one step of the recursion
+
+-- s is the state at the call, t the one after the cut, and h what the cut gave: the parts of the operands, which are the families
+-- of a and b in order, before their first variable
+pub record IsCut (op : Op) (s t : State) (a b : Handle) (h : Cofactors) : Type 0 where
+  pub one : Family
+  pub two : Family
+  pub reads : Reads s t
+  pub same : combine (test_of op) s.vars one two ≡ combine (test_of op) s.vars (family s a) (family s b)
+  pub first : 1 ≤ h.var
+  pub last : h.var ≤ s.vars
+  pub top : max (level s.vars (family s a)) (level s.vars (family s b)) ≡ suc (s.vars - h.var)
+  pub one_fits : IsFamily (suc (s.vars - h.var)) one
+  pub two_fits : IsFamily (suc (s.vars - h.var)) two
+  pub a_low : Denotes t h.a_low (low_cofactor (s.vars - h.var) one)
+  pub a_high : Denotes t h.a_high (high_cofactor (s.vars - h.var) one)
+  pub b_low : Denotes t h.b_low (low_cofactor (s.vars - h.var) two)
+  pub b_high : Denotes t h.b_high (high_cofactor (s.vars - h.var) two)
+
+-- l is the state after the look
+pub cut_of : (op : Op) {s l t : State} {a b x y : Handle} {h : Cofactors} → AreInOrder op a b x y → Knows s a → Knows s b → IsSound s
+    → Reads s l
+    → Reads l t → AreCofactors l t x y h → IsCut op s t a b h
+cut_of op {s} {l} {t} {a} {b} {x} {y} {h} order ka kb ok looked cut are =
+    let known = order-knows op s a b x y order ka kb in
+    let x_is : family l x ≡ family s x = Grows-family s l x looked.grows known.0 in
+    let y_is : family l y ≡ family s y = Grows-family s l y looked.grows known.1 in
+    let top : max (level s.vars (family s x)) (level s.vars (family s y)) ≡ suc (s.vars - h.var) = rw (looked.grows.vars, x_is, y_is) at
+    are.top in
+    let fits = top_after s x y (suc (s.vars - h.var)) ok known.0 known.1 top in
     record {
-      operands = operands op t a b is (Grows-knows s t a grows ka) (Grows-knows s t b grows kb);
-      allowed = IsAllowed-pointwise op t.vars (family t a) (second t op b.0) b.0 is;
-      denotes = here ∙ ap Some (sym (answer_is op t a b is));
-      held = λ k h. ok.subs r.0 (combine (test_of op) t.vars (family t a) (family t b)) here k (sym (includes_is op t a b k is) ∙ h);
+      one = family s x;
+      two = family s y;
+      reads = Reads-trans s l t looked cut;
+      same = order-same op s a b x y order;
+      first = are.first;
+      last = omega (arith, are.last, looked.grows.vars);
+      top = sym (order-top op s a b x y order) ∙ top;
+      one_fits = fits.0;
+      two_fits = fits.1;
+      a_low = rw (looked.grows.vars, x_is) at are.a_low;
+      a_high = rw (looked.grows.vars, x_is) at are.a_high;
+      b_low = rw (looked.grows.vars, y_is) at are.b_low;
+      b_high = rw (looked.grows.vars, y_is) at are.b_high;
     }
 
--- One step of the recursion. s0 is the state at the call and s that after the look; x and y are the operands a and b in order.
-module _ (op : Op) (s0 s : State) (a b x y : Handle) (order : AreInOrder op a b x y) (ka : Knows s0 a) (kb : Knows s0 b) (looked : Reads s0 s) where
+-- what the call on two of the parts needs, at u; s is the state at the call itself, with its operands a and b
+pub record MayCall (op : Op) (s u : State) (a b p q : Handle) : Type 0 where
+  pub knows_first : Knows u p
+  pub knows_second : Knows u q
+  pub falls : max (level u.vars (family u p)) (level u.vars (family u q)) < max (level s.vars (family s a)) (level s.vars (family s b))
+  pub planned : IsPlanned s (combine (test_of op) s.vars (family s a) (family s b))
+      → IsPlanned u (combine (test_of op) u.vars (family u p) (family u q))
+
+module _ {op : Op} {s t : State} {a b : Handle} {h : Cofactors} (cut : IsCut op s t a b h) where
   abbrev k : Bool → Bool → Bool
   k = test_of op
 
-  kf : k false false ≡ false
-  kf = test_none op
+  abbrev d : ℕ
+  d = s.vars - h.var
 
-  abbrev F : Family
-  F = family s x
+  less : d < s.vars
+  less = omega (arith, cut.first, cut.last)
 
-  abbrev G : Family
-  G = family s y
+  abbrev whole : Family
+  whole = combine k s.vars (family s a) (family s b)
 
-  -- the result at the call
-  abbrev result0 : Family
-  result0 = combine k s0.vars (family s0 a) (family s0 b)
+  -- the low parts combined, and the high ones
+  abbrev lows : Family
+  lows = combine k s.vars (low_cofactor d cut.one) (low_cofactor d cut.two)
 
-  knows0 : Knows s0 x × Knows s0 y
-  knows0 = order-knows op s0 a b x y order ka kb
+  abbrev highs : Family
+  highs = combine k s.vars (high_cofactor d cut.one) (high_cofactor d cut.two)
 
-  kx : Knows s x
-  kx = Grows-knows s0 s x looked.grows knows0.0
-
-  ky : Knows s y
-  ky = Grows-knows s0 s y looked.grows knows0.1
-
-  -- the result is the same in both states and both orders
-  same : combine k s.vars F G ≡ result0
-  same = combine_later k s0 s x y looked.grows knows0.0 knows0.1 ∙ order-same op s0 a b x y order
-
-  planned_here : IsPlanned s0 result0 → IsPlanned s (combine k s.vars F G)
-  planned_here planned = rw (same, looked.grows.plan, looked.grows.vars) planned
-
-  top_here : max (level s.vars F) (level s.vars G) ≡ max (level s0.vars (family s0 a)) (level s0.vars (family s0 b))
-  top_here = top_later s0 s x y looked.grows knows0.0 knows0.1 ∙ order-top op s0 a b x y order
-
-  pub step_looked : (r : Handle) → is_pointwise op ≡ true → IsSound s → IsResult s op x y.0 r → Builds s0 s (Ok r) result0
-  step_looked r is ok kept = Builds-grown s0 s r result0 ok looked.grows looked.quiet (kept.denotes ∙ ap Some (answer_is op s x y is ∙ same))
-
-  -- w is the state in which the result is kept
-  pub step_kept : (w : State) (r : Handle) → is_pointwise op ≡ true → IsSound w → Builds s0 w (Ok r) result0 → IsResult w op x y.0 r
-  step_kept w r is ok built =
-      kept_result op s0 w x y r is ok built.grows knows0.0 knows0.1 (built.ok ∙ ap Some (sym (order-same op s0 a b x y order)))
-
-  -- t is the state after the cut, u that after the low parts were combined, and v that after the high parts were
-  module _ (t u v : State) (h : Cofactors) (oks : IsSound s) (are : AreCofactors s t x y h) (one : Reads s t) (two : Reads t u) (three : Reads u v) where
-    abbrev d : ℕ
-    d = s.vars - h.var
-
-    abbrev R : Family
-    R = combine k s.vars F G
-
-    less : d < s.vars
-    less = omega (arith, are.first, are.last)
-
-    F-after : IsFamily (suc d) F
-    F-after = (top_after s x y (suc d) oks kx ky are.top).0
-
-    G-after : IsFamily (suc d) G
-    G-after = (top_after s x y (suc d) oks kx ky are.top).1
-
-    a_low_is : family t h.a_low ≡ low_cofactor d F
-    a_low_is = Denotes-family t h.a_low (low_cofactor d F) are.a_low
-
-    b_low_is : family t h.b_low ≡ low_cofactor d G
-    b_low_is = Denotes-family t h.b_low (low_cofactor d G) are.b_low
-
-    a_high_at : Denotes u h.a_high (high_cofactor d F)
-    a_high_at = two.grows.known h.a_high.0 (high_cofactor d F) are.a_high
-
-    b_high_at : Denotes u h.b_high (high_cofactor d G)
-    b_high_at = two.grows.known h.b_high.0 (high_cofactor d G) are.b_high
-
-    a_high_is : family u h.a_high ≡ high_cofactor d F
-    a_high_is = Denotes-family u h.a_high (high_cofactor d F) a_high_at
-
-    b_high_is : family u h.b_high ≡ high_cofactor d G
-    b_high_is = Denotes-family u h.b_high (high_cofactor d G) b_high_at
-
-    vars_u : u.vars ≡ s.vars
-    vars_u = two.grows.vars ∙ one.grows.vars
-
-    vars_v : v.vars ≡ s.vars
-    vars_v = three.grows.vars ∙ vars_u
-
-    lows : combine k t.vars (family t h.a_low) (family t h.b_low) ≡ combine k s.vars (low_cofactor d F) (low_cofactor d G)
-    lows = rw (one.grows.vars, a_low_is, b_low_is) refl
-
-    highs : combine k u.vars (family u h.a_high) (family u h.b_high) ≡ combine k s.vars (high_cofactor d F) (high_cofactor d G)
-    highs = rw (vars_u, a_high_is, b_high_is) refl
-
-    pub low_knows : Knows t h.a_low × Knows t h.b_low
-    low_knows = (Denotes-knows t h.a_low (low_cofactor d F) are.a_low, Denotes-knows t h.b_low (low_cofactor d G) are.b_low)
-
-    pub high_knows : Knows u h.a_high × Knows u h.b_high
-    high_knows = (Denotes-knows u h.a_high (high_cofactor d F) a_high_at, Denotes-knows u h.b_high (high_cofactor d G) b_high_at)
-
-    pub low_falls : max (level t.vars (family t h.a_low)) (level t.vars (family t h.b_low)) < max (level s0.vars (family s0 a)) (level s0.vars (family s0 b))
-    low_falls =
-        let x : level s.vars (low_cofactor d F) ≤ d = level-below d s.vars (low_cofactor d F) (IsFamily-low_cofactor d F) (omega (arith, less)) in
-        let y : level s.vars (low_cofactor d G) ≤ d = level-below d s.vars (low_cofactor d G) (IsFamily-low_cofactor d G) (omega (arith, less)) in
-        rw (one.grows.vars, a_low_is, b_low_is, ← top_here, are.top) (omega arith)
-
-    pub high_falls : max (level u.vars (family u h.a_high)) (level u.vars (family u h.b_high)) < max (level s0.vars (family s0 a)) (level s0.vars (family s0 b))
-    high_falls =
-        let x : level s.vars (high_cofactor d F) ≤ d = level-below d s.vars (high_cofactor d F) (IsFamily-high_cofactor d F) (omega (arith, less)) in
-        let y : level s.vars (high_cofactor d G) ≤ d = level-below d s.vars (high_cofactor d G) (IsFamily-high_cofactor d G) (omega (arith, less)) in
-        rw (vars_u, a_high_is, b_high_is, ← top_here, are.top) (omega arith)
-
-    pub low_planned : IsPlanned s0 (result0) → Covers t.plan (sub t.vars (combine k t.vars (family t h.a_low) (family t h.b_low)))
-    low_planned planned =
-        rw (one.grows.plan, lows, one.grows.vars) (λ f e. planned_here planned f (combine-covers_low k kf s.vars d F G F-after G-after less f e))
-
-    pub high_planned : IsPlanned s0 (result0) → Covers u.plan (sub u.vars (combine k u.vars (family u h.a_high) (family u h.b_high)))
-    high_planned planned =
-        rw (two.grows.plan, one.grows.plan, highs, vars_u) (λ f e. planned_here planned f (combine-covers_high k kf s.vars d F G F-after G-after less f e))
-
-    module _ (lo hi : Handle) (lo_is : Denotes u lo (combine k t.vars (family t h.a_low) (family t h.b_low))) (hi_is : Denotes v hi (combine k u.vars (family u h.a_high) (family u h.b_high))) where
-      lo_at : Denotes v lo (combine k s.vars (low_cofactor d F) (low_cofactor d G))
-      lo_at = three.grows.known lo.0 (combine k s.vars (low_cofactor d F) (low_cofactor d G)) (lo_is ∙ ap Some lows)
-
-      hi_at : Denotes v hi (combine k s.vars (high_cofactor d F) (high_cofactor d G))
-      hi_at = hi_is ∙ ap Some highs
-
-      lo_family : family v lo ≡ combine k s.vars (low_cofactor d F) (low_cofactor d G)
-      lo_family = Denotes-family v lo (combine k s.vars (low_cofactor d F) (low_cofactor d G)) lo_at
-
-      hi_family : family v hi ≡ combine k s.vars (high_cofactor d F) (high_cofactor d G)
-      hi_family = Denotes-family v hi (combine k s.vars (high_cofactor d F) (high_cofactor d G)) hi_at
-
-      pub grow_parts : AreParts v h.var lo hi
-      grow_parts = record {
-        first = are.first;
-        last = rw vars_v are.last;
-        lo_known = Denotes-knows v lo (combine k s.vars (low_cofactor d F) (low_cofactor d G)) lo_at;
-        hi_known = Denotes-knows v hi (combine k s.vars (high_cofactor d F) (high_cofactor d G)) hi_at;
-        lo_after = rw (vars_v, lo_family) (combine-low_after k kf s.vars d F G F-after G-after less);
-        hi_after = rw (vars_v, hi_family) (combine-high_after k kf s.vars d F G F-after G-after less);
+  may_call : (u : State) (p q : Handle) (P Q : Family) → Reads t u → Denotes t p P → Denotes t q Q → IsFamily d P
+      → IsFamily d Q
+      → Covers (sub s.vars (combine k s.vars cut.one cut.two)) (sub s.vars (combine k s.vars P Q)) → MayCall op s u a b p q
+  may_call u p q P Q later p_at q_at p_fits q_fits covers =
+      let vars : u.vars ≡ s.vars = later.grows.vars ∙ cut.reads.grows.vars in
+      let p_is : Denotes u p P = later.grows.known p.0 P p_at in
+      let q_is : Denotes u q Q = later.grows.known q.0 Q q_at in
+      let x : level s.vars P ≤ d = level-below d s.vars P p_fits (omega (arith, less)) in
+      let y : level s.vars Q ≤ d = level-below d s.vars Q q_fits (omega (arith, less)) in
+      record {
+        knows_first = Denotes-knows u p P p_is;
+        knows_second = Denotes-knows u q Q q_is;
+        falls = rw (vars, Denotes-family u p P p_is, Denotes-family u q Q q_is) (omega (arith, cut.top));
+        planned = λ planned. rw (vars, later.grows.plan, cut.reads.grows.plan, Denotes-family u p P p_is, Denotes-family u q Q q_is)
+            (λ f e. planned f (subst (λ w. Has (sub s.vars w) f) cut.same (covers f e)));
       }
 
-      pub grow_is : join (v.vars - h.var) (family v lo) (family v hi) ≡ result0
-      grow_is = rw (vars_v, lo_family, hi_family) (sym (combine-join k kf s.vars d F G F-after G-after less) ∙ same)
+  pub low_call : MayCall op s t a b h.a_low h.b_low
+  low_call =
+      may_call t h.a_low h.b_low (low_cofactor d cut.one) (low_cofactor d cut.two) (Reads-refl t) cut.a_low cut.b_low
+      (IsFamily-low_cofactor d cut.one) (IsFamily-low_cofactor d cut.two)
+      (combine-covers_low k (test_none op) s.vars d cut.one cut.two cut.one_fits cut.two_fits less)
 
-      pub grow_planned : IsSound v → IsPlanned s0 (result0) → hi.0 ≢ 0 → Has v.plan (join (v.vars - h.var) (family v lo) (family v hi))
-      grow_planned okv planned ne =
-          let full : combine k s.vars (high_cofactor d F) (high_cofactor d G) ≢ [] = λ e. filled v hi okv (Denotes-knows v hi (combine k s.vars (high_cofactor d F) (high_cofactor d G)) hi_at) ne (hi_family ∙ e) in
-          rw (three.grows.plan, two.grows.plan, one.grows.plan, grow_is, ← same) (planned_here planned R (combine-planned k kf s.vars d F G F-after G-after less full))
+  -- u is the state after the low parts were combined
+  module _ {u : State} {lo : Handle} (low : Builds t u (Ok lo) (combine k t.vars (family t h.a_low) (family t h.b_low))) where
+    after_low : Reads t u
+    after_low = Gives-reads t u lo _ _ low
 
-      pub grow_builds : (w : State) (r : Result Handle Full) → Builds v w r (join (v.vars - h.var) (family v lo) (family v hi)) → Builds s0 w r result0
-      grow_builds w r grown = Builds-after s0 v w r result0 (Reads-trans s0 s v looked (Reads-trans s t v one (Reads-trans t u v two three))) (subst (Builds v w r) grow_is grown)
+    pub high_call : MayCall op s u a b h.a_high h.b_high
+    high_call =
+        may_call u h.a_high h.b_high (high_cofactor d cut.one) (high_cofactor d cut.two) after_low cut.a_high cut.b_high
+        (IsFamily-high_cofactor d cut.one) (IsFamily-high_cofactor d cut.two)
+        (combine-covers_high k (test_none op) s.vars d cut.one cut.two cut.one_fits cut.two_fits less)
+
+    -- v is the state after the high parts were combined
+    module _ {v : State} {hi : Handle} (high : Builds u v (Ok hi) (combine k u.vars (family u h.a_high) (family u h.b_high))) where
+      pub before_grow : Reads s v
+      before_grow = Reads-trans s u v (Reads-trans s t u cut.reads after_low) (Gives-reads u v hi _ _ high)
+
+      pub grows_whole : IsPlanned s whole → MayGrow s v h.var lo hi whole
+      grows_whole planned =
+          let vars : u.vars ≡ s.vars = low.grows.vars ∙ cut.reads.grows.vars in
+          let a_high : family u h.a_high ≡ high_cofactor d cut.one = Denotes-family u h.a_high _
+          (low.grows.known h.a_high.0 _ cut.a_high) in
+          let b_high : family u h.b_high ≡ high_cofactor d cut.two = Denotes-family u h.b_high _
+          (low.grows.known h.b_high.0 _ cut.b_high) in
+          record {
+            reads = before_grow;
+            first = cut.first;
+            last = cut.last;
+            low = lows;
+            high = highs;
+            lo_is = high.grows.known lo.0 lows
+                (rw (cut.reads.grows.vars, Denotes-family t h.a_low _ cut.a_low, Denotes-family t h.b_low _ cut.b_low) at low.ok);
+            hi_is = rw (vars, a_high, b_high) at high.ok;
+            low_after = combine-low_after k (test_none op) s.vars d cut.one cut.two cut.one_fits cut.two_fits less;
+            high_after = combine-high_after k (test_none op) s.vars d cut.one cut.two cut.one_fits cut.two_fits less;
+            whole = sym cut.same ∙ combine-join k (test_none op) s.vars d cut.one cut.two cut.one_fits cut.two_fits less;
+            planned = planned;
+          }
+
+-- ---- kept results: s is the state at the call, l the one after the look, w the one after the call
+
+module _ (op : Op) (s : State) (a b x y : Handle) (is : is_pointwise op ≡ true) (order : AreInOrder op a b x y) (ka : Knows s a)
+    (kb : Knows s b) where
+  known : Knows s x × Knows s y
+  known = order-knows op s a b x y order ka kb
+
+  pub step_looked : {l : State} {r : Handle} → Reads s l → IsResult l op x y.0 r
+      → Builds s l (Ok r) (combine (test_of op) s.vars (family s a) (family s b))
+  step_looked looked kept = rw (← order-same op s a b x y order) (gives_fewer (λ k h. includes_is op s x y k is ∙ h)
+      (gives_as (answer_is op s x y is) refl (kept_given (operands op s x y is known.0 known.1) looked kept)))
+
+  pub step_kept : {w : State} {r : Handle} → Builds s w (Ok r) (combine (test_of op) s.vars (family s a) (family s b))
+      → IsResult w op x y.0 r
+  step_kept built = given_kept (operands op s x y is known.0 known.1)
+      (IsAllowed-pointwise op s.vars (family s x) (second s op y.0) y.0 is)
+      (gives_fewer (λ k h. sym (includes_is op s x y k is) ∙ h)
+      (gives_as (sym (answer_is op s x y is)) refl (rw (← order-same op s a b x y order) at built)))
 
 -- the first variable, by the nodes
 
-node_there : (s t : State) (a : Handle) (n : Node) → IsSound t → Grows s t → IsNodeOf s t a (Some n) → level s.vars (family s a) ≡ suc (s.vars - n.var)
-node_there s t a n okt grows found = node_level s t n (family s a) okt found.is_node grows.vars (sym found.family_is)
-
-node_none : (s t : State) (a : Handle) → IsSound s → IsNodeOf s t a None → level s.vars (family s a) ≡ 0
-node_none s t a oks found = level_constant s a oks (found.constant.0 refl)
-
-pub first_both : (m n : Node) (var : ℕ) → var ≡ min m.var n.var → IsFirstOf (Some m) (Some n) var
-first_both m n var least s t u a b oks okt oku one two ka kb fa fb =
-    let left : level s.vars (family s a) ≡ suc (s.vars - m.var) = node_there s t a m okt one fa in
-    let right : level t.vars (family t b) ≡ suc (t.vars - n.var) = node_there t u b n oku two fb in
-    let same : level t.vars (family t b) ≡ level s.vars (family s b) = level_later s t b one kb in
-    let pm = fa.is_node.parts in
-    let pn = fb.is_node.parts in (
-      omega (arith, pm.first, pn.first),
-      omega (arith, pm.last, one.vars),
-      omega (arith, left, right, same, one.vars, two.vars, pm.last, pn.last),
-    )
-
-pub first_left : (m : Node) → IsFirstOf (Some m) None m.var
-first_left m s t u a b oks okt oku one two ka kb fa fb =
-    let left : level s.vars (family s a) ≡ suc (s.vars - m.var) = node_there s t a m okt one fa in
-    let right : level t.vars (family t b) ≡ 0 = node_none t u b okt fb in
-    let same : level t.vars (family t b) ≡ level s.vars (family s b) = level_later s t b one kb in
-    let pm = fa.is_node.parts in (pm.first, omega (arith, pm.last, one.vars), omega (arith, left, right, same))
-
-pub first_right : (n : Node) → IsFirstOf None (Some n) n.var
-first_right n s t u a b oks okt oku one two ka kb fa fb =
-    let left : level s.vars (family s a) ≡ 0 = node_none s t a oks fa in
-    let right : level t.vars (family t b) ≡ suc (t.vars - n.var) = node_there t u b n oku two fb in
-    let same : level t.vars (family t b) ≡ level s.vars (family s b) = level_later s t b one kb in
-    let pn = fb.is_node.parts in (pn.first, omega (arith, pn.last, one.vars, two.vars), omega (arith, left, right, same, one.vars))
+-- the level of a family is that of its handle's node; s is the state before the node was asked for, t the one after
+level_found : (s t : State) (a : Handle) (node : Option Node) → IsSound s → IsSound t → Grows s t → IsNodeOf s t a node
+    → (level s.vars (family s a) ≡ level_at s.vars node) × IsAt s.vars node
+level_found s t a (Some n) oks okt grows found = (
+  node_level s t n (family s a) okt found.is_node grows.vars (sym found.family_is),
+  (found.is_node.parts.first, let last = found.is_node.parts.last in omega (arith, grows.vars)),
+)
+level_found s t a None oks okt grows found = (level_constant s a oks (found.constant.0 refl), tt)
 
 -- the parts as the nodes give them
-pub cofactors_found : (s t u : State) (a b : Handle) (na nb : Option Node) (h : Cofactors) → IsSound s → IsSound t → IsSound u → Grows s t → Grows t u → Knows s a → Knows s b
-    → IsNodeOf s t a na → IsNodeOf t u b nb → IsFirstOf na nb h.var → ArePartsOf a na h.var h.a_low h.a_high → ArePartsOf b nb h.var h.b_low h.b_high → AreCofactors s u a b h
-cofactors_found s t u a b na nb h oks okt oku one two ka kb fa fb is_first parts_a parts_b =
-    let top = is_first s t u a b oks okt oku one two ka kb fa fb in
-    let both = top_after s a b (suc (s.vars - h.var)) oks ka kb top.2 in
+pub cofactors_found : {s t u : State} {a b : Handle} {na nb : Option Node} {h : Cofactors} → IsSound s → IsSound t → IsSound u → Grows s t
+    → Grows t u
+    → Knows s a → Knows s b → IsNodeOf s t a na → IsNodeOf t u b nb → IsFirstOf na nb h.var → ArePartsOf a na h.var h.a_low h.a_high
+    → ArePartsOf b nb h.var h.b_low h.b_high → AreCofactors s u a b h
+cofactors_found {s} {t} {u} {a} {b} {na} {nb} {h} oks okt oku one two ka kb fa fb is_first parts_a parts_b =
     let b_is : family t b ≡ family s b = Grows-family s t b one kb in
-    let pa = parts_a s t oks okt one ka fa top.0 top.1 both.0 in
-    let pb = parts_b t u okt oku two (Grows-knows s t b one kb) fb top.0 (rw one.vars top.1) (rw (one.vars, b_is) both.1) in
+    let left = level_found s t a na oks okt one fa in
+    let right = level_found t u b nb okt oku two fb in
+    let first = is_first s.vars left.1 (rw (← one.vars) right.1) in
+    let top : max (level s.vars (family s a)) (level s.vars (family s b)) ≡ suc (s.vars - h.var) =
+    rw (left.0, ← b_is, ← one.vars, right.0, one.vars) first.2 in
+    let both = top_after s a b (suc (s.vars - h.var)) oks ka kb top in
+    let pa = parts_a s t oks okt one ka fa first.0 first.1 both.0 in
+    let pb = parts_b t u okt oku two (Grows-knows s t b one kb) fb first.0 (rw one.vars first.1) (rw (one.vars, b_is) both.1) in
     record {
-      first = top.0;
-      last = top.1;
-      top = top.2;
+      first = first.0;
+      last = first.1;
+      top = top;
       a_low = two.known h.a_low.0 (low_cofactor (s.vars - h.var) (family s a)) pa.0;
       a_high = two.known h.a_high.0 (high_cofactor (s.vars - h.var) (family s a)) pa.1;
       b_low = rw (one.vars, b_is) at pb.0;
@@ -302,43 +265,21 @@ cofactors_found s t u a b na nb h oks okt oku one two ka kb fa fb is_first parts
 
 -- results that need no node
 
-empty_of : (s : State) (r : Handle) → IsSound s → r.0 ≡ 0 → Denotes s r []
-empty_of s r ok e = ap s.known e ∙ ok.empty
+module _ (op : Op) (n : ℕ) (f : Family) (fits : IsFamily n f) where
+  pub same_operands : cond (test_of op true true) f [] ≡ combine (test_of op) n f f
+  same_operands = elim (cases_Bool (test_of op true true)) [
+    | inl t ↦ rw t (sym (combine-same (test_of op) (test_none op) n f fits t))
+    | inr t ↦ rw t (sym (combine-same_lost (test_of op) (test_none op) n f fits t))
+  ]
 
-same_handle : (s : State) (r a : Handle) → Knows s a → r ≡ a → Denotes s r (family s a)
-same_handle s r a ka e = ap (λ (h : Handle). s.known h.0) e ∙ Knows-denotes s a ka
+  pub right_empty : cond (test_of op true false) f [] ≡ combine (test_of op) n f []
+  right_empty = elim (cases_Bool (test_of op true false)) [
+    | inl t ↦ rw t (sym (combine-right_empty (test_of op) (test_none op) n f fits t))
+    | inr t ↦ rw t (sym (combine-right_empty_lost (test_of op) (test_none op) n f fits t))
+  ]
 
--- what `kept_if` gives, for a family that is kept or lost by the test
-kept : (s : State) (t : Bool) (r a : Handle) (F : Family) → IsSound s → Knows s a → (t ≡ true → r ≡ a) → (t ≡ false → r.0 ≡ 0) → (t ≡ true → F ≡ family s a) → (t ≡ false → F ≡ []) → Denotes s r F
-kept s t r a F ok ka here gone is none = ⊎_elim
-    (λ e. same_handle s r a ka (here e) ∙ ap Some (sym (is e)))
-    (λ e. empty_of s r ok (gone e) ∙ ap Some (sym (none e)))
-    (cases_Bool t)
-
-module _ (op : Op) (s : State) (a b r : Handle) (ok : IsSound s) where
-  pub at_same : Knows s a → a.0 ≡ b.0 → (test_of op true true ≡ true → r ≡ a) → (test_of op true true ≡ false → r.0 ≡ 0) → Denotes s r (combine (test_of op) s.vars (family s a) (family s b))
-  at_same ka e here gone =
-      let F : Family = family s a in
-      let is : IsFamily s.vars F = known_after s a ok ka in
-      let same : family s b ≡ F = ap (λ i. unwrap_or (s.known i) []) (sym e) in
-      kept s (test_of op true true) r a (combine (test_of op) s.vars F (family s b)) ok ka here gone
-      (λ t. ap (combine (test_of op) s.vars F) same ∙ combine-same (test_of op) (test_none op) s.vars F is t)
-      (λ t. ap (combine (test_of op) s.vars F) same ∙ combine-same_lost (test_of op) (test_none op) s.vars F is t)
-
-  pub at_right_empty : Knows s a → b.0 ≡ 0 → (test_of op true false ≡ true → r ≡ a) → (test_of op true false ≡ false → r.0 ≡ 0) → Denotes s r (combine (test_of op) s.vars (family s a) (family s b))
-  at_right_empty ka e here gone =
-      let F : Family = family s a in
-      let is : IsFamily s.vars F = known_after s a ok ka in
-      let none : family s b ≡ [] = zero_family s b ok e in
-      kept s (test_of op true false) r a (combine (test_of op) s.vars F (family s b)) ok ka here gone
-      (λ t. ap (combine (test_of op) s.vars F) none ∙ combine-right_empty (test_of op) (test_none op) s.vars F is t)
-      (λ t. ap (combine (test_of op) s.vars F) none ∙ combine-right_empty_lost (test_of op) (test_none op) s.vars F is t)
-
-  pub at_left_empty : Knows s b → a.0 ≡ 0 → (test_of op false true ≡ true → r ≡ b) → (test_of op false true ≡ false → r.0 ≡ 0) → Denotes s r (combine (test_of op) s.vars (family s a) (family s b))
-  at_left_empty kb e here gone =
-      let F : Family = family s b in
-      let is : IsFamily s.vars F = known_after s b ok kb in
-      let none : family s a ≡ [] = zero_family s a ok e in
-      kept s (test_of op false true) r b (combine (test_of op) s.vars (family s a) F) ok kb here gone
-      (λ t. ap (λ f. combine (test_of op) s.vars f F) none ∙ combine-left_empty (test_of op) (test_none op) s.vars F is t)
-      (λ t. ap (λ f. combine (test_of op) s.vars f F) none ∙ combine-left_empty_lost (test_of op) (test_none op) s.vars F is t)
+  pub left_empty : cond (test_of op false true) f [] ≡ combine (test_of op) n [] f
+  left_empty = elim (cases_Bool (test_of op false true)) [
+    | inl t ↦ rw t (sym (combine-left_empty (test_of op) (test_none op) n f fits t))
+    | inr t ↦ rw t (sym (combine-left_empty_lost (test_of op) (test_none op) n f fits t))
+  ]

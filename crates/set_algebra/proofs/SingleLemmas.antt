@@ -1,58 +1,20 @@
--- A family cut at its node, and a family of one number.
-use Rattle.std.proofs.Common.{◌≡◌, ◌≢◌, ℕ, suc, ◌+◌, ◌-◌, ◌*◌, ◌%◌, ◌^◌, ◌<◌, ◌≤◌, inl, inr, true, false, [], ◌∷◌, refl, sym, ◌∙◌, ap, subst, arith, unwrap_or, one-mul, add-one, mod-eq_of_lt, nat_eq, eq-eqb, ne_eqb}
-use Rattle.std.proofs.Math.Pow.{pow-lt}
+-- The family of all numbers and that of one number, cut at their first variable; the members of constants.
+use Rattle.std.proofs.Common.{◌≡◌, ◌≢◌, ℕ, suc, ◌+◌, ◌-◌, ◌*◌, ◌%◌, ◌^◌, ◌<◌, ◌≤◌, inl, inr, true, false, [], ◌∷◌, sym, ◌∙◌, ap, subst}
+use Rattle.std.proofs.Common.{arith, unwrap_or, add-one, nat_eq, eq-eqb, ne_eqb}
 use Rattle.std.proofs.lemmas.Bool.{cases_eq}
-use Rattle.lattice.specs.Family.{has}
-use Rattle.lattice.specs.Cofactors.{join, level}
-use Rattle.lattice.proofs.Families.{has-nil, has_head, has_other}
-use Rattle.lattice.proofs.Cofactors.{has-join_low, has-join_high}
-use Rattle.lattice.proofs.Subfamilies.{level-below, single-join}
 use Rattle.std.proofs.lemmas.Grind.{pow_more}
-use Rattle.node_store.specs.Stores.{State, Knows, family, node_family, IsNode, IsSound, Grows}
+use Rattle.lattice.specs.Family.{Family, Has, IsFamily, has, power}
+use Rattle.lattice.specs.Cofactors.{join, sub}
+use Rattle.lattice.proofs.Diagrams.{IsFamily-nil, IsFamily-single, single-join, IsFamily-power, power_whole, sub-join_high}
+use Rattle.lattice.proofs.Polynomials.{has-nil, has_head, has_other}
+use Rattle.node_store.specs.Stores.{State, family, Denotes, IsSound, IsPlanned, Reads}
 use Rattle.node_store.specs.declared.store.Handle.{Handle}
-use Rattle.node_store.specs.declared.store.Node.{Node}
-use Rattle.node_store.proofs.StoreLemmas.{Grows-family, node_level, zero_family}
+use Rattle.node_store.proofs.StoreLaws.{MayGrow, zero_family}
+use Rattle.lattice.proofs.Diagrams.{weight_is}
+use Rattle.lattice.specs.declared.limits.TheConstants.{MAX_VARS}
 
--- what `1 << k` computes
-pub weight_is : (k : ℕ) → k < 64 → 1 * 2 ^ k % 18446744073709551616 ≡ 2 ^ k
-weight_is k l = ap (λ (x : ℕ). x % 18446744073709551616) (one-mul (2 ^ k)) ∙ mod-eq_of_lt (pow-lt l)
+-- ---- the constants
 
--- a known family's variables, in a later state
-pub level_later : (s t : State) (a : Handle) → Grows s t → Knows s a → level t.vars (family t a) ≡ level s.vars (family s a)
-level_later s t a grows known = rw (grows.vars, Grows-family s t a grows known) refl
-
--- a family at its node: s is the state before, t the one after the node was asked for
-module _ (s t : State) (a : Handle) (n : Node) (oks : IsSound s) (okt : IsSound t) (grows : Grows s t) (node : IsNode t n) (is : family s a ≡ node_family t n) where
-  pub top : level s.vars (family s a) ≡ suc (s.vars - n.var)
-  top = node_level s t n (family s a) okt node grows.vars is
-
-  pub lo_falls : level t.vars (family t n.lo) < level s.vars (family s a)
-  lo_falls =
-      let x : level t.vars (family t n.lo) ≤ t.vars - n.var = level-below (t.vars - n.var) t.vars (family t n.lo) node.parts.lo_after (omega arith) in
-      omega (arith, x, top, grows.vars)
-
-  pub hi_falls : level t.vars (family t n.hi) < level s.vars (family s a)
-  hi_falls =
-      let x : level t.vars (family t n.hi) ≤ t.vars - n.var = level-below (t.vars - n.var) t.vars (family t n.hi) node.parts.hi_after (omega arith) in
-      omega (arith, x, top, grows.vars)
-
-  shift : (k w : ℕ) → k ≡ t.vars → w ≡ 1 * 2 ^ (k - n.var) % 18446744073709551616 → w ≡ 2 ^ (t.vars - n.var)
-  shift k w e wis = wis ∙ (weight_is (k - n.var) (omega (arith, e, okt.vars_high)) ∙ ap (λ i. 2 ^ (i - n.var)) e)
-
-  pub has_low : (k m : ℕ) → k ≡ t.vars → m < 1 * 2 ^ (k - n.var) % 18446744073709551616 → has (family t n.lo) m ≡ has (family s a) m
-  has_low k m e less =
-      let w : 1 * 2 ^ (k - n.var) % 18446744073709551616 ≡ 2 ^ (t.vars - n.var) = shift k (1 * 2 ^ (k - n.var) % 18446744073709551616) e refl in
-      sym (ap (λ f. has f m) is ∙ has-join_low (t.vars - n.var) (family t n.lo) (family t n.hi) m (subst (λ x. m < x) w less))
-
-  pub has_high : (k m : ℕ) → k ≡ t.vars → 1 * 2 ^ (k - n.var) % 18446744073709551616 ≤ m → has (family t n.hi) (m - 1 * 2 ^ (k - n.var) % 18446744073709551616) ≡ has (family s a) m
-  has_high k m e more =
-      let w : 1 * 2 ^ (k - n.var) % 18446744073709551616 ≡ 2 ^ (t.vars - n.var) = shift k (1 * 2 ^ (k - n.var) % 18446744073709551616) e refl in
-      let le : 2 ^ (t.vars - n.var) ≤ m = subst (λ x. x ≤ m) w more in
-      let sum : 2 ^ (t.vars - n.var) + (m - 2 ^ (t.vars - n.var)) ≡ m = omega (arith, le) in
-      ap (λ x. has (family t n.hi) (m - x)) w
-      ∙ sym (ap (λ f. has f m) is ∙ (ap (has (node_family t n)) (sym sum) ∙ has-join_high (t.vars - n.var) (family t n.lo) (family t n.hi) (m - 2 ^ (t.vars - n.var)) node.parts.lo_after))
-
--- the constants
 pub has_nothing : (s : State) (a : Handle) (m : ℕ) → IsSound s → a.0 ≡ 0 → false ≡ has (family s a) m
 has_nothing s a m ok e = sym (ap (λ f. has f m) (zero_family s a ok e) ∙ has-nil m)
 
@@ -68,17 +30,82 @@ has_unit s a m ok small some =
       | inr ne ↦ ne_eqb m 0 (λ e. ne (sym e)) ∙ sym (has_other 0 [] m ne ∙ has-nil m)
     ]
 
--- a number with the variable of weight 2 ^ d, cut at this variable
-pub single_whole : (d m w : ℕ) → d < 64 → w ≡ 1 * 2 ^ d % 18446744073709551616 → w ≤ m → m ∷ [] ≡ join d [] ((m - w) ∷ [])
-single_whole d m w l e le =
-    let at : w ≡ 2 ^ d = e ∙ weight_is d l in
-    single-join d m (subst (λ x. x ≤ m) at le) ∙ ap (λ x. join d [] ((m - x) ∷ [])) (sym at)
+-- the high part's families are planned with the whole's
+planned_high : (s : State) (d : ℕ) (L H F : Family) → F ≡ join d L H → IsFamily d L → IsFamily d H → d < s.vars → IsPlanned s F
+    → IsPlanned s H
+planned_high s d L H F whole low high less planned f h =
+    planned f (subst (λ w. Has (sub s.vars w) f) (sym whole) (sub-join_high d s.vars L H low high less f h))
 
-pub single_below : (d m w : ℕ) → d < 64 → w ≡ 1 * 2 ^ d % 18446744073709551616 → w ≤ m → m < 2 ^ suc d → m - w < 2 ^ d
-single_below d m w l e le b =
-    let at : w ≡ 2 ^ d = e ∙ weight_is d l in
-    let twice : 2 ^ suc d ≡ 2 ^ d + 2 ^ d = ap (λ k. 2 ^ k) (sym (add-one d)) ∙ omega (arith, pow_more 2 d) in
-    omega (arith, at, le, b, twice)
+-- ---- all numbers
 
-pub single_some : (m : ℕ) → m ∷ [] ≢ []
-single_some m e = cc
+pub power_planned : (s : State) (count : ℕ) → count ≢ 0 → count ≤ s.vars → IsPlanned s (power count) → IsPlanned s (power (count - 1))
+power_planned s count some few =
+    let all = power (count - 1) in
+    planned_high s (count - 1) all all (power count) (power_whole count some) (IsFamily-power (count - 1)) (IsFamily-power (count - 1))
+    (omega arith)
+
+pub power_grows : {s t : State} (count vars : ℕ) {rest : Handle} → count ≢ 0 → count ≤ s.vars → Reads s t → vars ≡ t.vars
+    → Denotes t rest (power (count - 1)) → IsPlanned s (power count) → MayGrow s t (vars - (count - 1)) rest rest (power count)
+power_grows {s} count vars some few reads asked is planned =
+    let behind : s.vars - (vars - (count - 1)) ≡ count - 1 = omega (arith, reads.grows.vars) in
+    record {
+      reads = reads;
+      first = omega (arith, reads.grows.vars);
+      last = omega (arith, reads.grows.vars);
+      low = power (count - 1);
+      high = power (count - 1);
+      lo_is = is;
+      hi_is = is;
+      low_after = rw behind (IsFamily-power (count - 1));
+      high_after = rw behind (IsFamily-power (count - 1));
+      whole = rw behind (power_whole count some);
+      planned = planned;
+    }
+
+-- ---- one number
+
+-- a number with the variable of weight 2 ^ d, cut at this variable; w is what is computed as the weight
+module _ (count m w : ℕ) (some : m ≢ 0) (below : m < 2 ^ count) (few : count ≤ MAX_VARS)
+    (w_is : w ≡ 1 * 2 ^ (count - 1) % 18446744073709551616) (within : w ≤ m) where
+  at : w ≡ 2 ^ (count - 1)
+  at = w_is ∙ weight_is (count - 1) (omega arith)
+
+  -- there is a variable
+  pub more : count ≡ suc (count - 1)
+  more = elim (cases_eq count 0) [
+    | inl e ↦ let one : m < 1 = subst (λ k. m < 2 ^ k) e below in absurd (some (omega arith))
+    | inr n ↦ omega arith
+  ]
+
+  single_whole : m ∷ [] ≡ join (count - 1) [] ((m - w) ∷ [])
+  single_whole = single-join (count - 1) m (rw (← at) within) ∙ ap (λ x. join (count - 1) [] ((m - x) ∷ [])) (sym at)
+
+  pub single_below : m - w < 2 ^ (count - 1)
+  single_below =
+      let twice : 2 ^ count ≡ 2 ^ (count - 1) + 2 ^ (count - 1) =
+      ap (λ k. 2 ^ k) (more ∙ sym (add-one (count - 1))) ∙ omega (arith, pow_more 2 (count - 1)) in
+      omega (arith, at, twice)
+
+  module _ (s : State) (over : count ≤ s.vars) where
+    pub single_planned : IsPlanned s (m ∷ []) → IsPlanned s ((m - w) ∷ [])
+    single_planned =
+        planned_high s (count - 1) [] ((m - w) ∷ []) (m ∷ []) single_whole (IsFamily-nil (count - 1))
+        (IsFamily-single (count - 1) (m - w) single_below) (omega (arith, more))
+
+    pub single_grows : {t : State} (vars : ℕ) {high : Handle} → IsSound t → Reads s t → vars ≡ t.vars → Denotes t high ((m - w) ∷ [])
+        → IsPlanned s (m ∷ []) → MayGrow s t (vars - (count - 1)) (record { 0 = 0 }) high (m ∷ [])
+    single_grows vars ok reads asked is planned =
+        let behind : s.vars - (vars - (count - 1)) ≡ count - 1 = omega (arith, more, reads.grows.vars) in
+        record {
+          reads = reads;
+          first = omega (arith, more, reads.grows.vars);
+          last = omega (arith, more, reads.grows.vars);
+          low = [];
+          high = (m - w) ∷ [];
+          lo_is = ok.empty;
+          hi_is = is;
+          low_after = rw behind (IsFamily-nil (count - 1));
+          high_after = rw behind (IsFamily-single (count - 1) (m - w) single_below);
+          whole = rw behind single_whole;
+          planned = planned;
+        }

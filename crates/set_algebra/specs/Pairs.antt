@@ -1,9 +1,9 @@
 -- Two families in an operation: in which order, and cut at their first variable.
-use Rattle.std.specs.Prelude.{◌≡◌, ℕ, Option, Bool, suc, ◌-◌, ◌≤◌, ◌⊎◌, max}
+use Rattle.std.specs.Prelude.{◌≡◌, ℕ, Option, Some, None, Bool, suc, ◌-◌, ◌≤◌, ◌⊎◌, max}
 use Rattle.lattice.specs.Cofactors.{low_cofactor, high_cofactor, level}
 use Rattle.lattice.specs.Operations.{test_of}
 use Rattle.lattice.specs.declared.op.Op.{Op}
-use Rattle.node_store.specs.Stores.{State, Denotes, Knows, family, IsNodeOf, IsSound, Grows}
+use Rattle.node_store.specs.Stores.{State, Denotes, family}
 use Rattle.node_store.specs.declared.store.Handle.{Handle}
 use Rattle.node_store.specs.declared.store.Node.{Node}
 use Rattle.set_algebra.specs.declared.pairs.Cofactors.{Cofactors}
@@ -12,12 +12,20 @@ use Rattle.set_algebra.specs.declared.pairs.Cofactors.{Cofactors}
 abbrev pub AreInOrder : Op → Handle → Handle → Handle → Handle → Type 0
 AreInOrder op a b x y = ((x ≡ a) × (y ≡ b)) ⊎ ((x ≡ b) × (y ≡ a) × ((p q : Bool) → test_of op p q ≡ test_of op q p))
 
--- var is the first variable of two families, wherever these are the nodes of their handles a and b; s is the state before the
--- nodes were asked for, t the one in between and u the one after
+-- how many of n variables there are from a node's on; none for a constant
+abbrev pub level_at : ℕ → Option Node → ℕ
+level_at n None = 0
+level_at n (Some m) = suc (n - m.var)
+
+-- the node, if there is one, has one of n variables
+abbrev pub IsAt : ℕ → Option Node → Type 0
+IsAt n None = Unit {0}
+IsAt n (Some m) = (1 ≤ m.var) × (m.var ≤ n)
+
+-- var is the first variable of two nodes
 abbrev pub IsFirstOf : Option Node → Option Node → ℕ → Type 0
 IsFirstOf first second var =
-    (s t u : State) (a b : Handle) → IsSound s → IsSound t → IsSound u → Grows s t → Grows t u → Knows s a → Knows s b → IsNodeOf s t a first → IsNodeOf t u b second
-    → (1 ≤ var) × (var ≤ s.vars) × (max (level s.vars (family s a)) (level s.vars (family s b)) ≡ suc (s.vars - var))
+    (n : ℕ) → IsAt n first → IsAt n second → (1 ≤ var) × (var ≤ n) × (max (level_at n first) (level_at n second) ≡ suc (n - var))
 
 -- the parts of the families of a and b at the first variable of both; s is the state before, t the one after
 pub record AreCofactors (s t : State) (a b : Handle) (h : Cofactors) : Type 0 where

@@ -3,6 +3,7 @@ ghost use Rattle.std.specs.Prelude.{◌≡◌, ◌<◌, ◌≤◌, ◌+◌, ◌^
 ghost use Rattle.lattice.specs.Cofactors.{level};
 ghost use Rattle.node_store.specs.Stores.{Knows, family, Reads};
 
+use crate::halves::split;
 use lattice::{Memory, Mono, Monos};
 use node_store::{Handle, Store};
 use std::alloc::Global;
@@ -35,14 +36,14 @@ pub fn count_upto<S: Store>(store: &mut S, a: Handle, limit: u64) -> Option<u64>
     ensures within { IfSome result (λ n. n ≤ limit) }
     ensures over { IfNone result (limit < length (family (S.state store.old) a)) }
 {
-    match store.node(a) {
+    match split(store, a) {
         None => {
             let count = if a.0 == 0 { 0 } else { 1 };
             if count <= limit { Some(count) } else { None }
         }
-        Some(n) => {
-            let low = count_upto(store, n.lo, limit)?;
-            let high = count_upto(store, n.hi, limit - low)?;
+        Some(h) => {
+            let low = count_upto(store, h.low, limit)?;
+            let high = count_upto(store, h.high, limit - low)?;
             Some(low + high)
         }
     }
@@ -64,7 +65,7 @@ fn walk_into<S: Store>(
     ensures within { OnOk result (length into.new ≤ limit) }
     ensures over { IsErrOf result WalkRefusal.Over → limit < length into.old + length (family (S.state store.old) a) }
 {
-    match store.node(a) {
+    match split(store, a) {
         None => {
             if a.0 == 0 {
                 return Ok(());
@@ -75,10 +76,9 @@ fn walk_into<S: Store>(
             into.push(Mono(base))?;
             Ok(())
         }
-        Some(n) => {
-            let weight = 1u64 << (store.vars() - n.var);
-            walk_into(store, n.hi, base + weight, limit, into)?;
-            walk_into(store, n.lo, base, limit, into)
+        Some(h) => {
+            walk_into(store, h.high, base + h.weight, limit, into)?;
+            walk_into(store, h.low, base, limit, into)
         }
     }
 }

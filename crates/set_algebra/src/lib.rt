@@ -2,6 +2,7 @@
 #![tactic(auto)]
 
 mod counted;
+mod halves;
 mod pairs;
 mod pointwise;
 mod single;

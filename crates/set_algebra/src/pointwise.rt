@@ -1,5 +1,5 @@
 //! The operations that tell for each number alone whether it is in the result.
-ghost use Rattle.std.specs.Prelude.{◌≡◌, ◌≤◌, ◌⊎◌, IfSome, IfNone, true, false};
+ghost use Rattle.std.specs.Prelude.{◌≡◌, ◌≤◌, ◌⊎◌, IfSome, IfNone, true, false, cond, []};
 ghost use Rattle.lattice.specs.Family.{combine, union_of, inter_of, minus_of, sum_of};
 ghost use Rattle.lattice.specs.Operations.{test_of, is_pointwise};
 ghost use Rattle.node_store.specs.Stores.{State, Knows, Denotes, family, IsPlanned, Builds, IsSound};
@@ -32,8 +32,7 @@ fn keeps_second(op: Op) -> bool
 
 /// The handle where it is kept, and else that of the empty family.
 fn kept_if(keep: bool, h: Handle) -> Handle
-    ensures yes { keep ≡ true → result ≡ h }
-    ensures no { keep ≡ false → result.0 ≡ 0 }
+    ensures { (s : State) → IsSound s → Knows s h → Denotes s result (cond keep (family s h) []) }
 {
     if keep { h } else { Handle(0) }
 }

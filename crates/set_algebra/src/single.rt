@@ -3,6 +3,7 @@ ghost use Rattle.std.specs.Prelude.{◌≡◌, ◌<◌, ◌≤◌, ◌-◌, ◌^
 ghost use Rattle.lattice.specs.Family.{has, power};
 ghost use Rattle.node_store.specs.Stores.{Knows, family, IsPlanned, Reads, Builds};
 
+use crate::halves::split;
 use lattice::Mono;
 use node_store::{Full, Handle, Store, grow};
 
@@ -65,14 +66,13 @@ fn holds<S: Store>(store: &mut S, a: Handle, m: u64) -> bool
     ensures reads { Reads (S.state store.old) (S.state store.new) }
     ensures value { result ≡ has (family (S.state store.old) a) m }
 {
-    match store.node(a) {
+    match split(store, a) {
         None => a.0 != 0 && m == 0,
-        Some(n) => {
-            let weight = 1u64 << (store.vars() - n.var);
-            if m < weight {
-                holds(store, n.lo, m)
+        Some(h) => {
+            if m < h.weight {
+                holds(store, h.low, m)
             } else {
-                holds(store, n.hi, m - weight)
+                holds(store, h.high, m - h.weight)
             }
         }
     }

@@ -1,33 +1,11 @@
-ghost use Rattle.std.specs.Prelude.{◌≡◌, ◌<◌, ◌≤◌, ◌^◌, IfOk, OnOk};
-ghost use Rattle.lattice.specs.WorkingLists.{working_set};
-ghost use Rattle.lattice.proofs.WorkingSets.{working_set_is_node_list};
-ghost use Rattle.node_store.specs.PlainOf.{state_of};
-ghost use Rattle.node_store.specs.AnyFamily.{every_family, MayHoldAny};
+ghost use Rattle.std.specs.Prelude.{◌<◌, ◌^◌, IfOk};
 ghost use Rattle.set_algebra.specs.ReadyStores.{IsReady};
 
 use crate::{WalkRefusal, contains, count_upto, inter, minus, one, power, union, walk_upto, xor};
-use lattice::{Memory, Mono, Monos, Op, Planned, plan_of};
-use node_store::{Full, Handle, PlainStore, Store};
+use lattice::{Mono, Monos, Op};
+use node_store::{Full, Handle, PlainStore, Store, any_plan};
 use std::alloc::Global;
 use std::test::Fail;
-
-// Every family over so many variables.
-#[derive(Drop)]
-struct EveryFamily(u32);
-
-impl Planned for EveryFamily {
-    ghost families = { λ p. working_set p.0 (every_family p.0) };
-
-    ghost node_list = { λ p. working_set_is_node_list p.0 (every_family p.0) };
-}
-
-// A store of 256 slots that may be asked for any family.
-fn store_for_any(alloc: Global, vars: u32) -> Result<PlainStore, Memory>
-    requires { (1 ≤ vars) × (vars ≤ 62) }
-    ensures { IfOk result (λ s. MayHoldAny vars (state_of s)) }
-{
-    PlainStore::make(alloc, 8, vars, plan_of(&EveryFamily(vars)))
-}
 
 // The family of two numbers. The store goes on knowing `other`.
 fn pair<S: Store>(store: &mut S, vars: u32, m: u64, n: u64, other: Handle) -> Result<Handle, Full>
@@ -81,7 +59,7 @@ fn members<S: Store>(
 // The operations on {1, 2} and {2, 3}.
 #[test]
 fn two_families(rt: HostRuntime) -> Result<(), Fail> {
-    let mut store = store_for_any(rt.alloc(), 2)?;
+    let mut store = PlainStore::make(rt.alloc(), 8, 2, any_plan(2))?;
     let a = pair(&mut store, 2, 1, 2, Handle(0))?;
     let b = pair(&mut store, 2, 2, 3, a)?;
     let union = members(rt.alloc(), &mut store, Op::Union, a, b)?;
@@ -98,7 +76,7 @@ fn two_families(rt: HostRuntime) -> Result<(), Fail> {
 // All numbers over two variables, walked up to four and up to three of them.
 #[test]
 fn walked_to_the_limit(rt: HostRuntime) -> Result<(), Fail> {
-    let mut store = store_for_any(rt.alloc(), 2)?;
+    let mut store = PlainStore::make(rt.alloc(), 8, 2, any_plan(2))?;
     let all = power(&mut store)?;
     let members = walk_upto(rt.alloc(), &mut store, all, 4)?;
     assert_eq!(rt;
@@ -113,7 +91,7 @@ fn walked_to_the_limit(rt: HostRuntime) -> Result<(), Fail> {
 // All numbers over 62 variables, and all of them but one.
 #[test]
 fn many_members(rt: HostRuntime) -> Result<(), Fail> {
-    let mut store = store_for_any(rt.alloc(), 62)?;
+    let mut store = PlainStore::make(rt.alloc(), 8, 62, any_plan(62))?;
     let all = power(&mut store)?;
     let five = one(&mut store, Mono(5))?;
     let rest = combined(&mut store, 62, Op::Minus, all, five)?;
@@ -130,7 +108,7 @@ fn many_members(rt: HostRuntime) -> Result<(), Fail> {
 // The members of {5} over 62 variables.
 #[test]
 fn one_member(rt: HostRuntime) -> Result<(), Fail> {
-    let mut store = store_for_any(rt.alloc(), 62)?;
+    let mut store = PlainStore::make(rt.alloc(), 8, 62, any_plan(62))?;
     let five = one(&mut store, Mono(5))?;
     assert_eq!(rt; count_upto(&mut store, five, 1), Some(1));
     assert_eq!(rt; count_upto(&mut store, five, 0), None);

@@ -1,6 +1,5 @@
-pub mod WorkedFamilies
-pub mod StandardFamilies
-pub mod StandardLemmas
-pub mod LeadFamilies
-pub mod LeadLemmas
-pub mod ListedFamilies
+mod StandardFamilies
+mod StandardLemmas
+mod LeadFamilies
+mod LeadLemmas
+pub mod MonomialNeeds

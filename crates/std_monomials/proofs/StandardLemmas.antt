@@ -1,263 +1,251 @@
--- The steps of finding the standard monomials in a store. s0 is the state at the call, and a the handle of the points.
-use Rattle.std.proofs.Common.{◌≡◌, ◌≢◌, ℕ, suc, ◌-◌, ◌<◌, ◌≤◌, Result, Ok, Err, IfOk, Some, [], sym, ◌∙◌, ap, subst, arith, refl}
-use Rattle.lattice.specs.Family.{Family, IsFamily, union_of, inter_of, Has, Covers}
+-- The steps of finding the standard monomials in a store.
+use Rattle.std.proofs.Common.{◌≡◌, ◌≢◌, ℕ, suc, ◌-◌, ◌<◌, ◌≤◌, Result, Ok, Err, IfOk, Some, List, [], ◌∷◌, ◌++◌, sym, ◌∙◌, ap, subst, arith}
+use Rattle.std.proofs.Common.{refl, append_assoc}
+use Rattle.lattice.specs.Family.{Family, IsFamily, union_of, inter_of, Covers}
 use Rattle.lattice.specs.Cofactors.{low_cofactor, high_cofactor, join, level, sub}
 use Rattle.lattice.specs.Basis.{standard_of}
-use Rattle.lattice.specs.Operations.{answer, IsAllowed}
-use Rattle.lattice.specs.WorkingLists.{needs}
+use Rattle.lattice.specs.Operations.{answer}
+use Rattle.lattice.specs.WorkingLists.{needs, standard_list, working_set}
 use Rattle.lattice.specs.declared.op.Op.TheVariants.{Standard}
-use Rattle.lattice.proofs.Results.{standard_by_recursion}
-use Rattle.lattice.proofs.Subfamilies.{IsFamily_level, level-below}
-use Rattle.node_store.specs.Stores.{State, Knows, family, Denotes, AreParts, IsSound, Grows, Reads, Gives, Builds, IsResult}
+use Rattle.lattice.proofs.Diagrams.{Has-head, Has-tail, Has-append_left, Has-append_right, level-below, IsFamily_level, covers_family}
+use Rattle.lattice.proofs.Diagrams.{covers_part}
+use Rattle.lattice.proofs.Polynomials.{standard_by_recursion}
+use Rattle.node_store.specs.Stores.{State, Knows, family, Denotes, IsSound, Reads, Gives, Builds, AreOperands, IsResult}
 use Rattle.node_store.specs.declared.store.Handle.{Handle}
 use Rattle.node_store.specs.declared.store.Full.{Full}
-use Rattle.node_store.proofs.StoreLemmas.{Denotes-knows, Denotes-family, known_after, constant, filled, Grows-family, Grows-knows, Grows-denotes, Grows-trans, Reads-trans, Gives-reads}
-use Rattle.node_store.proofs.GrownNodes.{grown_parts, grown_planned, grown_builds}
+use Rattle.node_store.proofs.StoreLaws.{Found, Halves, found_built, found_call, found_read, grow_gives, Denotes-family, Denotes-knows}
+use Rattle.node_store.proofs.StoreLaws.{Grows-denotes, Grows-family, Reads-trans, allowed_all, constant, given_kept, kept_given}
+use Rattle.node_store.proofs.StoreLaws.{known_after}
 use Rattle.std_monomials.specs.Monomials.{AreStandard}
-use Rattle.std_monomials.proofs.StandardFamilies.{standard_of-constant, needs-constant, first_full, either_after, both_after, lo_after, hi_after, standard_of-join, needs-either, needs-both, needs-lo, needs-hi, needs-result, needs-all}
+use Rattle.std_monomials.proofs.StandardFamilies.{standard_of-constant, needs-constant, needs-standard, first_full, either_of, both_of}
+use Rattle.std_monomials.proofs.StandardFamilies.{split_list, either_after, both_after, lo_after, hi_after, standard_of-join, needs-split}
 
-answer_is : (n : ℕ) (f : Family) → answer Standard n f [] 0 ≡ standard_of n f
-unfolding answer
-answer_is n f = refl
+-- a call: s is the state before it, and a the handle of the points
+pub record Call (s : State) (a : Handle) : Type 0 where
+  pub sound : IsSound s
+  pub known : Knows s a
+  pub planned : Covers s.plan (needs Standard s.vars (family s a) [] 0)
 
-no_condition : (n : ℕ) (f : Family) → IsAllowed Standard n f [] 0
-no_condition n f = record {
-  disjoint = λ e. cc;
-  closed = λ e. cc;
-  after = λ e. cc;
-  first = λ e. cc;
-  last = λ e. cc;
-  inside = λ e. cc;
-}
+pub call_of : {s : State} (a : Handle) → IsSound s → Knows s a → Covers s.plan (needs Standard s.vars (family s a) [] 0) → Call s a
+call_of a sound known planned = record { sound = sound; known = known; planned = planned }
 
-module _ (s0 : State) (a : Handle) (ok0 : IsSound s0) (ka : Knows s0 a) where
-  abbrev F : Family
-  F = family s0 a
+-- what it does
+abbrev pub Does : State → Handle → State → Result Handle Full → Type 0
+Does s a t r = Gives s t r (standard_of s.vars (family s a)) (needs Standard s.vars (family s a) [] 0)
 
-  abbrev n : ℕ
-  n = s0.vars
+operands : {s : State} {a : Handle} → Call s a → AreOperands s Standard a 0
+operands call = record { first = call.known; second_handle = λ e. cc; second_variable = λ e. cc; second_none = λ e f. refl }
 
-  -- what the call does
-  abbrev pub GivesStandard : State → Result Handle Full → Type 0
-  GivesStandard t r = Gives s0 t r (standard_of s0.vars (family s0 a)) (needs Standard s0.vars (family s0 a) [] 0)
+module _ {s : State} {a : Handle} (call : Call s a) {t : State} where
+  pub by_definition : (r : Result Handle Full) → Does s a t r → IfOk r (λ h. AreStandard s.vars (family s a) (family t h))
+  by_definition (Ok h) does = rw (Denotes-family t h (standard_of s.vars (family s a)) does.ok)
+      (standard_by_recursion s.vars (family s a) (known_after s a call.sound call.known)).1
+  by_definition (Err e) does = tt
 
-  pub by_definition : (t : State) (r : Result Handle Full) → GivesStandard t r → IfOk r (λ h. AreStandard s0.vars (family s0 a) (family t h))
-  by_definition t (Ok h) gives = rw (Denotes-family t h (standard_of n F) gives.ok) (standard_by_recursion n F (known_after s0 a ok0 ka)).1
-  by_definition t (Err e) gives = tt
-
-  pub constant_gives : (t : State) → Reads s0 t → a.0 < 2 → GivesStandard t (Ok a)
-  constant_gives t reads small =
-      let is : IsFamily 0 F = constant s0 a ok0 small in
+  pub constant_gives : Reads s t → a.0 < 2 → Does s a t (Ok a)
+  constant_gives reads small =
+      let is : IsFamily 0 (family s a) = constant s a call.sound small in
       record {
         grows = reads.grows;
-        ok = Grows-denotes s0 t a reads.grows ka ∙ ap Some (sym (standard_of-constant n F is));
-        held = needs-constant n F t.held is;
+        ok = Grows-denotes s t a reads.grows call.known ∙ ap Some (sym (standard_of-constant s.vars (family s a) is));
+        held = needs-constant s.vars (family s a) t.held is;
         quiet = reads.quiet;
         full = tt;
       }
 
-  pub looked_gives : (t : State) (r : Handle) → Reads s0 t → IsResult t Standard a 0 r → GivesStandard t (Ok r)
-  looked_gives t r reads kept = record {
-    grows = reads.grows;
-    ok = (rw (reads.grows.vars, Grows-family s0 t a reads.grows ka) at kept.denotes) ∙ ap Some (answer_is n F);
-    held = rw (← reads.grows.vars, ← Grows-family s0 t a reads.grows ka) kept.held;
-    quiet = reads.quiet;
-    full = tt;
-  }
+  pub looked_gives : {r : Handle} → Reads s t → IsResult t Standard a 0 r → Does s a t (Ok r)
+  unfolding answer
+  looked_gives reads kept = kept_given (operands call) reads kept
 
-  pub kept_result : (t : State) (r : Handle) → GivesStandard t (Ok r) → IsResult t Standard a 0 r
-  kept_result t r gives =
-      let same : family t a ≡ F = Grows-family s0 t a gives.grows ka in
+  pub kept_result : {r : Handle} → Does s a t (Ok r) → IsResult t Standard a 0 r
+  unfolding answer
+  kept_result does = given_kept (operands call) (allowed_all Standard refl (λ e. cc) (λ e. cc) (λ e. cc)) does
+
+-- ---- points with a first variable
+
+-- var is the first variable of the points
+pub record First (s : State) (a : Handle) (var : ℕ) : Type 0 where
+  pub call : Call s a
+  pub first : 1 ≤ var
+  pub last : var ≤ s.vars
+  pub top : level s.vars (family s a) ≡ suc (s.vars - var)
+
+pub first_at : {s : State} {a : Handle} (var : ℕ) → Call s a → (1 ≤ var) × (var ≤ s.vars)
+    → level s.vars (family s a) ≡ suc (s.vars - var) → First s a var
+first_at var call range top = record { call = call; first = range.0; last = range.1; top = top }
+
+module _ {s : State} {a : Handle} {var : ℕ} (at : First s a var) where
+  abbrev n : ℕ
+  n = s.vars
+
+  abbrev d : ℕ
+  d = s.vars - var
+
+  abbrev F : Family
+  F = family s a
+
+  abbrev list : List Family
+  list = split_list n d F
+
+  less : d < n
+  less = omega (arith, at.first, at.last)
+
+  after : IsFamily (suc d) F
+  after = subst (λ k. IsFamily k F) at.top (IsFamily_level n F (known_after s a at.call.sound at.call.known))
+
+  full : high_cofactor d F ≢ []
+  full = first_full n d F after less at.top
+
+  planned : Covers s.plan (working_set n list)
+  planned = rw (← needs-split n d F after less full) at.call.planned
+
+  pub parts_after : {t : State} → Reads s t → IsFamily (suc (t.vars - var)) (family t a)
+  parts_after {t = t} reads = rw (reads.grows.vars, Grows-family s t a reads.grows at.call.known) after
+
+  -- the call for one of the two families of points, c
+  module _ {t : State} {h : Handle} (c : Family) (reads : Reads s t) (is : Denotes t h c) (within : IsFamily d c) where
+    pub next_falls : level t.vars (family t h) < level s.vars (family s a)
+    next_falls =
+        let le : level n c ≤ d = level-below d n c within (omega (arith, less)) in
+        rw (reads.grows.vars, Denotes-family t h c is, at.top) (omega (arith, le))
+
+    pub next_call : IsSound t → Covers list (standard_list n c) → Call t h
+    next_call sound part = record {
+      sound = sound;
+      known = Denotes-knows t h c is;
+      planned = rw (reads.grows.plan, reads.grows.vars, Denotes-family t h c is, needs-standard n c)
+          (covers_part n s.plan list (standard_list n c) planned part);
+    }
+
+-- in t low and high are the parts of the points
+pub record Cut (s t : State) (a : Handle) (var : ℕ) (low high : Handle) : Type 0 where
+  pub at : First s a var
+  pub reads : Reads s t
+  pub low_at : Denotes t low (low_cofactor (s.vars - var) (family s a))
+  pub high_at : Denotes t high (high_cofactor (s.vars - var) (family s a))
+
+module _ {s q r t : State} {a : Handle} where
+  pub cut_at : {var : ℕ} (low high : Handle) → First s a var → Reads s q → Reads q r → Reads r t
+      → Denotes t low (low_cofactor (r.vars - var) (family r a)) → Denotes t high (high_cofactor (r.vars - var) (family r a))
+      → Cut s t a var low high
+  cut_at low high at one two three l h =
+      let before : Reads s r = Reads-trans s q r one two in
+      let same : family r a ≡ family s a = Grows-family s r a before.grows at.call.known in
       record {
-        operands = record {
-          first = Grows-knows s0 t a gives.grows ka;
-          second_handle = λ e. cc;
-          second_variable = λ e. cc;
-          second_none = λ e f. refl;
-        };
-        allowed = no_condition t.vars (family t a);
-        denotes = rw (gives.grows.vars, same) (gives.ok ∙ ap Some (sym (answer_is n F)));
-        held = rw (gives.grows.vars, same) gives.held;
+        at = at;
+        reads = Reads-trans s r t before three;
+        low_at = rw (before.grows.vars, same) at l;
+        high_at = rw (before.grows.vars, same) at h;
       }
 
-  -- ---- points with a first variable
+-- in v either and both are the points of either half and those of both
+pub record Halved (s v : State) (a : Handle) (var : ℕ) (either both : Handle) : Type 0 where
+  pub at : First s a var
+  pub found : Found s v (either_of s.vars (s.vars - var) (family s a) ∷ both_of s.vars (s.vars - var) (family s a) ∷ [])
+  pub either_at : Denotes v either (either_of s.vars (s.vars - var) (family s a))
+  pub both_at : Denotes v both (both_of s.vars (s.vars - var) (family s a))
 
-  module _ (var : ℕ) (first : 1 ≤ var) (last : var ≤ s0.vars) (lev : level s0.vars (family s0 a) ≡ suc (s0.vars - var)) where
-    abbrev d : ℕ
-    d = n - var
+module _ {s t : State} {a : Handle} {var : ℕ} {low high : Handle} (k : Cut s t a var low high) where
+  abbrev E : Family
+  E = either_of s.vars (s.vars - var) (family s a)
 
-    less : d < n
-    less = omega (arith, first, last)
+  abbrev B : Family
+  B = both_of s.vars (s.vars - var) (family s a)
 
-    after : IsFamily (suc d) F
-    after = subst (λ k. IsFamily k F) lev (IsFamily_level n F (known_after s0 a ok0 ka))
+  union_is : union_of t.vars (family t low) (family t high) ≡ E
+  union_is = rw (k.reads.grows.vars, Denotes-family t low _ k.low_at, Denotes-family t high _ k.high_at) refl
 
-    full : high_cofactor d F ≢ []
-    full = first_full n d F after less lev
+  pub union_planned : Covers t.plan (sub t.vars (union_of t.vars (family t low) (family t high)))
+  union_planned = rw (k.reads.grows.plan, union_is, k.reads.grows.vars)
+      (covers_family s.vars s.plan (list k.at) E (planned k.at) (Has-head E _))
 
-    abbrev low : Family
-    low = low_cofactor d F
+  -- u is the state after the union
+  module _ {u : State} {e : Handle} (united : Builds t u (Ok e) (union_of t.vars (family t low) (family t high))) where
+    to_u : Found s u (E ∷ [])
+    to_u = found_built E (found_read k.reads) union_is united
 
-    abbrev high : Family
-    high = high_cofactor d F
+    pub at_u : Reads s u
+    at_u = to_u.reads
 
-    abbrev pub either : Family
-    either = union_of s0.vars (low_cofactor (s0.vars - var) (family s0 a)) (high_cofactor (s0.vars - var) (family s0 a))
+    inter_is : inter_of u.vars (family u low) (family u high) ≡ B
+    inter_is = rw (
+      at_u.grows.vars,
+      Denotes-family u low _ (united.grows.known low.0 _ k.low_at),
+      Denotes-family u high _ (united.grows.known high.0 _ k.high_at),
+    ) refl
 
-    abbrev pub both : Family
-    both = inter_of s0.vars (low_cofactor (s0.vars - var) (family s0 a)) (high_cofactor (s0.vars - var) (family s0 a))
+    pub inter_planned : Covers u.plan (sub u.vars (inter_of u.vars (family u low) (family u high)))
+    inter_planned = rw (at_u.grows.plan, inter_is, at_u.grows.vars)
+        (covers_family s.vars s.plan (list k.at) B (planned k.at) (search (Has-head, Has-tail)))
 
-    pub parts_after : (s : State) → Reads s0 s → IsFamily (suc (s.vars - var)) (family s a)
-    parts_after s reads = rw (reads.grows.vars, Grows-family s0 s a reads.grows ka) after
+    pub halved : {v : State} {b : Handle} → Builds u v (Ok b) (inter_of u.vars (family u low) (family u high)) → Halved s v a var e b
+    halved shared = record {
+      at = k.at;
+      found = found_built B to_u inter_is shared;
+      either_at = shared.grows.known e.0 E (united.ok ∙ ap Some union_is);
+      both_at = shared.ok ∙ ap Some inter_is;
+    }
 
-    -- the parts are taken in s, and known in t
-    module _ (s t : State) (lh hh : Handle) (before : Reads s0 s) (cut : Reads s t) (low_is : Denotes t lh (low_cofactor (s.vars - var) (family s a))) (high_is : Denotes t hh (high_cofactor (s.vars - var) (family s a))) where
-      at_t : Reads s0 t
-      at_t = Reads-trans s0 s t before cut
+module _ {s v : State} {a : Handle} {var : ℕ} {e b : Handle} (k : Halved s v a var e b) where
+  abbrev either : Family
+  either = either_of s.vars (s.vars - var) (family s a)
 
-      low_at : Denotes t lh low
-      low_at = rw (before.grows.vars, Grows-family s0 s a before.grows ka) at low_is
+  abbrev both : Family
+  both = both_of s.vars (s.vars - var) (family s a)
 
-      high_at : Denotes t hh high
-      high_at = rw (before.grows.vars, Grows-family s0 s a before.grows ka) at high_is
+  pub lo_falls : level v.vars (family v e) < level s.vars (family s a)
+  lo_falls = next_falls k.at either k.found.reads k.either_at (either_after _ _ _ (after k.at) (less k.at) (full k.at))
 
-      union_is : union_of t.vars (family t lh) (family t hh) ≡ either
-      union_is = rw (at_t.grows.vars, Denotes-family t lh low low_at, Denotes-family t hh high high_at) refl
+  pub lo_call : IsSound v → Call v e
+  lo_call sound = next_call k.at either k.found.reads k.either_at (either_after _ _ _ (after k.at) (less k.at) (full k.at)) sound
+      (λ f i. Has-tail _ _ f (Has-tail _ _ f (Has-append_left (standard_list s.vars either) _ f i)))
 
-      pub union_planned : Covers s0.plan (needs Standard s0.vars (family s0 a) [] 0) → Covers t.plan (sub t.vars (union_of t.vars (family t lh) (family t hh)))
-      union_planned planned = rw (at_t.grows.plan, union_is, at_t.grows.vars) (needs-either n d F after less full s0.plan planned)
+  -- w is the state after the standard monomials of the first family were found
+  module _ {w : State} {lo : Handle} (one : Does v e w (Ok lo)) where
+    to_w : Found s w (either ∷ both ∷ standard_list s.vars either)
+    to_w = found_call (standard_list s.vars either) k.found
+        (rw (k.found.reads.grows.vars, Denotes-family v e either k.either_at) (needs-standard s.vars either)) one
 
-      -- u is the state after the union
-      module _ (u : State) (eh : Handle) (united : Builds t u (Ok eh) (union_of t.vars (family t lh) (family t hh))) where
-        pub at_u : Reads s0 u
-        at_u = Reads-trans s0 t u at_t (Gives-reads t u eh (union_of t.vars (family t lh) (family t hh)) (sub t.vars (union_of t.vars (family t lh) (family t hh))) united)
+    pub at_w : Reads s w
+    at_w = to_w.reads
 
-        either_at : Denotes u eh either
-        either_at = united.ok ∙ ap Some union_is
+    both_w : Denotes w b both
+    both_w = one.grows.known b.0 both k.both_at
 
-        inter_is : inter_of u.vars (family u lh) (family u hh) ≡ both
-        inter_is =
-            let l : Denotes u lh low = united.grows.known lh.0 low low_at in
-            let h : Denotes u hh high = united.grows.known hh.0 high high_at in
-            rw (at_u.grows.vars, Denotes-family u lh low l, Denotes-family u hh high h) refl
+    pub hi_falls : level w.vars (family w b) < level s.vars (family s a)
+    hi_falls = next_falls k.at both at_w both_w (both_after _ _ _ (after k.at) (less k.at) (full k.at))
 
-        pub inter_planned : Covers s0.plan (needs Standard s0.vars (family s0 a) [] 0) → Covers u.plan (sub u.vars (inter_of u.vars (family u lh) (family u hh)))
-        inter_planned planned = rw (at_u.grows.plan, inter_is, at_u.grows.vars) (needs-both n d F after less full s0.plan planned)
+    pub hi_call : IsSound w → Call w b
+    hi_call sound = next_call k.at both at_w both_w (both_after _ _ _ (after k.at) (less k.at) (full k.at)) sound
+        (λ f i. Has-tail _ _ f (Has-tail _ _ f (Has-append_right (standard_list s.vars either) _ f
+        (Has-append_left (standard_list s.vars both) _ f i))))
 
-        -- v is the state after the intersection
-        module _ (v : State) (bh : Handle) (shared : Builds u v (Ok bh) (inter_of u.vars (family u lh) (family u hh))) where
-          pub at_v : Reads s0 v
-          at_v = Reads-trans s0 u v at_u (Gives-reads u v bh (inter_of u.vars (family u lh) (family u hh)) (sub u.vars (inter_of u.vars (family u lh) (family u hh))) shared)
+    -- x is the state after those of the second family were found
+    pub halves : {x : State} {hi : Handle} → IsSound x → Does w b x (Ok hi) → Halves s x var lo hi (standard_of s.vars (family s a))
+        ((either ∷ both ∷ standard_list s.vars either) ++ standard_list s.vars both)
+    halves sound two = record {
+      low_half = standard_of s.vars either;
+      high_half = standard_of s.vars both;
+      found = found_call (standard_list s.vars both) to_w
+          (rw (at_w.grows.vars, Denotes-family w b both both_w) (needs-standard s.vars both)) two;
+      sound = sound;
+      first = k.at.first;
+      last = k.at.last;
+      low = two.grows.known lo.0 _ (rw (k.found.reads.grows.vars, Denotes-family v e either k.either_at) at one.ok);
+      high = rw (at_w.grows.vars, Denotes-family w b both both_w) at two.ok;
+      low_after = lo_after _ _ _ (after k.at) (less k.at) (full k.at);
+      high_after = hi_after _ _ _ (after k.at) (less k.at) (full k.at);
+      whole = standard_of-join _ _ _ (after k.at) (less k.at) (full k.at);
+      planned = covers_family s.vars s.plan (list k.at) (standard_of s.vars (family s a)) (planned k.at)
+          (search (Has-head, Has-tail, Has-append_right));
+    }
 
-          pub either_later : Denotes v eh either
-          either_later = shared.grows.known eh.0 either either_at
-
-          pub both_at : Denotes v bh both
-          both_at = shared.ok ∙ ap Some inter_is
-
-    -- both families of points are known in v
-    module _ (v : State) (eh bh : Handle) (reads : Reads s0 v) (e : Denotes v eh either) (b : Denotes v bh both) where
-      either_is : family v eh ≡ either
-      either_is = Denotes-family v eh either e
-
-      pub lo_knows : Knows v eh
-      lo_knows = Denotes-knows v eh either e
-
-      pub lo_falls : level v.vars (family v eh) < level s0.vars (family s0 a)
-      lo_falls =
-          let le : level n either ≤ d = level-below d n either (either_after n d F after less full) (omega (arith, less)) in
-          rw (reads.grows.vars, either_is, lev) (omega (arith, le))
-
-      pub lo_planned : Covers s0.plan (needs Standard s0.vars (family s0 a) [] 0) → Covers v.plan (needs Standard v.vars (family v eh) [] 0)
-      lo_planned planned = rw (reads.grows.plan, reads.grows.vars, either_is) (needs-lo n d F after less full s0.plan planned)
-
-      -- w is the state after the standard monomials of the first family were found
-      module _ (w : State) (lo : Handle) (one : Gives v w (Ok lo) (standard_of v.vars (family v eh)) (needs Standard v.vars (family v eh) [] 0)) where
-        pub at_w : Reads s0 w
-        at_w = Reads-trans s0 v w reads (Gives-reads v w lo (standard_of v.vars (family v eh)) (needs Standard v.vars (family v eh) [] 0) one)
-
-        lo_at : Denotes w lo (standard_of n either)
-        lo_at = rw (reads.grows.vars, either_is) at one.ok
-
-        lo_held : Covers w.held (needs Standard n either [] 0)
-        lo_held = rw (reads.grows.vars, either_is) at one.held
-
-        b_at : Denotes w bh both
-        b_at = one.grows.known bh.0 both b
-
-        both_is : family w bh ≡ both
-        both_is = Denotes-family w bh both b_at
-
-        pub hi_knows : Knows w bh
-        hi_knows = Denotes-knows w bh both b_at
-
-        pub hi_falls : level w.vars (family w bh) < level s0.vars (family s0 a)
-        hi_falls =
-            let le : level n both ≤ d = level-below d n both (both_after n d F after less full) (omega (arith, less)) in
-            rw (at_w.grows.vars, both_is, lev) (omega (arith, le))
-
-        pub hi_planned : Covers s0.plan (needs Standard s0.vars (family s0 a) [] 0) → Covers w.plan (needs Standard w.vars (family w bh) [] 0)
-        hi_planned planned = rw (at_w.grows.plan, at_w.grows.vars, both_is) (needs-hi n d F after less full s0.plan planned)
-
-        -- x is the state after those of the second family were found
-        module _ (x : State) (hi : Handle) (two : Gives w x (Ok hi) (standard_of w.vars (family w bh)) (needs Standard w.vars (family w bh) [] 0)) where
-          pub at_x : Reads s0 x
-          at_x = Reads-trans s0 w x at_w (Gives-reads w x hi (standard_of w.vars (family w bh)) (needs Standard w.vars (family w bh) [] 0) two)
-
-          l : Denotes x lo (standard_of n either)
-          l = two.grows.known lo.0 (standard_of n either) lo_at
-
-          h : Denotes x hi (standard_of n both)
-          h = rw (at_w.grows.vars, both_is) at two.ok
-
-          hi_held : Covers x.held (needs Standard n both [] 0)
-          hi_held = rw (at_w.grows.vars, both_is) at two.held
-
-          at : var ≡ x.vars - d
-          at = omega (arith, at_x.grows.vars, first, last)
-
-          lf : IsFamily d (standard_of n either)
-          lf = lo_after n d F after less full
-
-          hf : IsFamily d (standard_of n both)
-          hf = hi_after n d F after less full
-
-          whole : standard_of n F ≡ join d (standard_of n either) (standard_of n both)
-          whole = standard_of-join n d F after less full
-
-          pub grow_parts : AreParts x var lo hi
-          grow_parts = grown_parts s0 x d var lo hi (standard_of n either) (standard_of n both) (standard_of n F) at_x.grows less at l h lf hf whole
-
-          pub grow_planned : IsSound x → Covers s0.plan (needs Standard s0.vars (family s0 a) [] 0) → hi.0 ≢ 0 → Has x.plan (join (x.vars - var) (family x lo) (family x hi))
-          grow_planned okx planned ne =
-              let some : standard_of n both ≢ [] = λ e. filled x hi okx (Denotes-knows x hi (standard_of n both) h) ne (Denotes-family x hi (standard_of n both) h ∙ e) in
-              grown_planned s0 x d var lo hi (standard_of n either) (standard_of n both) (standard_of n F) at_x.grows less at l h lf hf whole some (needs-result n d F after less full s0.plan planned)
-
-          -- y is the state after the node was grown
-          module _ (y : State) where
-            pub grow_builds : (r : Result Handle Full) → Builds x y r (join (x.vars - var) (family x lo) (family x hi)) → Builds s0 y r (standard_of s0.vars (family s0 a))
-            grow_builds r grown =
-                grown_builds s0 x d var lo hi (standard_of n either) (standard_of n both) (standard_of n F) at_x.grows less at l h lf hf whole y r at_x grown
-
-            all_held : (r : Handle) → IsSound y → Builds s0 y (Ok r) (standard_of n F) → Grows x y → Covers y.held (needs Standard n F [] 0)
-            all_held r oky built grown =
-                let over : Grows w y = Grows-trans w x y two.grows grown in
-                let e_y : Denotes y eh either = (Grows-trans v w y one.grows over).known eh.0 either e in
-                let b_y : Denotes y bh both = over.known bh.0 both b_at in
-                needs-all n d F after less full y.held
-                (rw built.grows.vars at (oky.subs eh.0 either e_y))
-                (rw built.grows.vars at (oky.subs bh.0 both b_y))
-                (λ k i. over.held k (lo_held k i))
-                (λ k i. grown.held k (hi_held k i))
-                built.held
-
-            pub grown_gives : (r : Handle) → IsSound y → Builds x y (Ok r) (join (x.vars - var) (family x lo) (family x hi)) → GivesStandard y (Ok r)
-            grown_gives r oky grown =
-                let built : Builds s0 y (Ok r) (standard_of n F) = grow_builds (Ok r) grown in
-                record {
-                  grows = built.grows;
-                  ok = built.ok;
-                  held = all_held r oky built grown.grows;
-                  quiet = built.quiet;
-                  full = tt;
-                }
+    -- y is the state after the node was grown
+    pub grown_gives : {x y : State} {hi : Handle} (r : Result Handle Full) → IsSound x → Does w b x (Ok hi)
+        → Builds x y r (join (x.vars - var) (family x lo) (family x hi)) → Does s a y r
+    grown_gives r sound two built =
+        rw (
+          needs-split _ _ _ (after k.at) (less k.at) (full k.at),
+          ← append_assoc (standard_list s.vars either) (standard_list s.vars both) (standard_of s.vars (family s a) ∷ []),
+        )
+        (grow_gives (halves sound two) r built)

@@ -1,35 +1,14 @@
-ghost use Rattle.std.specs.Prelude.{◌≡◌, ◌<◌, ◌≤◌, ◌^◌, IfOk};
+ghost use Rattle.std.specs.Prelude.{◌<◌, ◌≤◌, ◌^◌, IfOk};
 ghost use Rattle.std.specs.List.{All};
-ghost use Rattle.lattice.specs.WorkingLists.{working_set};
-ghost use Rattle.lattice.proofs.WorkingSets.{working_set_is_node_list};
-ghost use Rattle.node_store.specs.PlainOf.{state_of};
 ghost use Rattle.node_store.specs.Stores.{Knows};
-ghost use Rattle.node_store.specs.AnyFamily.{every_family, MayHoldAny};
+ghost use Rattle.node_store.specs.AnyFamily.{MayHoldAny};
 
 use crate::{leads, standard};
-use lattice::{Memory, Mono, Monos, Planned, plan_of};
-use node_store::{Full, Handle, PlainStore, Store};
+use lattice::{Mono, Monos};
+use node_store::{Full, Handle, PlainStore, Store, any_plan};
 use set_algebra::{one, union, walk_upto};
 use std::alloc::Global;
 use std::test::Fail;
-
-// Every family over so many variables.
-#[derive(Drop)]
-struct EveryFamily(u32);
-
-impl Planned for EveryFamily {
-    ghost families = { λ p. working_set p.0 (every_family p.0) };
-
-    ghost node_list = { λ p. working_set_is_node_list p.0 (every_family p.0) };
-}
-
-// A store of 256 slots that may be asked for any family.
-fn store_for_any(alloc: Global, vars: u32) -> Result<PlainStore, Memory>
-    requires { (1 ≤ vars) × (vars ≤ 62) }
-    ensures { IfOk result (λ s. MayHoldAny vars (state_of s)) }
-{
-    PlainStore::make(alloc, 8, vars, plan_of(&EveryFamily(vars)))
-}
 
 // The family of the numbers.
 fn family_of<S: Store>(store: &mut S, vars: u32, numbers: &[u64]) -> Result<Handle, Full>
@@ -63,7 +42,7 @@ fn found(alloc: Global, vars: u32, points: &[u64]) -> Result<(Monos, Monos), Fai
     requires vars { (1 ≤ vars) × (vars ≤ 62) }
     requires below { All (λ m. m < 2 ^ vars) points.now }
 {
-    let mut store = store_for_any(alloc, vars)?;
+    let mut store = PlainStore::make(alloc, 8, vars, any_plan(vars))?;
     let (monos, leads) = both_of(&mut store, vars, points)?;
     let standards = walk_upto(alloc, &mut store, monos, 8)?;
     let leads = walk_upto(alloc, &mut store, leads, 8)?;

@@ -4,12 +4,11 @@ use Rattle.lattice.specs.Family.{Family, IsFamily, Covers, divides, has, first_o
 use Rattle.lattice.specs.Cofactors.{sub}
 use Rattle.lattice.specs.Basis.{ones_at, zeros_at, normal_form_of, basis_element_of}
 use Rattle.lattice.specs.WorkingLists.{working_set, interpolation_list, normal_form_list, basis_element_list}
-use Rattle.lattice.proofs.Comprehension.{IsFamily-combine, IsFamily-family_where}
-use Rattle.lattice.proofs.Subfamilies.{IsFamily-single}
+use Rattle.lattice.proofs.Diagrams.{IsFamily-single, covers_append, covers_cons, covers_nil}
+use Rattle.lattice.proofs.Polynomials.{IsFamily-family_where, IsFamily-combine, IsFamily-interpolate}
 use Rattle.node_store.specs.Stores.{State}
 use Rattle.node_store.specs.AnyFamily.{MayHoldAny}
-use Rattle.interp_lex.proofs.AnyInterpolation.{IsFamily-interpolate, any_interpolation}
-use Rattle.interp_lex.proofs.WorkingParts.{covers_append, covers_cons, covers_nil}
+use Rattle.interp_lex.proofs.InterpolationNeeds.{any_interpolation}
 
 module _ (plan : List Family) (n : ℕ) (any : (f : Family) → IsFamily n f → Covers plan (sub n f)) where
   abbrev AnyList : List Family → Type 0
@@ -22,7 +21,8 @@ module _ (plan : List Family) (n : ℕ) (any : (f : Family) → IsFamily n f →
       (any (ones_at n m points) (IsFamily-family_where n (λ a. has points a && divides m a)))
       (covers_cons n plan _ (zeros_at n m points)
       (any (zeros_at n m points) (IsFamily-combine first_only n points (ones_at n m points)))
-      (covers_append n plan (interpolation_list n (zeros_at n m points) (ones_at n m points)) _ (any_interpolation plan n any n (omega arith) (zeros_at n m points) (ones_at n m points))
+      (covers_append n plan (interpolation_list n (zeros_at n m points) (ones_at n m points)) _
+      (any_interpolation plan n any n (omega arith) (zeros_at n m points) (ones_at n m points))
       (covers_cons n plan [] (normal_form_of n m points)
       (any (normal_form_of n m points) (IsFamily-interpolate n (zeros_at n m points) (ones_at n m points)))
       (covers_nil n plan))))

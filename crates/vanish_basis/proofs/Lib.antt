@@ -1,4 +1,4 @@
-pub mod NormalForms
-pub mod LeadElements
-pub mod AnyElements
-pub mod ListedPoints
+mod NormalForms
+mod LeadElements
+mod AnyElements
+mod ListedPoints

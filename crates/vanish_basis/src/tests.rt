@@ -2,37 +2,16 @@ ghost use Rattle.std.specs.Prelude.{◌≡◌, ◌<◌, ◌≤◌, ◌^◌, IfOk
 ghost use Rattle.std.specs.List.{All};
 ghost use Rattle.lattice.specs.Family.{has, family_where};
 ghost use Rattle.lattice.specs.Basis.{IsLead};
-ghost use Rattle.lattice.specs.WorkingLists.{working_set};
-ghost use Rattle.lattice.proofs.WorkingSets.{working_set_is_node_list};
-ghost use Rattle.node_store.specs.PlainOf.{state_of};
 ghost use Rattle.node_store.specs.Stores.{Knows, family};
-ghost use Rattle.node_store.specs.AnyFamily.{every_family, MayHoldAny};
+ghost use Rattle.node_store.specs.AnyFamily.{MayHoldAny};
 
 use crate::{basis_element, normal_form_of};
 use bool_poly::Serial;
-use lattice::{Memory, Mono, Monos, Planned, plan_of};
-use node_store::{Full, Handle, PlainStore, Store};
+use lattice::{Mono, Monos};
+use node_store::{Full, Handle, PlainStore, Store, any_plan};
 use set_algebra::{one, union, walk_upto};
 use std::alloc::Global;
 use std::test::Fail;
-
-// Every family over so many variables.
-#[derive(Drop)]
-struct EveryFamily(u32);
-
-impl Planned for EveryFamily {
-    ghost families = { λ p. working_set p.0 (every_family p.0) };
-
-    ghost node_list = { λ p. working_set_is_node_list p.0 (every_family p.0) };
-}
-
-// A store of 256 slots that may be asked for any family.
-fn store_for_any(alloc: Global, vars: u32) -> Result<PlainStore, Memory>
-    requires { (1 ≤ vars) × (vars ≤ 62) }
-    ensures { IfOk result (λ s. MayHoldAny vars (state_of s)) }
-{
-    PlainStore::make(alloc, 8, vars, plan_of(&EveryFamily(vars)))
-}
 
 // The family of the numbers.
 fn family_of<S: Store>(store: &mut S, vars: u32, numbers: &[u64]) -> Result<Handle, Full>
@@ -84,7 +63,7 @@ fn normal_form(alloc: Global, vars: u32, points: &[u64], m: u64) -> Result<Monos
     requires points { All (λ a. a < 2 ^ vars) points.now }
     requires below { m < 2 ^ vars }
 {
-    let mut store = store_for_any(alloc, vars)?;
+    let mut store = PlainStore::make(alloc, 8, vars, any_plan(vars))?;
     let found = normal_form_on(&mut store, vars, points, m)?;
     Ok(walk_upto(alloc, &mut store, found, 8)?)
 }
@@ -96,7 +75,7 @@ fn element(alloc: Global, vars: u32, points: &[u64], lead: u64) -> Result<Monos,
     requires below { lead < 2 ^ vars }
     requires lead { IsLead vars (family_where vars (has points.now)) lead }
 {
-    let mut store = store_for_any(alloc, vars)?;
+    let mut store = PlainStore::make(alloc, 8, vars, any_plan(vars))?;
     let found = element_on(&mut store, vars, points, lead)?;
     Ok(walk_upto(alloc, &mut store, found, 8)?)
 }

@@ -1,2 +1,2 @@
-pub mod Kept
+mod Kept
 pub mod LeftAfter

@@ -1,9 +1,11 @@
-ghost use Rattle.std.specs.Prelude.{◌≡◌, [], All, IfOk};
+ghost use Rattle.std.specs.Prelude.{◌≡◌, ◌<◌, ◌-◌, ◌↔◌, ◌++◌, ◌∷◌, [], All, IfOk, IsTrue, length};
 ghost use Rattle.watch.specs.Notes.{states_by};
 
 use crate::{Lines, Note, Tally, Watch, tell};
 use outside::MemSink;
 use std::alloc::{AllocError, Global};
+use std::cell::Cell;
+use std::rc::Rc;
 use std::test::Fail;
 
 fn note(output: u32, terms: u64, basis: u64) -> Note {
@@ -86,5 +88,58 @@ fn those_with_patience_are_left(rt: HostRuntime) -> Result<(), Fail> {
     tell(&mut watchers, &note(2, 1, 1));
     assert_eq!(rt; watchers.len(), 1);
     assert_eq!(rt; watchers[0].terms(), 2);
+    Ok(())
+}
+
+// A watcher that puts its digit behind those of a number that several watchers share.
+#[derive(Drop)]
+struct Numbered {
+    tally: Tally,
+    digit: u64,
+    order: Rc<Cell<u64>>,
+}
+
+impl Watch for Numbered {
+    ghost told = { λ w. w.tally.told };
+
+    ghost patience = { λ w. w.tally.patience };
+
+    fn note(&mut self, n: &Note) -> bool {
+        self.order
+            .set(self.order.get().wrapping_mul(10).wrapping_add(self.digit));
+        self.tally.note(n)
+    }
+
+    fn terms(&self) -> u64 {
+        self.tally.terms()
+    }
+}
+
+fn make_numbered(
+    alloc: Global,
+    digit: u64,
+    patience: u32,
+    order: &Rc<Cell<u64>>,
+) -> Result<Box<dyn Watch>, AllocError>
+    ensures { IfOk result (λ w. told w ≡ []) }
+{
+    let watcher = Numbered {
+        tally: Tally::new(patience),
+        digit,
+        order: order.clone()?,
+    };
+    Ok(Box::new(alloc, watcher)?)
+}
+
+#[test]
+fn told_in_order_and_once(rt: HostRuntime) -> Result<(), Fail> {
+    let order = Rc::new(rt.alloc(), Cell::new(0))?;
+    let first = make_numbered(rt.alloc(), 1, 0, &order)?;
+    let second = make_numbered(rt.alloc(), 2, 5, &order)?;
+    let mut watchers = pair(rt.alloc(), first, second)?;
+    tell(&mut watchers, &note(1, 1, 1));
+    assert_eq!(rt; order.get(), 12);
+    tell(&mut watchers, &note(2, 1, 1));
+    assert_eq!(rt; order.get(), 122);
     Ok(())
 }

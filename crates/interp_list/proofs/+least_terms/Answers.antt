@@ -1,36 +1,35 @@
-use Rattle.std.proofs.Common.{◌≡◌, ℕ, ◌^◌, ◌*◌, ◌%◌, ◌<◌, ◌≤◌, ◌+◌, ◌-◌, [], arith}
+use Rattle.std.proofs.Common.{◌≡◌, ℕ, ◌^◌, ◌*◌, ◌%◌, ◌<◌, ◌≤◌, ◌+◌, ◌-◌, arith}
 use Rattle.lattice.specs.Interpolation.{IsLeast, IsUpperPart, IsLowerPart}
-use Rattle.lattice.proofs.Least.{IsLeast-zero, IsLeast-one, upper_disjoint, lower_disjoint}
-use Rattle.lattice.proofs.CutPoints.{some_variable, some_member}
+use Rattle.lattice.proofs.Polynomials.{some_member, some_variable, IsLeast-zero, IsLeast-one, upper_disjoint, lower_disjoint}
 use Rattle.interp_list.proofs.Step.{Pieces, upper_from, lower_from, least_from, bit_is, empty_from_test, nonempty_from_test}
 use Rattle.interp_list.proofs.+least_terms.Goals as goal
 use Rattle.interp_list.proofs.+least_terms.Goals.{Else-is_empty-2, In_ok-ones_high, In_ok-upper_ones, In_ok-lower_ones}
 
 pub returns-then-is_empty : goal.returns-then-is_empty
 returns-then-is_empty t c =
-    let none : c.args.ones.now ≡ [] = empty_from_test c.args.ones.now c.is_empty.result c.is_empty.ensures c.if-is_empty.true in
+    let none = empty_from_test _ _ c.is_empty.ensures c.if-is_empty.true in
     rw (none, c.new.ensures.items) (IsLeast-zero c.args.inputs c.args.zeros.now)
 
 pub returns-then-is_empty-2 : goal.returns-then-is_empty-2
 returns-then-is_empty-2 t c =
-    let none : c.args.zeros.now ≡ [] = empty_from_test c.args.zeros.now c.is_empty-2.result c.is_empty-2.ensures c.if-is_empty-2.true in
-    let some = some_member c.args.ones.now 0 (nonempty_from_test c.args.ones.now c.is_empty.result c.is_empty.ensures c.if-is_empty.false) in
-    rw (none, c.in_ok-push.ensures.items, c.new-one.ensures.items) (IsLeast-one c.args.inputs c.args.ones.now some.0 some.1)
+    let none = empty_from_test _ _ c.is_empty-2.ensures c.if-is_empty-2.true in
+    let some = some_member _ 0 (nonempty_from_test _ _ c.is_empty.ensures c.if-is_empty.false) in
+    rw (none, c.in_ok-push.ensures.items, c.new-one.ensures.items) (IsLeast-one _ _ some.0 some.1)
 
 variable : (t : ℕ) (c : Else-is_empty-2 t) → 1 ≤ c.args.inputs
 variable t c =
-    some_variable c.args.inputs c.args.zeros.now c.args.ones.now c.requires.zeros_below c.requires.ones_below c.requires.disjoint
-    (nonempty_from_test c.args.zeros.now c.is_empty-2.result c.is_empty-2.ensures c.if-is_empty-2.false)
-    (nonempty_from_test c.args.ones.now c.is_empty.result c.is_empty.ensures c.if-is_empty.false)
+    some_variable _ _ _ c.requires.zeros_below c.requires.ones_below c.requires.disjoint
+    (nonempty_from_test _ _ c.is_empty-2.ensures c.if-is_empty-2.false) (nonempty_from_test _ _ c.is_empty.ensures c.if-is_empty.false)
 
 pub overflow_sub-rest : goal.overflow_sub-rest
 overflow_sub-rest t c = variable t c
 
-pieces : (t : ℕ) (c : In_ok-ones_high t) → Pieces c.args.inputs (c.args.inputs - 1) (1 * 2 ^ (c.args.inputs - 1) % 2 ^ 64) c.args.zeros.now c.args.ones.now c.in_ok-zeros_low.zeros_low.items c.in_ok-zeros_high.zeros_high.items c.in_ok-ones_low.ones_low.items c.in_ok-ones_high.ones_high.items
+pieces : (t : ℕ) (c : In_ok-ones_high t)
+    → Pieces c.args.inputs (c.args.inputs - 1) (1 * 2 ^ (c.args.inputs - 1) % 2 ^ 64) c.args.zeros.now c.args.ones.now
+    c.in_ok-zeros_low.zeros_low.items c.in_ok-zeros_high.zeros_high.items c.in_ok-ones_low.ones_low.items c.in_ok-ones_high.ones_high.items
 pieces t c =
-    let some : 1 ≤ c.args.inputs = some_variable c.args.inputs c.args.zeros.now c.args.ones.now c.requires.zeros_below c.requires.ones_below c.requires.disjoint
-    (nonempty_from_test c.args.zeros.now c.is_empty-2.result c.is_empty-2.ensures c.if-is_empty-2.false)
-    (nonempty_from_test c.args.ones.now c.is_empty.result c.is_empty.ensures c.if-is_empty.false) in
+    let some : 1 ≤ c.args.inputs = some_variable _ _ _ c.requires.zeros_below c.requires.ones_below c.requires.disjoint
+    (nonempty_from_test _ _ c.is_empty-2.ensures c.if-is_empty-2.false) (nonempty_from_test _ _ c.is_empty.ensures c.if-is_empty.false) in
     let small : c.args.inputs - 1 < 64 = omega (arith, c.requires.width) in
     record {
       variables = omega arith;
@@ -44,17 +43,22 @@ pieces t c =
       ones_high = c.in_ok-ones_high.ensures;
     }
 
-upper : (t : ℕ) (c : In_ok-upper_ones t) → Pieces c.args.inputs (c.args.inputs - 1) (1 * 2 ^ (c.args.inputs - 1) % 2 ^ 64) c.args.zeros.now c.args.ones.now c.in_ok-zeros_low.zeros_low.items c.in_ok-zeros_high.zeros_high.items c.in_ok-ones_low.ones_low.items c.in_ok-ones_high.ones_high.items → IsUpperPart (c.args.inputs - 1) c.args.zeros.now c.args.ones.now c.in_ok-upper_zeros.upper_zeros.items c.in_ok-upper_ones.upper_ones.items
+upper : (t : ℕ) (c : In_ok-upper_ones t)
+    → Pieces c.args.inputs (c.args.inputs - 1) (1 * 2 ^ (c.args.inputs - 1) % 2 ^ 64) c.args.zeros.now c.args.ones.now
+    c.in_ok-zeros_low.zeros_low.items c.in_ok-zeros_high.zeros_high.items c.in_ok-ones_low.ones_low.items c.in_ok-ones_high.ones_high.items
+    → IsUpperPart (c.args.inputs - 1) c.args.zeros.now c.args.ones.now c.in_ok-upper_zeros.upper_zeros.items
+    c.in_ok-upper_ones.upper_ones.items
 upper t c p =
-    upper_from c.args.inputs (c.args.inputs - 1) (1 * 2 ^ (c.args.inputs - 1) % 2 ^ 64) c.args.zeros.now c.args.ones.now c.in_ok-zeros_low.zeros_low.items c.in_ok-zeros_high.zeros_high.items c.in_ok-ones_low.ones_low.items c.in_ok-ones_high.ones_high.items p
-    c.in_ok-upper_zeros.upper_zeros.items c.in_ok-upper_ones.upper_ones.items
-    (λ x. rw (c.deref.ensures.value, c.deref-2.ensures.value, c.deref-3.ensures.value, c.deref-4.ensures.value) at (c.in_ok-upper_zeros.ensures x))
-    (λ x. rw (c.deref-5.ensures.value, c.deref-6.ensures.value, c.deref-7.ensures.value, c.deref-8.ensures.value) at (c.in_ok-upper_ones.ensures x))
+    upper_from _ _ _ _ _ _ _ _ _ p _ _
+    (λ x. rw (c.deref.ensures.value, c.deref-2.ensures.value, c.deref-3.ensures.value, c.deref-4.ensures.value) at
+    (c.in_ok-upper_zeros.ensures x))
+    (λ x. rw (c.deref-5.ensures.value, c.deref-6.ensures.value, c.deref-7.ensures.value, c.deref-8.ensures.value) at
+    (c.in_ok-upper_ones.ensures x))
 
 pub least_terms-requires : goal.least_terms-requires
 least_terms-requires t c =
     let p = pieces t (goal.at.least_terms-requires t c).In_ok-ones_high in
-    let u : IsUpperPart (c.args.inputs - 1) c.args.zeros.now c.args.ones.now c.in_ok-upper_zeros.upper_zeros.items c.in_ok-upper_ones.upper_ones.items = upper t (goal.at.least_terms-requires t c).In_ok-upper_ones p in
+    let u = upper t (goal.at.least_terms-requires t c).In_ok-upper_ones p in
     let variables : c.args.inputs ≡ c.args.inputs - 1 + 1 = p.variables in (
       omega arith,
       (
@@ -63,25 +67,29 @@ least_terms-requires t c =
           rw c.deref-9.ensures.value u.zeros_below,
           (
             rw c.deref-10.ensures.value u.ones_below,
-            rw (c.deref-9.ensures.value, c.deref-10.ensures.value) (upper_disjoint (c.args.inputs - 1) c.args.zeros.now c.args.ones.now c.in_ok-upper_zeros.upper_zeros.items c.in_ok-upper_ones.upper_ones.items c.requires.disjoint u),
+            rw (c.deref-9.ensures.value, c.deref-10.ensures.value) (upper_disjoint _ _ _ _ _ c.requires.disjoint u),
           ),
         ),
       ),
     )
 
-lower : (t : ℕ) (c : In_ok-lower_ones t) → Pieces c.args.inputs (c.args.inputs - 1) (1 * 2 ^ (c.args.inputs - 1) % 2 ^ 64) c.args.zeros.now c.args.ones.now c.in_ok-zeros_low.zeros_low.items c.in_ok-zeros_high.zeros_high.items c.in_ok-ones_low.ones_low.items c.in_ok-ones_high.ones_high.items → IsLowerPart (c.args.inputs - 1) c.args.zeros.now c.args.ones.now c.in_ok-h.h.items c.in_ok-lower_zeros.lower_zeros.items c.in_ok-lower_ones.lower_ones.items
+lower : (t : ℕ) (c : In_ok-lower_ones t)
+    → Pieces c.args.inputs (c.args.inputs - 1) (1 * 2 ^ (c.args.inputs - 1) % 2 ^ 64) c.args.zeros.now c.args.ones.now
+    c.in_ok-zeros_low.zeros_low.items c.in_ok-zeros_high.zeros_high.items c.in_ok-ones_low.ones_low.items c.in_ok-ones_high.ones_high.items
+    → IsLowerPart (c.args.inputs - 1) c.args.zeros.now c.args.ones.now c.in_ok-h.h.items c.in_ok-lower_zeros.lower_zeros.items
+    c.in_ok-lower_ones.lower_ones.items
 lower t c p =
-    lower_from c.args.inputs (c.args.inputs - 1) (1 * 2 ^ (c.args.inputs - 1) % 2 ^ 64) c.args.zeros.now c.args.ones.now c.in_ok-zeros_low.zeros_low.items c.in_ok-zeros_high.zeros_high.items c.in_ok-ones_low.ones_low.items c.in_ok-ones_high.ones_high.items p
-    c.in_ok-h.h.items c.in_ok-lower_zeros.lower_zeros.items c.in_ok-lower_ones.lower_ones.items
+    lower_from _ _ _ _ _ _ _ _ _ p _ _ _
     (λ x. rw (c.deref-11.ensures.value, c.deref-12.ensures.value, c.deref-13.ensures.value) at (c.in_ok-lower_zeros.ensures x))
     (λ x. rw (c.deref-14.ensures.value, c.deref-15.ensures.value, c.deref-16.ensures.value) at (c.in_ok-lower_ones.ensures x))
 
 pub least_terms-requires-2 : goal.least_terms-requires-2
 least_terms-requires-2 t c =
     let p = pieces t (goal.at.least_terms-requires-2 t c).In_ok-ones_high in
-    let u : IsUpperPart (c.args.inputs - 1) c.args.zeros.now c.args.ones.now c.in_ok-upper_zeros.upper_zeros.items c.in_ok-upper_ones.upper_ones.items = upper t (goal.at.least_terms-requires-2 t c).In_ok-upper_ones p in
-    let l : IsLowerPart (c.args.inputs - 1) c.args.zeros.now c.args.ones.now c.in_ok-h.h.items c.in_ok-lower_zeros.lower_zeros.items c.in_ok-lower_ones.lower_ones.items = lower t (goal.at.least_terms-requires-2 t c).In_ok-lower_ones p in
-    let h : IsLeast (c.args.inputs - 1) c.in_ok-upper_zeros.upper_zeros.items c.in_ok-upper_ones.upper_ones.items c.in_ok-h.h.items = rw (c.deref-9.ensures.value, c.deref-10.ensures.value) at c.in_ok-h.ensures in
+    let u = upper t (goal.at.least_terms-requires-2 t c).In_ok-upper_ones p in
+    let l = lower t (goal.at.least_terms-requires-2 t c).In_ok-lower_ones p in
+    let h : IsLeast (c.args.inputs - 1) c.in_ok-upper_zeros.upper_zeros.items c.in_ok-upper_ones.upper_ones.items c.in_ok-h.h.items = rw
+    (c.deref-9.ensures.value, c.deref-10.ensures.value) at c.in_ok-h.ensures in
     let variables : c.args.inputs ≡ c.args.inputs - 1 + 1 = p.variables in (
       omega arith,
       (
@@ -90,7 +98,7 @@ least_terms-requires-2 t c =
           rw c.deref-17.ensures.value l.zeros_below,
           (
             rw c.deref-18.ensures.value l.ones_below,
-            rw (c.deref-17.ensures.value, c.deref-18.ensures.value) (lower_disjoint (c.args.inputs - 1) c.args.zeros.now c.args.ones.now c.in_ok-h.h.items c.in_ok-upper_zeros.upper_zeros.items c.in_ok-upper_ones.upper_ones.items c.in_ok-lower_zeros.lower_zeros.items c.in_ok-lower_ones.lower_ones.items c.requires.disjoint u h.fits l),
+            rw (c.deref-17.ensures.value, c.deref-18.ensures.value) (lower_disjoint _ _ _ _ _ _ _ _ c.requires.disjoint u h.fits l),
           ),
         ),
       ),
@@ -99,10 +107,10 @@ least_terms-requires-2 t c =
 pub returns : goal.returns
 returns t c =
     let p = pieces t (goal.at.returns t c).In_ok-ones_high in
-    let u : IsUpperPart (c.args.inputs - 1) c.args.zeros.now c.args.ones.now c.in_ok-upper_zeros.upper_zeros.items c.in_ok-upper_ones.upper_ones.items = upper t (goal.at.returns t c).In_ok-upper_ones p in
-    let l : IsLowerPart (c.args.inputs - 1) c.args.zeros.now c.args.ones.now c.in_ok-h.h.items c.in_ok-lower_zeros.lower_zeros.items c.in_ok-lower_ones.lower_ones.items = lower t (goal.at.returns t c).In_ok-lower_ones p in
-    let h : IsLeast (c.args.inputs - 1) c.in_ok-upper_zeros.upper_zeros.items c.in_ok-upper_ones.upper_ones.items c.in_ok-h.h.items = rw (c.deref-9.ensures.value, c.deref-10.ensures.value) at c.in_ok-h.ensures in
-    let g : IsLeast (c.args.inputs - 1) c.in_ok-lower_zeros.lower_zeros.items c.in_ok-lower_ones.lower_ones.items c.in_ok-terms.terms.items = rw (c.deref-17.ensures.value, c.deref-18.ensures.value) at c.in_ok-terms.ensures in
-    least_from c.args.inputs (c.args.inputs - 1) (1 * 2 ^ (c.args.inputs - 1) % 2 ^ 64) c.args.zeros.now c.args.ones.now c.in_ok-zeros_low.zeros_low.items c.in_ok-zeros_high.zeros_high.items c.in_ok-ones_low.ones_low.items c.in_ok-ones_high.ones_high.items p
-    c.in_ok-terms.terms.items c.in_ok-h.h.items c.in_ok-upper_zeros.upper_zeros.items c.in_ok-upper_ones.upper_ones.items c.in_ok-lower_zeros.lower_zeros.items c.in_ok-lower_ones.lower_ones.items c.add_raised.new.into.items
-    u h l g (rw c.deref-19.ensures.value at c.in_ok-add_raised.ensures)
+    let u = upper t (goal.at.returns t c).In_ok-upper_ones p in
+    let l = lower t (goal.at.returns t c).In_ok-lower_ones p in
+    let h : IsLeast (c.args.inputs - 1) c.in_ok-upper_zeros.upper_zeros.items c.in_ok-upper_ones.upper_ones.items c.in_ok-h.h.items = rw
+    (c.deref-9.ensures.value, c.deref-10.ensures.value) at c.in_ok-h.ensures in
+    let g : IsLeast (c.args.inputs - 1) c.in_ok-lower_zeros.lower_zeros.items c.in_ok-lower_ones.lower_ones.items c.in_ok-terms.terms.items
+    = rw (c.deref-17.ensures.value, c.deref-18.ensures.value) at c.in_ok-terms.ensures in
+    least_from _ _ _ _ _ _ _ _ _ p _ _ _ _ _ _ _ u h l g (rw c.deref-19.ensures.value at c.in_ok-add_raised.ensures)

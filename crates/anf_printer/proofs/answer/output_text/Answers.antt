@@ -4,4 +4,5 @@ use Rattle.lattice.specs.Family.{IsFamily}
 use Rattle.anf_printer.proofs.answer.output_text.Goals as goal
 
 pub push_basis-requires : goal.push_basis-requires
-push_basis-requires c = subst (λ elements. All (IsFamily (length c.args.names.now)) (map reverse elements)) (sym c.as_slice-2.ensures) c.requires.basis
+push_basis-requires c = subst (λ elements. All (IsFamily (length c.args.names.now)) (map reverse elements)) (sym c.as_slice-2.ensures)
+    c.requires.basis

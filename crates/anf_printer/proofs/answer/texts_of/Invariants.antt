@@ -3,4 +3,5 @@ use Rattle.anf_printer.specs.Text.{texts_of, answer_of}
 use Rattle.anf_printer.proofs.answer.texts_of.Given as goal
 
 abbrev pub invariant-loop-name : goal.invariant-loop-name
-invariant-loop-name l = l.pages ≡ texts_of l.mode l.names (take (length l.yielded) l.fn.outputs) (take (length l.yielded) (map answer_of l.fn.shown))
+invariant-loop-name l = l.pages ≡ texts_of l.mode l.names (take (length l.yielded) l.fn.outputs)
+    (take (length l.yielded) (map answer_of l.fn.shown))

@@ -11,7 +11,8 @@ returns-then-m-eq0 c = grind (arith, common_steps, monomial_text_one c.args.name
 pub loop-rest-init : goal.loop-rest-init
 loop-rest-init c =
     let cut = ap (variables_of c.args.names.now) (sym c.m.view_is) ∙ c.first_variable-rest.ensures.first in
-    let first = monomial_text_first c.args.names.now c.args.m c.first_variable-rest.result.1 c.first_variable-rest.result.0.now (λ e. c.if-m-eq0.false (c.m.view_is ∙ e)) cut in
+    let first = monomial_text_first c.args.names.now c.args.m c.first_variable-rest.result.1 c.first_variable-rest.result.0.now
+    (λ e. c.if-m-eq0.false (c.m.view_is ∙ e)) cut in
     grind (arith, common_steps)
 
 pub returns : goal.returns

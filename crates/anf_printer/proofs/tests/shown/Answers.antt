@@ -7,5 +7,6 @@ use Rattle.anf_printer.proofs.tests.shown.Goals as goal
 
 pub loop-element-preserved : goal.loop-element-preserved
 loop-element-preserved c =
-    let all = All-push (IsFamily c.args.inputs) (map reverse c.loop-element.basis) (reverse c.in_ok-polynomial.field-0) c.loop-element.invariant c.in_ok-polynomial.ensures in
-    subst (All (IsFamily c.args.inputs)) (sym (ap (map reverse) c.in_ok-push.ensures.ok ∙ map-append reverse c.loop-element.basis (c.in_ok-polynomial.field-0 ∷ []))) all
+    let all = All-push (IsFamily c.args.inputs) _ _ c.loop-element.invariant c.in_ok-polynomial.ensures in
+    subst (All (IsFamily c.args.inputs))
+    (sym (ap (map reverse) c.in_ok-push.ensures.ok ∙ map-append reverse c.loop-element.basis (c.in_ok-polynomial.field-0 ∷ []))) all

@@ -1,343 +1,127 @@
-use Rattle.std.proofs.Common.{arith}
-use Rattle.node_store.proofs.StoreLemmas.{Gives-after, Gives-failed}
-use Rattle.bool_poly.proofs.ProductSteps
-use Rattle.bool_poly.proofs.ProductSteps.{product_values}
+use Rattle.std.proofs.Common.{ℕ, arith, refl}
+use Rattle.lattice.specs.Operations.{answer}
+use Rattle.lattice.specs.declared.op.Op.TheVariants.{Product}
+use Rattle.node_store.proofs.StoreLaws.{allowed_all, failed, given_kept, handles, kept_given, node_parts, node_planned, then_call}
+use Rattle.node_store.proofs.StoreLaws.{then_reads}
+use Rattle.bool_poly.proofs.ProductSteps.{product_values, at_first, at_second, swap_planned, swap_given, started, low_requires}
+use Rattle.bool_poly.proofs.ProductSteps.{first_requires, second_requires, after_second, both_requires, after_both, high_requires, grown}
+use Rattle.bool_poly.proofs.ProductSteps.{IsStarted, given}
 use Rattle.bool_poly.proofs.products.+product.Goals as goal
+use Rattle.bool_poly.proofs.products.+product.Goals.{After-cut-c}
+use Rattle.bool_poly.proofs.products.+product.Given.{Over}
 
-pub returns-then-a-eq0-clause-result : goal.returns-then-a-eq0-clause-result
-returns-then-a-eq0-clause-result g m c =
-    let s = g.S.Store.state c.args.store.now in
-    ProductSteps.at_first s c.args.a c.args.b (g.met.S.Store.sound c.args.store.now) c.requires.a c.requires.b
-    c.then-a-eq0.either
+at_cut : (g : Over) (m : ℕ) (c : After-cut-c g m)
+    → IsStarted (g.S.Store.state c.args.store.now) (g.S.Store.state c.cut-c.new.store) c.args.a c.args.b c.cut-c.result
+at_cut g m c =
+    started (g.met.S.Store.sound c.args.store.now) c.requires.a c.requires.b c.if-a-eq0.false c.if-b-eq1.false
+    c.if-b-eq0.false c.if-a-eq1.false c.requires.planned c.look.ensures.reads c.cut-c.ensures.reads c.cut-c.ensures.cofactors
 
-pub returns-then-a-eq0-clause-value : goal.returns-then-a-eq0-clause-value
-returns-then-a-eq0-clause-value g m c =
-    let s = g.S.Store.state c.args.store.now in
-    product_values s s c.args.a c.args.b _ (returns-then-a-eq0-clause-result g m c)
+pub returns-then-a-eq0 : goal.returns-then-a-eq0
+returns-then-a-eq0 g m c =
+    let result = at_first c.args.a c.args.b (g.met.S.Store.sound c.args.store.now) c.requires.a c.requires.b c.then-a-eq0.either in
+    record { result = result; value = product_values c.args.a c.args.b result }
 
-pub returns-then-b-eq0-clause-result : goal.returns-then-b-eq0-clause-result
-returns-then-b-eq0-clause-result g m c =
-    let s = g.S.Store.state c.args.store.now in
-    ProductSteps.at_second s c.args.a c.args.b (g.met.S.Store.sound c.args.store.now) c.requires.a c.requires.b
-    c.then-b-eq0.either
-
-pub returns-then-b-eq0-clause-value : goal.returns-then-b-eq0-clause-value
-returns-then-b-eq0-clause-value g m c =
-    let s = g.S.Store.state c.args.store.now in
-    product_values s s c.args.a c.args.b _ (returns-then-b-eq0-clause-result g m c)
-
-pub returns-in-Some-clause-result : goal.returns-in-Some-clause-result
-returns-in-Some-clause-result g m c =
-    let s = g.S.Store.state c.args.store.now in
-    ProductSteps.given_kept s (g.S.Store.state c.look.new.self) c.args.a c.args.b c.in-Some.r c.look.ensures.reads
-    c.requires.a c.requires.b c.in-Some.ensures.result
-
-pub returns-in-Some-clause-value : goal.returns-in-Some-clause-value
-returns-in-Some-clause-value g m c =
-    let s = g.S.Store.state c.args.store.now in
-    product_values s (g.S.Store.state c.look.new.self) c.args.a c.args.b _ (returns-in-Some-clause-result g m c)
+pub returns-then-b-eq0 : goal.returns-then-b-eq0
+returns-then-b-eq0 g m c =
+    let result = at_second c.args.a c.args.b (g.met.S.Store.sound c.args.store.now) c.requires.a c.requires.b c.then-b-eq0.either in
+    record { result = result; value = product_values c.args.a c.args.b result }
 
 pub product-requires : goal.product-requires
 product-requires g m c κs within =
-    let s = g.S.Store.state c.args.store.now in
-    let t = g.S.Store.state c.cut-c.new.store in
-    let cut = ProductSteps.is_cut s (g.S.Store.state c.look.new.self) t c.args.a c.args.b c.cut-c.result
-    (g.met.S.Store.sound c.args.store.now) c.requires.a c.requires.b c.if-a-eq0.false c.if-a-eq1.false
-    c.if-b-eq0.false c.if-b-eq1.false c.look.ensures.reads c.cut-c.ensures.reads c.cut-c.ensures.cofactors in
-    let knows = ProductSteps.low_knows s t c.args.a c.args.b c.cut-c.result cut in
-    let falls = ProductSteps.low_falls s t c.args.a c.args.b c.cut-c.result cut in (
-      omega (arith, falls, c.decreases),
-      (
-        within,
-        (
-          knows.0,
-          (
-            knows.1,
-            ProductSteps.low_planned s t c.args.a c.args.b
-                c.cut-c.result cut c.requires.planned,
-          ),
-        ),
-      ),
-    )
+    let planned = swap_planned (g.S.Store.state c.args.store.now) c.args.a c.args.b c.requires.planned in
+    (omega (arith, c.decreases, c.if-b-a.true), (within, (c.requires.b, (c.requires.a, planned))))
 
-pub returns-in_err-lo-clause-result : goal.returns-in_err-lo-clause-result
-returns-in_err-lo-clause-result g m c =
-    let s = g.S.Store.state c.args.store.now in
-    let t = g.S.Store.state c.cut-c.new.store in
-    let u = g.S.Store.state c.product.new.store in
-    let cut = ProductSteps.is_cut s (g.S.Store.state c.look.new.self) t c.args.a c.args.b c.cut-c.result
-    (g.met.S.Store.sound c.args.store.now) c.requires.a c.requires.b c.if-a-eq0.false c.if-a-eq1.false
-    c.if-b-eq0.false c.if-b-eq1.false c.look.ensures.reads c.cut-c.ensures.reads c.cut-c.ensures.cofactors in
-    Gives-failed s u c.from_residual.result c.in_err-lo.field-0.0 _ _ _ _ c.from_residual.ensures.0
-    (Gives-after s t u _ _ _ cut.reads c.in_err-lo.ensures.result)
+pub returns-then-b-a : goal.returns-then-b-a
+returns-then-b-a g m c =
+    let result = swap_given c.args.a c.args.b c.product.ensures.result in
+    record { result = result; value = product_values c.args.a c.args.b result }
 
-pub sum-requires-clause-a : goal.sum-requires-clause-a
-sum-requires-clause-a g m c =
-    let s = g.S.Store.state c.args.store.now in
-    let t = g.S.Store.state c.cut-c.new.store in
-    let u = g.S.Store.state c.product.new.store in
-    let cut = ProductSteps.is_cut s (g.S.Store.state c.look.new.self) t c.args.a c.args.b c.cut-c.result
-    (g.met.S.Store.sound c.args.store.now) c.requires.a c.requires.b c.if-a-eq0.false c.if-a-eq1.false
-    c.if-b-eq0.false c.if-b-eq1.false c.look.ensures.reads c.cut-c.ensures.reads c.cut-c.ensures.cofactors in
-    (ProductSteps.first_knows s t c.args.a c.args.b c.cut-c.result cut u c.in_ok-lo.lo c.in_ok-lo.ensures.result).0
-
-pub sum-requires-clause-planned : goal.sum-requires-clause-planned
-sum-requires-clause-planned g m c =
-    let s = g.S.Store.state c.args.store.now in
-    let t = g.S.Store.state c.cut-c.new.store in
-    let u = g.S.Store.state c.product.new.store in
-    let cut = ProductSteps.is_cut s (g.S.Store.state c.look.new.self) t c.args.a c.args.b c.cut-c.result
-    (g.met.S.Store.sound c.args.store.now) c.requires.a c.requires.b c.if-a-eq0.false c.if-a-eq1.false
-    c.if-b-eq0.false c.if-b-eq1.false c.look.ensures.reads c.cut-c.ensures.reads c.cut-c.ensures.cofactors in
-    ProductSteps.first_planned s t c.args.a c.args.b c.cut-c.result cut u c.in_ok-lo.lo c.in_ok-lo.ensures.result
-    c.requires.planned
-
-pub returns-in_err-a_sum-clause-result : goal.returns-in_err-a_sum-clause-result
-returns-in_err-a_sum-clause-result g m c =
-    let s = g.S.Store.state c.args.store.now in
-    let t = g.S.Store.state c.cut-c.new.store in
-    let u = g.S.Store.state c.product.new.store in
-    let v = g.S.Store.state c.sum.new.store in
-    let cut = ProductSteps.is_cut s (g.S.Store.state c.look.new.self) t c.args.a c.args.b c.cut-c.result
-    (g.met.S.Store.sound c.args.store.now) c.requires.a c.requires.b c.if-a-eq0.false c.if-a-eq1.false
-    c.if-b-eq0.false c.if-b-eq1.false c.look.ensures.reads c.cut-c.ensures.reads c.cut-c.ensures.cofactors in
-    Gives-failed s v c.from_residual-in_err-a_sum.result c.in_err-a_sum.field-0.0 _ _ _ _
-    c.from_residual-in_err-a_sum.ensures.0 (Gives-after s u v _ _ _ (ProductSteps.s_u s t c.args.a c.args.b
-    c.cut-c.result cut u c.in_ok-lo.lo c.in_ok-lo.ensures.result) c.in_err-a_sum.ensures)
-
-pub sum-requires-2-clause-a : goal.sum-requires-2-clause-a
-sum-requires-2-clause-a g m c =
-    let s = g.S.Store.state c.args.store.now in
-    let t = g.S.Store.state c.cut-c.new.store in
-    let u = g.S.Store.state c.product.new.store in
-    let v = g.S.Store.state c.sum.new.store in
-    let cut = ProductSteps.is_cut s (g.S.Store.state c.look.new.self) t c.args.a c.args.b c.cut-c.result
-    (g.met.S.Store.sound c.args.store.now) c.requires.a c.requires.b c.if-a-eq0.false c.if-a-eq1.false
-    c.if-b-eq0.false c.if-b-eq1.false c.look.ensures.reads c.cut-c.ensures.reads c.cut-c.ensures.cofactors in
-    (ProductSteps.second_knows s t c.args.a c.args.b c.cut-c.result cut u c.in_ok-lo.lo c.in_ok-lo.ensures.result v
-    c.in_ok-a_sum.a_sum c.in_ok-a_sum.ensures).0
-
-pub sum-requires-2-clause-b : goal.sum-requires-2-clause-b
-sum-requires-2-clause-b g m c =
-    let s = g.S.Store.state c.args.store.now in
-    let t = g.S.Store.state c.cut-c.new.store in
-    let u = g.S.Store.state c.product.new.store in
-    let v = g.S.Store.state c.sum.new.store in
-    let cut = ProductSteps.is_cut s (g.S.Store.state c.look.new.self) t c.args.a c.args.b c.cut-c.result
-    (g.met.S.Store.sound c.args.store.now) c.requires.a c.requires.b c.if-a-eq0.false c.if-a-eq1.false
-    c.if-b-eq0.false c.if-b-eq1.false c.look.ensures.reads c.cut-c.ensures.reads c.cut-c.ensures.cofactors in
-    (ProductSteps.second_knows s t c.args.a c.args.b c.cut-c.result cut u c.in_ok-lo.lo c.in_ok-lo.ensures.result v
-    c.in_ok-a_sum.a_sum c.in_ok-a_sum.ensures).1
-
-pub sum-requires-2-clause-planned : goal.sum-requires-2-clause-planned
-sum-requires-2-clause-planned g m c =
-    let s = g.S.Store.state c.args.store.now in
-    let t = g.S.Store.state c.cut-c.new.store in
-    let u = g.S.Store.state c.product.new.store in
-    let v = g.S.Store.state c.sum.new.store in
-    let cut = ProductSteps.is_cut s (g.S.Store.state c.look.new.self) t c.args.a c.args.b c.cut-c.result
-    (g.met.S.Store.sound c.args.store.now) c.requires.a c.requires.b c.if-a-eq0.false c.if-a-eq1.false
-    c.if-b-eq0.false c.if-b-eq1.false c.look.ensures.reads c.cut-c.ensures.reads c.cut-c.ensures.cofactors in
-    ProductSteps.second_planned s t c.args.a c.args.b c.cut-c.result cut u c.in_ok-lo.lo c.in_ok-lo.ensures.result v
-    c.in_ok-a_sum.a_sum c.in_ok-a_sum.ensures c.requires.planned
-
-pub returns-in_err-b_sum-clause-result : goal.returns-in_err-b_sum-clause-result
-returns-in_err-b_sum-clause-result g m c =
-    let s = g.S.Store.state c.args.store.now in
-    let t = g.S.Store.state c.cut-c.new.store in
-    let u = g.S.Store.state c.product.new.store in
-    let v = g.S.Store.state c.sum.new.store in
-    let w = g.S.Store.state c.sum-2.new.store in
-    let cut = ProductSteps.is_cut s (g.S.Store.state c.look.new.self) t c.args.a c.args.b c.cut-c.result
-    (g.met.S.Store.sound c.args.store.now) c.requires.a c.requires.b c.if-a-eq0.false c.if-a-eq1.false
-    c.if-b-eq0.false c.if-b-eq1.false c.look.ensures.reads c.cut-c.ensures.reads c.cut-c.ensures.cofactors in
-    Gives-failed s w c.from_residual-in_err-b_sum.result c.in_err-b_sum.field-0.0 _ _ _ _
-    c.from_residual-in_err-b_sum.ensures.0 (Gives-after s v w _ _ _ (ProductSteps.s_v s t c.args.a c.args.b
-    c.cut-c.result cut u c.in_ok-lo.lo c.in_ok-lo.ensures.result v c.in_ok-a_sum.a_sum c.in_ok-a_sum.ensures)
-    c.in_err-b_sum.ensures)
+pub returns-in-Some : goal.returns-in-Some
+unfolding answer
+returns-in-Some g m c =
+    let result = kept_given (handles Product refl refl c.requires.a c.requires.b) c.look.ensures.reads c.in-Some.ensures.result in
+    record { result = result; value = product_values c.args.a c.args.b result }
 
 pub product-requires-2 : goal.product-requires-2
 product-requires-2 g m c κs within =
-    let s = g.S.Store.state c.args.store.now in
-    let t = g.S.Store.state c.cut-c.new.store in
-    let u = g.S.Store.state c.product.new.store in
-    let v = g.S.Store.state c.sum.new.store in
-    let w = g.S.Store.state c.sum-2.new.store in
-    let cut = ProductSteps.is_cut s (g.S.Store.state c.look.new.self) t c.args.a c.args.b c.cut-c.result
-    (g.met.S.Store.sound c.args.store.now) c.requires.a c.requires.b c.if-a-eq0.false c.if-a-eq1.false
-    c.if-b-eq0.false c.if-b-eq1.false c.look.ensures.reads c.cut-c.ensures.reads c.cut-c.ensures.cofactors in
-    let knows = ProductSteps.both_knows s t c.args.a c.args.b c.cut-c.result cut u c.in_ok-lo.lo
-    c.in_ok-lo.ensures.result v c.in_ok-a_sum.a_sum c.in_ok-a_sum.ensures w c.in_ok-b_sum.b_sum
-    c.in_ok-b_sum.ensures in
-    let falls = ProductSteps.both_falls s t c.args.a c.args.b c.cut-c.result cut u c.in_ok-lo.lo
-    c.in_ok-lo.ensures.result v c.in_ok-a_sum.a_sum c.in_ok-a_sum.ensures w c.in_ok-b_sum.b_sum
-    c.in_ok-b_sum.ensures in (
-      omega (arith, falls, c.decreases),
-      (
-        within,
-        (
-          knows.0,
-          (
-            knows.1,
-            ProductSteps.both_planned s t c.args.a c.args.b
-                c.cut-c.result cut u c.in_ok-lo.lo c.in_ok-lo.ensures.result v c.in_ok-a_sum.a_sum c.in_ok-a_sum.ensures w
-                c.in_ok-b_sum.b_sum c.in_ok-b_sum.ensures c.requires.planned,
-          ),
-        ),
-      ),
-    )
+    let low = low_requires (at_cut g m (goal.at.product-requires-2 g m c).After-cut-c) in
+    (omega (arith, low.0, c.decreases), (within, (low.1, (low.2, low.3))))
+
+pub returns-in_err-lo-clause-result : goal.returns-in_err-lo-clause-result
+returns-in_err-lo-clause-result g m c =
+    failed c.from_residual.ensures.0 (then_reads c.look.ensures.reads c.cut-c.ensures.reads) c.in_err-lo.ensures.result
+
+pub sum-requires : goal.sum-requires
+sum-requires g m c =
+    let first = first_requires (at_cut g m (goal.at.sum-requires g m c).After-cut-c) c.in_ok-lo.ensures.result in
+    record { a = first.0; b = first.1; planned = first.2 }
+
+pub returns-in_err-a_sum-clause-result : goal.returns-in_err-a_sum-clause-result
+returns-in_err-a_sum-clause-result g m c =
+    failed c.from_residual-in_err-a_sum.ensures.0
+    (then_call (then_reads c.look.ensures.reads c.cut-c.ensures.reads) c.in_ok-lo.ensures.result)
+    c.in_err-a_sum.ensures
+
+pub sum-requires-2 : goal.sum-requires-2
+sum-requires-2 g m c =
+    let second = second_requires (at_cut g m (goal.at.sum-requires-2 g m c).After-cut-c) c.in_ok-lo.ensures.result c.in_ok-a_sum.ensures in
+    record { a = second.0; b = second.1; planned = second.2 }
+
+pub returns-in_err-b_sum-clause-result : goal.returns-in_err-b_sum-clause-result
+returns-in_err-b_sum-clause-result g m c =
+    failed c.from_residual-in_err-b_sum.ensures.0 (then_call (then_call (then_reads c.look.ensures.reads c.cut-c.ensures.reads)
+    c.in_ok-lo.ensures.result) c.in_ok-a_sum.ensures) c.in_err-b_sum.ensures
+
+pub product-requires-3 : goal.product-requires-3
+product-requires-3 g m c κs within =
+    let start = at_cut g m (goal.at.product-requires-3 g m c).After-cut-c in
+    let both = both_requires start c.in_ok-lo.ensures.result c.in_ok-a_sum.ensures c.in_ok-b_sum.ensures in
+    (omega (arith, both.0, c.decreases), (within, (both.1, (both.2, both.3))))
 
 pub returns-in_err-both-clause-result : goal.returns-in_err-both-clause-result
 returns-in_err-both-clause-result g m c =
-    let s = g.S.Store.state c.args.store.now in
-    let t = g.S.Store.state c.cut-c.new.store in
-    let u = g.S.Store.state c.product.new.store in
-    let v = g.S.Store.state c.sum.new.store in
-    let w = g.S.Store.state c.sum-2.new.store in
-    let x = g.S.Store.state c.product-2.new.store in
-    let cut = ProductSteps.is_cut s (g.S.Store.state c.look.new.self) t c.args.a c.args.b c.cut-c.result
-    (g.met.S.Store.sound c.args.store.now) c.requires.a c.requires.b c.if-a-eq0.false c.if-a-eq1.false
-    c.if-b-eq0.false c.if-b-eq1.false c.look.ensures.reads c.cut-c.ensures.reads c.cut-c.ensures.cofactors in
-    Gives-failed s x c.from_residual-in_err-both.result c.in_err-both.field-0.0 _ _ _ _
-    c.from_residual-in_err-both.ensures.0 (Gives-after s w x _ _ _ (ProductSteps.s_w s t c.args.a c.args.b
-    c.cut-c.result cut u c.in_ok-lo.lo c.in_ok-lo.ensures.result v c.in_ok-a_sum.a_sum c.in_ok-a_sum.ensures w
-    c.in_ok-b_sum.b_sum c.in_ok-b_sum.ensures) c.in_err-both.ensures.result)
+    let start = at_cut g m (goal.at.returns-in_err-both-clause-result g m c).After-cut-c in
+    failed c.from_residual-in_err-both.ensures.0 (after_second start c.in_ok-lo.ensures.result c.in_ok-a_sum.ensures c.in_ok-b_sum.ensures)
+    c.in_err-both.ensures.result
 
-pub sum-requires-3-clause-a : goal.sum-requires-3-clause-a
-sum-requires-3-clause-a g m c =
-    let s = g.S.Store.state c.args.store.now in
-    let t = g.S.Store.state c.cut-c.new.store in
-    let u = g.S.Store.state c.product.new.store in
-    let v = g.S.Store.state c.sum.new.store in
-    let w = g.S.Store.state c.sum-2.new.store in
-    let x = g.S.Store.state c.product-2.new.store in
-    let cut = ProductSteps.is_cut s (g.S.Store.state c.look.new.self) t c.args.a c.args.b c.cut-c.result
-    (g.met.S.Store.sound c.args.store.now) c.requires.a c.requires.b c.if-a-eq0.false c.if-a-eq1.false
-    c.if-b-eq0.false c.if-b-eq1.false c.look.ensures.reads c.cut-c.ensures.reads c.cut-c.ensures.cofactors in
-    (ProductSteps.high_knows s t c.args.a c.args.b c.cut-c.result cut u c.in_ok-lo.lo c.in_ok-lo.ensures.result v
-    c.in_ok-a_sum.a_sum c.in_ok-a_sum.ensures w c.in_ok-b_sum.b_sum c.in_ok-b_sum.ensures x c.in_ok-both.both
-    c.in_ok-both.ensures.result).0
-
-pub sum-requires-3-clause-planned : goal.sum-requires-3-clause-planned
-sum-requires-3-clause-planned g m c =
-    let s = g.S.Store.state c.args.store.now in
-    let t = g.S.Store.state c.cut-c.new.store in
-    let u = g.S.Store.state c.product.new.store in
-    let v = g.S.Store.state c.sum.new.store in
-    let w = g.S.Store.state c.sum-2.new.store in
-    let x = g.S.Store.state c.product-2.new.store in
-    let cut = ProductSteps.is_cut s (g.S.Store.state c.look.new.self) t c.args.a c.args.b c.cut-c.result
-    (g.met.S.Store.sound c.args.store.now) c.requires.a c.requires.b c.if-a-eq0.false c.if-a-eq1.false
-    c.if-b-eq0.false c.if-b-eq1.false c.look.ensures.reads c.cut-c.ensures.reads c.cut-c.ensures.cofactors in
-    ProductSteps.high_planned s t c.args.a c.args.b c.cut-c.result cut u c.in_ok-lo.lo c.in_ok-lo.ensures.result v
-    c.in_ok-a_sum.a_sum c.in_ok-a_sum.ensures w c.in_ok-b_sum.b_sum c.in_ok-b_sum.ensures x c.in_ok-both.both
-    c.in_ok-both.ensures.result c.requires.planned
+pub sum-requires-3 : goal.sum-requires-3
+sum-requires-3 g m c =
+    let start = at_cut g m (goal.at.sum-requires-3 g m c).After-cut-c in
+    let high = high_requires start c.in_ok-lo.ensures.result c.in_ok-a_sum.ensures c.in_ok-b_sum.ensures c.in_ok-both.ensures.result in
+    record { a = high.0; b = high.1; planned = high.2 }
 
 pub returns-in_err-hi-clause-result : goal.returns-in_err-hi-clause-result
 returns-in_err-hi-clause-result g m c =
-    let s = g.S.Store.state c.args.store.now in
-    let t = g.S.Store.state c.cut-c.new.store in
-    let u = g.S.Store.state c.product.new.store in
-    let v = g.S.Store.state c.sum.new.store in
-    let w = g.S.Store.state c.sum-2.new.store in
-    let x = g.S.Store.state c.product-2.new.store in
-    let y = g.S.Store.state c.sum-3.new.store in
-    let cut = ProductSteps.is_cut s (g.S.Store.state c.look.new.self) t c.args.a c.args.b c.cut-c.result
-    (g.met.S.Store.sound c.args.store.now) c.requires.a c.requires.b c.if-a-eq0.false c.if-a-eq1.false
-    c.if-b-eq0.false c.if-b-eq1.false c.look.ensures.reads c.cut-c.ensures.reads c.cut-c.ensures.cofactors in
-    Gives-failed s y c.from_residual-in_err-hi.result c.in_err-hi.field-0.0 _ _ _ _
-    c.from_residual-in_err-hi.ensures.0 (Gives-after s x y _ _ _ (ProductSteps.s_x s t c.args.a c.args.b
-    c.cut-c.result cut u c.in_ok-lo.lo c.in_ok-lo.ensures.result v c.in_ok-a_sum.a_sum c.in_ok-a_sum.ensures w
-    c.in_ok-b_sum.b_sum c.in_ok-b_sum.ensures x c.in_ok-both.both c.in_ok-both.ensures.result) c.in_err-hi.ensures)
+    let start = at_cut g m (goal.at.returns-in_err-hi-clause-result g m c).After-cut-c in
+    failed c.from_residual-in_err-hi.ensures.0
+    (after_both start c.in_ok-lo.ensures.result c.in_ok-a_sum.ensures c.in_ok-b_sum.ensures c.in_ok-both.ensures.result)
+    c.in_err-hi.ensures
 
-pub grow-requires-clause-parts : goal.grow-requires-clause-parts
-grow-requires-clause-parts g m c =
-    let s = g.S.Store.state c.args.store.now in
-    let t = g.S.Store.state c.cut-c.new.store in
-    let u = g.S.Store.state c.product.new.store in
-    let v = g.S.Store.state c.sum.new.store in
-    let w = g.S.Store.state c.sum-2.new.store in
-    let x = g.S.Store.state c.product-2.new.store in
-    let y = g.S.Store.state c.sum-3.new.store in
-    let cut = ProductSteps.is_cut s (g.S.Store.state c.look.new.self) t c.args.a c.args.b c.cut-c.result
-    (g.met.S.Store.sound c.args.store.now) c.requires.a c.requires.b c.if-a-eq0.false c.if-a-eq1.false
-    c.if-b-eq0.false c.if-b-eq1.false c.look.ensures.reads c.cut-c.ensures.reads c.cut-c.ensures.cofactors in
-    ProductSteps.product_parts s t c.args.a c.args.b c.cut-c.result cut u c.in_ok-lo.lo c.in_ok-lo.ensures.result v
-    c.in_ok-a_sum.a_sum c.in_ok-a_sum.ensures w c.in_ok-b_sum.b_sum c.in_ok-b_sum.ensures x c.in_ok-both.both
-    c.in_ok-both.ensures.result y c.in_ok-hi.hi c.in_ok-hi.ensures
-
-pub grow-requires-clause-planned : goal.grow-requires-clause-planned
-grow-requires-clause-planned g m c filled =
-    let s = g.S.Store.state c.args.store.now in
-    let t = g.S.Store.state c.cut-c.new.store in
-    let u = g.S.Store.state c.product.new.store in
-    let v = g.S.Store.state c.sum.new.store in
-    let w = g.S.Store.state c.sum-2.new.store in
-    let x = g.S.Store.state c.product-2.new.store in
-    let y = g.S.Store.state c.sum-3.new.store in
-    let cut = ProductSteps.is_cut s (g.S.Store.state c.look.new.self) t c.args.a c.args.b c.cut-c.result
-    (g.met.S.Store.sound c.args.store.now) c.requires.a c.requires.b c.if-a-eq0.false c.if-a-eq1.false
-    c.if-b-eq0.false c.if-b-eq1.false c.look.ensures.reads c.cut-c.ensures.reads c.cut-c.ensures.cofactors in
-    ProductSteps.product_needed s t c.args.a c.args.b c.cut-c.result cut u c.in_ok-lo.lo c.in_ok-lo.ensures.result v
-    c.in_ok-a_sum.a_sum c.in_ok-a_sum.ensures w c.in_ok-b_sum.b_sum c.in_ok-b_sum.ensures x c.in_ok-both.both
-    c.in_ok-both.ensures.result y c.in_ok-hi.hi c.in_ok-hi.ensures (g.met.S.Store.sound c.sum-3.new.store)
-    c.requires.planned filled
+pub grow-requires : goal.grow-requires
+grow-requires g m c =
+    let start = at_cut g m (goal.at.grow-requires g m c).After-cut-c in
+    let may = grown start c.in_ok-lo.ensures.result c.in_ok-a_sum.ensures c.in_ok-b_sum.ensures c.in_ok-both.ensures.result
+    c.in_ok-hi.ensures in
+    record { parts = node_parts may; planned = node_planned may (g.met.S.Store.sound c.sum-3.new.store) }
 
 pub returns-in_err-r-clause-result : goal.returns-in_err-r-clause-result
 returns-in_err-r-clause-result g m c =
-    let s = g.S.Store.state c.args.store.now in
-    let t = g.S.Store.state c.cut-c.new.store in
-    let u = g.S.Store.state c.product.new.store in
-    let v = g.S.Store.state c.sum.new.store in
-    let w = g.S.Store.state c.sum-2.new.store in
-    let x = g.S.Store.state c.product-2.new.store in
-    let y = g.S.Store.state c.sum-3.new.store in
-    let z = g.S.Store.state c.grow.new.store in
-    let cut = ProductSteps.is_cut s (g.S.Store.state c.look.new.self) t c.args.a c.args.b c.cut-c.result
-    (g.met.S.Store.sound c.args.store.now) c.requires.a c.requires.b c.if-a-eq0.false c.if-a-eq1.false
-    c.if-b-eq0.false c.if-b-eq1.false c.look.ensures.reads c.cut-c.ensures.reads c.cut-c.ensures.cofactors in
-    Gives-failed s z c.from_residual-in_err-r.result c.in_err-r.field-0.0 _ _ _ _ c.from_residual-in_err-r.ensures.0
-    (ProductSteps.product_built s t c.args.a c.args.b c.cut-c.result cut u c.in_ok-lo.lo c.in_ok-lo.ensures.result v
-    c.in_ok-a_sum.a_sum c.in_ok-a_sum.ensures w c.in_ok-b_sum.b_sum c.in_ok-b_sum.ensures x c.in_ok-both.both
-    c.in_ok-both.ensures.result y c.in_ok-hi.hi c.in_ok-hi.ensures z _ c.in_err-r.ensures)
+    let start = at_cut g m (goal.at.returns-in_err-r-clause-result g m c).After-cut-c in
+    let may = grown start c.in_ok-lo.ensures.result c.in_ok-a_sum.ensures c.in_ok-b_sum.ensures c.in_ok-both.ensures.result
+    c.in_ok-hi.ensures in
+    failed c.from_residual-in_err-r.ensures.0 may.reads c.in_err-r.ensures
 
 pub keep-requires : goal.keep-requires
+unfolding answer
 keep-requires g m c =
-    let s = g.S.Store.state c.args.store.now in
-    let t = g.S.Store.state c.cut-c.new.store in
-    let u = g.S.Store.state c.product.new.store in
-    let v = g.S.Store.state c.sum.new.store in
-    let w = g.S.Store.state c.sum-2.new.store in
-    let x = g.S.Store.state c.product-2.new.store in
-    let y = g.S.Store.state c.sum-3.new.store in
-    let z = g.S.Store.state c.grow.new.store in
-    let cut = ProductSteps.is_cut s (g.S.Store.state c.look.new.self) t c.args.a c.args.b c.cut-c.result
-    (g.met.S.Store.sound c.args.store.now) c.requires.a c.requires.b c.if-a-eq0.false c.if-a-eq1.false
-    c.if-b-eq0.false c.if-b-eq1.false c.look.ensures.reads c.cut-c.ensures.reads c.cut-c.ensures.cofactors in
-    ProductSteps.product_result s z c.args.a c.args.b c.in_ok-r.r c.requires.a c.requires.b
-    (ProductSteps.product_given s t c.args.a c.args.b c.cut-c.result cut u c.in_ok-lo.lo c.in_ok-lo.ensures.result v
-    c.in_ok-a_sum.a_sum c.in_ok-a_sum.ensures w c.in_ok-b_sum.b_sum c.in_ok-b_sum.ensures x c.in_ok-both.both
-    c.in_ok-both.ensures.result y c.in_ok-hi.hi c.in_ok-hi.ensures z c.in_ok-r.r c.in_ok-r.ensures)
-
-pub returns-clause-result : goal.returns-clause-result
-returns-clause-result g m c =
-    let s = g.S.Store.state c.args.store.now in
-    let t = g.S.Store.state c.cut-c.new.store in
-    let u = g.S.Store.state c.product.new.store in
-    let v = g.S.Store.state c.sum.new.store in
-    let w = g.S.Store.state c.sum-2.new.store in
-    let x = g.S.Store.state c.product-2.new.store in
-    let y = g.S.Store.state c.sum-3.new.store in
-    let z = g.S.Store.state c.grow.new.store in
-    let cut = ProductSteps.is_cut s (g.S.Store.state c.look.new.self) t c.args.a c.args.b c.cut-c.result
-    (g.met.S.Store.sound c.args.store.now) c.requires.a c.requires.b c.if-a-eq0.false c.if-a-eq1.false
-    c.if-b-eq0.false c.if-b-eq1.false c.look.ensures.reads c.cut-c.ensures.reads c.cut-c.ensures.cofactors in
-    rw c.keep.ensures (ProductSteps.product_given s t c.args.a c.args.b c.cut-c.result cut u c.in_ok-lo.lo
-    c.in_ok-lo.ensures.result v c.in_ok-a_sum.a_sum c.in_ok-a_sum.ensures w c.in_ok-b_sum.b_sum c.in_ok-b_sum.ensures
-    x c.in_ok-both.both c.in_ok-both.ensures.result y c.in_ok-hi.hi c.in_ok-hi.ensures z c.in_ok-r.r
+    let start = at_cut g m (goal.at.keep-requires g m c).After-cut-c in
+    given_kept (handles Product refl refl c.requires.a c.requires.b) (allowed_all Product refl (λ e. cc) (λ e. cc) (λ e. cc))
+    (given start c.in_ok-lo.ensures.result c.in_ok-a_sum.ensures c.in_ok-b_sum.ensures c.in_ok-both.ensures.result c.in_ok-hi.ensures
     c.in_ok-r.ensures)
 
-pub returns-clause-value : goal.returns-clause-value
-returns-clause-value g m c =
-    let s = g.S.Store.state c.args.store.now in
-    product_values s (g.S.Store.state c.keep.new.self) c.args.a c.args.b _ (returns-clause-result g m c)
+pub returns : goal.returns
+returns g m c =
+    let start = at_cut g m (goal.at.returns g m c).After-cut-c in
+    let result = given start c.in_ok-lo.ensures.result c.in_ok-a_sum.ensures c.in_ok-b_sum.ensures c.in_ok-both.ensures.result
+    c.in_ok-hi.ensures c.in_ok-r.ensures in
+    rw c.keep.ensures (record { result = result; value = product_values c.args.a c.args.b result })

@@ -1,9 +1,5 @@
-use Rattle.std.proofs.Common.{is_some, ap}
-use Rattle.node_store.specs.PlainLaws.{empty_known}
+use Rattle.bool_poly.proofs.AnyNeeds.{ready_made}
 use Rattle.bool_poly.proofs.tests.values_of_a_sum.Goals as goal
 
 pub more-requires-clause-ready : goal.more-requires-clause-ready
-more-requires-clause-ready g c =
-    let s = c.in_ok-store.store in
-    let known = ap is_some (empty_known s.vars s.capacity s.plan.families s.refused s.nodes.keys) in
-    record { any = c.in_ok-store.ensures; first = known; second = known }
+more-requires-clause-ready g c = ready_made c.in_ok-store.store _ c.in_ok-store.ensures.state c.any_plan.ensures

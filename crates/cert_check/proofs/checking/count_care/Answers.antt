@@ -11,5 +11,4 @@ returns c = λ n zeros ones marks.
     let kept = count_from_yields_List c.filter.result c.count.result c.count.ensures.ran
     (YieldsList-from_filter _ (λ (p : Care). p.zero || p.one) (YieldsList-from_slice c.args.care.now cc)
     c.filter.ensures.closure (λ x b q k. search (rules, tests))) in
-    kept ∙ (length-filter (λ (p : Care). p.zero || p.one) c.args.care.now ∙ care_count n zeros ones c.args.care.now
-    marks)
+    kept ∙ (length-filter (λ (p : Care). p.zero || p.one) c.args.care.now ∙ care_count n zeros ones c.args.care.now marks)

@@ -1,48 +1,47 @@
-use Rattle.std.proofs.Common.{List, length, sym, ap, ◌∙◌, arith}
+use Rattle.std.proofs.Common.{◌<◌, List, length, refl, sym, ap, ◌∙◌, arith, drop}
+use Rattle.std.specs.List.{All}
 use Rattle.cert_check.specs.declared.answer.Given.{Given}
-use Rattle.cert_check.specs.Faults.{is_reducible, tail_of}
-use Rattle.cert_check.proofs.JudgedOutputs.{tail_below, terms_at, poly_reduces, tails_left, tail_reduces, tail_fine, tails_fine}
+use Rattle.cert_check.specs.Faults.{first_verdict, reduced_checks}
+use Rattle.cert_check.proofs.Elements.{All-at}
+use Rattle.cert_check.proofs.JudgedOutputs.{tail_below, tail_here, tails_fine}
 use Rattle.cert_check.proofs.checking.judge_reduced.Goals as goal
 
 pub returns-then-is_reducible : goal.returns-then-is_reducible
-returns-then-is_reducible c = λ n tops counted. rw c.fault.ensures
-    (poly_reduces tops c.args.given.now (ap (is_reducible tops) (sym c.as_slice.ensures) ∙
-    (sym (c.is_reducible.ensures n tops counted) ∙ c.if-is_reducible.true)))
+unfolding first_verdict reduced_checks
+returns-then-is_reducible c = λ n tops counted.
+    let test = rw c.as_slice.ensures at (sym (c.is_reducible.ensures n tops counted) ∙ c.if-is_reducible.true) in
+    rw (c.fault.ensures, test) refl
 
 pub loop-element-init : goal.loop-element-init
-loop-element-init c = λ n tops counted. tails_left tops c.args.given.now
-    (ap (is_reducible tops) (sym c.as_slice.ensures) ∙
-    (sym (c.is_reducible.ensures n tops counted) ∙ c.if-is_reducible.false))
+unfolding first_verdict reduced_checks
+loop-element-init c = λ n tops counted.
+    let test = rw c.as_slice.ensures at (sym (c.is_reducible.ensures n tops counted) ∙ c.if-is_reducible.false) in
+    rw test refl
 
 pub is_reducible-requires-in-loop-element : goal.is_reducible-requires-in-loop-element
 is_reducible-requires-in-loop-element c =
-    tail_below (length c.args.counts.now) c.element-item.result.terms c.tail_of.result.now
-    (terms_at (length c.args.counts.now) c.args.given.now.basis c.loop-element.element-index c.element-item.result
-    c.requires.basis (rw (c.as_slice-element-items.ensures) at c.loop-element-test.true)
-    (rw (c.as_slice-element-items.ensures) at c.element-item.is))
-    (c.tail_of.ensures ∙ ap tail_of c.as_slice-in-loop-element.ensures)
+    let within = rw c.as_slice-element-items.ensures at c.loop-element-test.true in
+    let here = All-at (λ (e : Given). All (λ m. m < length c.args.counts.now) e.terms) c.args.given.now.basis _ c.element-item.result
+    c.requires.basis
+    within (rw c.as_slice-element-items.ensures at c.element-item.is) in
+    tail_below _ _ _ here (c.tail_of.ensures ∙ ap (drop 1) c.as_slice-in-loop-element.ensures)
 
 pub returns-then-is_reducible-2 : goal.returns-then-is_reducible-2
-returns-then-is_reducible-2 c = λ n tops counted. rw c.fault-then-is_reducible-2.ensures
-    (tail_reduces tops c.args.given.now c.loop-element.element-index (c.loop-element.invariant n tops counted)
-    c.element-item.result (rw (c.as_slice-element-items.ensures) at c.loop-element-test.true)
-    (rw (c.as_slice-element-items.ensures) at c.element-item.is)
-    (ap (is_reducible tops) (sym (c.tail_of.ensures ∙ ap tail_of c.as_slice-in-loop-element.ensures)) ∙
-    (sym (c.is_reducible-in-loop-element.ensures n tops counted) ∙ c.if-is_reducible-2.true)))
+returns-then-is_reducible-2 c = λ n tops counted.
+    let next = tail_here tops c.args.given.now _ (c.loop-element.invariant n tops counted) _
+    (rw c.as_slice-element-items.ensures at c.loop-element-test.true) (rw c.as_slice-element-items.ensures at c.element-item.is) in
+    let seen = c.tail_of.ensures ∙ ap (drop 1) c.as_slice-in-loop-element.ensures in
+    let test = rw seen at (sym (c.is_reducible-in-loop-element.ensures n tops counted) ∙ c.if-is_reducible-2.true) in
+    rw c.fault-then-is_reducible-2.ensures (next ∙ rw test refl)
 
 pub loop-element-preserved : goal.loop-element-preserved
-loop-element-preserved c = λ n tops counted. tail_fine tops c.args.given.now c.loop-element.element-index
-    (c.loop-element.invariant n tops counted) c.element-item.result
-    (rw (c.as_slice-element-items.ensures) at c.loop-element-test.true)
-    (rw (c.as_slice-element-items.ensures) at c.element-item.is)
-    (ap (is_reducible tops) (sym (c.tail_of.ensures ∙ ap tail_of c.as_slice-in-loop-element.ensures)) ∙
-    (sym (c.is_reducible-in-loop-element.ensures n tops counted) ∙ c.if-is_reducible-2.false))
+loop-element-preserved c = λ n tops counted.
+    let next = tail_here tops c.args.given.now _ (c.loop-element.invariant n tops counted) _
+    (rw c.as_slice-element-items.ensures at c.loop-element-test.true) (rw c.as_slice-element-items.ensures at c.element-item.is) in
+    let seen = c.tail_of.ensures ∙ ap (drop 1) c.as_slice-in-loop-element.ensures in
+    let test = rw seen at (sym (c.is_reducible-in-loop-element.ensures n tops counted) ∙ c.if-is_reducible-2.false) in
+    next ∙ rw test refl
 
 pub returns : goal.returns
-returns c = λ n tops counted. tails_fine tops c.args.given.now c.loop-element.element-index
-    (c.loop-element.invariant n tops counted) (omega (
-      arith,
-      c.loop-element-test.false,
-      ap
-          (λ (es : List Given). length es) c.as_slice-element-items.ensures,
-    ))
+returns c = λ n tops counted. tails_fine tops c.args.given.now _ (c.loop-element.invariant n tops counted)
+    (omega (arith, c.loop-element-test.false, ap (λ (es : List Given). length es) c.as_slice-element-items.ensures))

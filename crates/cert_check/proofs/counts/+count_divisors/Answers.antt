@@ -1,12 +1,11 @@
 use Rattle.std.proofs.Common.{◌*◌, ◌-◌, ◌^◌, ◌%◌, ◌≤◌, length, ◌∙◌, arith}
 use Rattle.std.proofs.lemmas.List.Elements.{All-drop}
 use Rattle.cert_check.proofs.Halves.{counts_one, counts_whole, sums_fit, half_of}
-use Rattle.cert_check.proofs.Numbers.{weight_is}
+use Rattle.lattice.proofs.Diagrams.{weight_is}
 use Rattle.cert_check.proofs.counts.+count_divisors.Goals as goal
 
 pub returns-then-variables-eq0 : goal.returns-then-variables-eq0
-returns-then-variables-eq0 t c = counts_one c.args.variables c.args.table.now c.if-variables-eq0.true c.requires.size
-    c.requires.marks
+returns-then-variables-eq0 t c = counts_one c.args.variables c.args.table.now c.if-variables-eq0.true c.requires.size c.requires.marks
 
 pub split_at_mut-without-requires : goal.split_at_mut-without-requires
 split_at_mut-without-requires t c =
@@ -18,8 +17,7 @@ count_divisors-requires-2 t c =
     let half = half_of c.args.variables (length c.args.table.now) c.if-variables-eq0.false c.requires.size in
     let weight = weight_is (c.args.variables - 1) (omega arith) in
     let marks = rw (← c.split_at_mut-without.ensures.back) at
-    (All-drop (λ mark. mark ≤ 1) (1 * 2 ^ (c.args.variables - 1) % 18446744073709551616) c.args.table.now
-    c.requires.marks) in (
+    (All-drop (λ mark. mark ≤ 1) (1 * 2 ^ (c.args.variables - 1) % 18446744073709551616) c.args.table.now c.requires.marks) in (
       omega (arith, c.decreases),
       (
         omega arith,
@@ -39,7 +37,6 @@ pub returns : goal.returns
 returns t c =
     let weight = weight_is (c.args.variables - 1) (omega arith) in
     counts_whole c.args.variables c.args.table.now c.split_at_mut-without.result.0.now
-    c.split_at_mut-without.result.1.now c.count_divisors.new.table c.count_divisors-2.new.table
-    c.add_each.new.numbers
+    c.split_at_mut-without.result.1.now c.count_divisors.new.table c.count_divisors-2.new.table c.add_each.new.numbers
     c.if-variables-eq0.false c.split_at_mut-without.ensures.value (c.split_at_mut-without.ensures.front_len ∙ weight)
     c.count_divisors.ensures c.count_divisors-2.ensures c.add_each.auto.numbers c.add_each.ensures

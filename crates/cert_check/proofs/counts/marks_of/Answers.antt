@@ -1,8 +1,9 @@
 use Rattle.std.proofs.Common.{ℕ, ◌^◌, ◌<◌, ◌+◌, List, take, sym, subst, arith}
 use Rattle.std.proofs.lemmas.List.{take_all}
 use Rattle.std.proofs.Math.ListN.{set}
-use Rattle.cert_check.proofs.Numbers.{weight_is}
-use Rattle.cert_check.proofs.MarkedMonomials.{MarksMonomials, marks_nothing, marks_more, marks_small, marked_is, All-at}
+use Rattle.lattice.proofs.Diagrams.{weight_is}
+use Rattle.cert_check.proofs.Elements.{All-at}
+use Rattle.cert_check.proofs.MarkedMonomials.{MarksMonomials, marks_nothing, marks_more, marks_small, marked_is}
 use Rattle.cert_check.proofs.counts.marks_of.Goals as goal
 
 pub loop-m-init : goal.loop-m-init
@@ -13,7 +14,7 @@ loop-m-init c =
 pub loop-m-preserved : goal.loop-m-preserved
 loop-m-preserved c =
     let is = c.m.view_is in
-    let below = All-at (λ m. m < 2 ^ c.args.inputs) c.args.monomials.now c.loop-m.m-index c.m-item.result
+    let below = All-at (λ (m : ℕ). m < 2 ^ c.args.inputs) c.args.monomials.now c.loop-m.m-index c.m-item.result
     c.requires.below c.loop-m-test.true c.m-item.is in
     subst (λ (k : ℕ). MarksMonomials c.args.inputs (take (c.loop-m.m-index + 1) c.args.monomials.now)
     (set c.loop-m.table.items k 1)) (sym is)

@@ -8,5 +8,4 @@ pub returns : goal.returns
 returns c =
     all_from_yields_List is_plain _ _ _ c.all.ensures.ran
     (YieldsList-from_slice_split _ (λ b. b == 42) c.args.factors.now c.split.ensures.rest c.split.ensures.done
-    c.split.ensures.closure (λ x b q k. search (rules, tests)))
-    (λ x b q k. search (rules, tests))
+    c.split.ensures.closure (λ x b q k. search (rules, tests))) (λ x b q k. search (rules, tests))

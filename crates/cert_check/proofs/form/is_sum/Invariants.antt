@@ -1,7 +1,11 @@
-use Rattle.std.proofs.Common.{◌≡◌, length, drop}
+use Rattle.std.proofs.Common.{◌≡◌}
 use Rattle.cert_check.specs.Reading.{words, is_sum}
-use Rattle.cert_check.proofs.Sums.{goes_on}
+use Rattle.cert_check.specs.Parts.{parts_left}
+use Rattle.cert_check.proofs.Cuts.{left_length}
 use Rattle.cert_check.proofs.form.is_sum.Given as goal
 
-abbrev pub invariant-loop-word : goal.invariant-loop-word
-invariant-loop-word l = goes_on l.term_next (drop (length l.yielded) (words l.fn.right)) ≡ is_sum (words l.fn.right)
+abbrev pub invariant-loop-rest : goal.invariant-loop-rest
+invariant-loop-rest l = is_sum (parts_left 32 l.rest) ≡ is_sum (words l.fn.right)
+
+abbrev pub decreases-loop-rest : goal.decreases-loop-rest
+decreases-loop-rest l = left_length l.rest

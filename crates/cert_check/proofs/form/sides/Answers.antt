@@ -1,7 +1,8 @@
 use Rattle.cert_check.proofs.LineForms.{two_words}
 use Rattle.cert_check.proofs.form.sides.Goals as goal
 
-pub returns-in_err-equals : goal.returns-in_err-equals
-returns-in_err-equals c = rw c.from_residual-in_err-equals.ensures
-    (two_words c.args.line.now c.in_ok-left.left.now c.in_ok-left.rest.now c.in_ok-left.ensures
-    c.in_err-equals.ensures)
+pub returns-in_err-right : goal.returns-in_err-right
+returns-in_err-right c =
+    let cut = rw c.in_ok-rest.was at c.split_first.ensures.first in
+    let last = rw c.in_err-right.was at c.split_first-2.ensures.first in
+    rw c.from_residual-in_err-right.ensures (two_words c.args.line.now _ c.in_ok-rest.field-0.now _ cut last)

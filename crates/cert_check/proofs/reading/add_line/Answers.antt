@@ -23,8 +23,7 @@ returns-in_err-read_right c =
     rw (p.1, p.2) (right_stops c.args.ins.now c.args.outs.now (length c.args.outputs.now.items)
     (words c.args.line.now) c.in-Some.left.now c.in-Some.right.now c.in-Some.ensures.0 c.in-Some.ensures.1 _
     (subst (λ (k : ℕ). left_fault c.args.outs.now k c.in-Some.left.now ≡ None)
-    (omega (arith, c.len.ensures, c.args.outputs.now.ok.0)) c.in_ok-check_left.ensures)
-    c.in_err-read_right.ensures)
+    (omega (arith, c.len.ensures, c.args.outputs.now.ok.0)) c.in_ok-check_left.ensures) c.in_err-read_right.ensures)
 
 pub returns-in_ok-add_element : goal.returns-in_ok-add_element
 returns-in_ok-add_element c =
@@ -32,13 +31,11 @@ returns-in_ok-add_element c =
       no_fault c.args.ins.now c.args.outs.now (length c.args.outputs.now.items) (words c.args.line.now) at
           c.in-Some.right.now c.in-Some.ensures.0 c.in-Some.ensures.1
           (subst (λ (k : ℕ). left_fault c.args.outs.now k c.in-Some.left.now ≡ None)
-          (omega (arith, c.len.ensures, c.args.outputs.now.ok.0)) c.in_ok-check_left.ensures)
-          c.in_ok-read_right.ensures.0,
+          (omega (arith, c.len.ensures, c.args.outputs.now.ok.0)) c.in_ok-check_left.ensures) c.in_ok-read_right.ensures.0,
       adds_element c.args.ins.now c.args.outs.now (length c.args.outputs.now.items) (words c.args.line.now) at
           c.in-Some.right.now c.in-Some.ensures.0 c.in-Some.ensures.1
           c.args.outputs.now.items c.add_element.new.outputs.items c.args.number _
-          (sym c.is_element.ensures ∙ c.if-is_element.true) c.in_ok-read_right.ensures.1
-          c.in_ok-add_element.ensures,
+          (sym c.is_element.ensures ∙ c.if-is_element.true) c.in_ok-read_right.ensures.1 c.in_ok-add_element.ensures,
     )
 
 pub returns-in_ok-push : goal.returns-in_ok-push
@@ -47,11 +44,9 @@ returns-in_ok-push c =
       no_fault c.args.ins.now c.args.outs.now (length c.args.outputs.now.items) (words c.args.line.now) at
           c.in-Some.right.now c.in-Some.ensures.0 c.in-Some.ensures.1
           (subst (λ (k : ℕ). left_fault c.args.outs.now k c.in-Some.left.now ≡ None)
-          (omega (arith, c.len.ensures, c.args.outputs.now.ok.0)) c.in_ok-check_left.ensures)
-          c.in_ok-read_right.ensures.0,
+          (omega (arith, c.len.ensures, c.args.outputs.now.ok.0)) c.in_ok-check_left.ensures) c.in_ok-read_right.ensures.0,
       adds_output c.args.ins.now c.args.outs.now (length c.args.outputs.now.items) (words c.args.line.now) at
           c.in-Some.right.now c.in-Some.ensures.0 c.in-Some.ensures.1
           c.args.outputs.now.items c.push.new.self.items c.args.number _ c.new.result
-          (sym c.is_element.ensures ∙ c.if-is_element.false) c.in_ok-read_right.ensures.1 c.new.ensures
-          c.in_ok-push.ensures.items,
+          (sym c.is_element.ensures ∙ c.if-is_element.false) c.in_ok-read_right.ensures.1 c.new.ensures c.in_ok-push.ensures.items,
     )

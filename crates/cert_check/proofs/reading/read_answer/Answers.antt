@@ -1,6 +1,6 @@
 use Rattle.std.proofs.Common.{codes, arith}
 use Rattle.std.specs.Option.{unwrap_or}
-use Rattle.anf_printer.proofs.PrintedNames.{count_printed}
+use Rattle.anf_printer.proofs.PrintedLists.{count_printed}
 use Rattle.cert_check.proofs.OverInputs.{answer_fits}
 use Rattle.cert_check.proofs.reading.read_answer.Goals as goal
 

@@ -10,44 +10,30 @@ loop-rest-init c = none_read c.args.ins.now c.args.outs.now c.args.text.now _ c.
 
 pub loop-rest-preserved-in-Ok : goal.loop-rest-preserved-in-Ok
 loop-rest-preserved-in-Ok c =
-    let filled = sym (ap is_empty c.bare-line.ensures) ∙
-    (empty_is _ _ c.is_empty-in-loop-rest.ensures ∙ c.if-not-is_empty.true) in
+    let filled = sym (ap is_empty c.bare-line.ensures) ∙ (empty_is _ _ c.is_empty-in-loop-rest.ensures ∙ c.if-not-is_empty.true) in
     let added = rw (c.bare-line.ensures) at c.in-Ok.ensures in
-    line_added c.args.ins.now c.args.outs.now c.args.text.now c.loop-rest.rest.now c.loop-rest.count
-    c.loop-rest.outputs.items c.loop-rest.invariant c.split_line.result.0.now c.split_line.result.1.now
-    c.split_line.ensures.first c.split_line.ensures.some c.split_line.ensures.all c.add_line.new.outputs.items
-    filled added.0 added.1
+    line_added _ _ _ _ _ _ c.loop-rest.invariant _ _ c.split_line.ensures.first c.split_line.ensures.some c.split_line.ensures.all _ filled
+    added.0 added.1
 
 pub returns-in-Err : goal.returns-in-Err
 returns-in-Err c =
-    let filled = sym (ap is_empty c.bare-line.ensures) ∙
-    (empty_is _ _ c.is_empty-in-loop-rest.ensures ∙ c.if-not-is_empty.true) in
+    let filled = sym (ap is_empty c.bare-line.ensures) ∙ (empty_is _ _ c.is_empty-in-loop-rest.ensures ∙ c.if-not-is_empty.true) in
     let stops = rw (c.bare-line.ensures) at c.in-Err.ensures in
-    rw c.at.ensures (line_refused c.args.ins.now c.args.outs.now c.args.text.now c.loop-rest.rest.now
-    c.loop-rest.count c.loop-rest.outputs.items c.loop-rest.invariant c.split_line.result.0.now
-    c.split_line.result.1.now c.split_line.ensures.first c.split_line.ensures.some c.split_line.ensures.all
+    rw c.of_line.ensures
+    (line_refused _ _ _ _ _ _ c.loop-rest.invariant _ _ c.split_line.ensures.first c.split_line.ensures.some c.split_line.ensures.all
     c.in-Err.refusal filled stops)
 
 pub loop-rest-preserved : goal.loop-rest-preserved
 loop-rest-preserved c =
-    line_skipped c.args.ins.now c.args.outs.now c.args.text.now c.loop-rest.rest.now c.loop-rest.count
-    c.loop-rest.outputs.items c.loop-rest.invariant c.split_line.result.0.now c.split_line.result.1.now
-    c.split_line.ensures.first c.split_line.ensures.some c.split_line.ensures.all
-    (sym (ap is_empty c.bare-line.ensures) ∙ (empty_is _ _ c.is_empty-in-loop-rest.ensures ∙
-    c.if-not-is_empty.false))
+    line_skipped _ _ _ _ _ _ c.loop-rest.invariant _ _ c.split_line.ensures.first c.split_line.ensures.some c.split_line.ensures.all
+    (sym (ap is_empty c.bare-line.ensures) ∙ (empty_is _ _ c.is_empty-in-loop-rest.ensures ∙ c.if-not-is_empty.false))
 
 pub returns-then-len-outs : goal.returns-then-len-outs
 returns-then-len-outs c =
-    let nothing = nil_from_length c.loop-rest.rest.now
-    (eqb-true _ _ (sym c.is_empty.ensures ∙ c.loop-rest-test.false)) in
-    output_missing c.args.ins.now c.args.outs.now c.args.text.now c.loop-rest.rest.now c.loop-rest.count
-    c.loop-rest.outputs.items c.loop-rest.invariant nothing
-    (omega (arith, c.len.ensures, c.loop-rest.outputs.ok.0))
+    let nothing = nil_from_length c.loop-rest.rest.now (eqb-true _ _ (sym c.is_empty.ensures ∙ c.loop-rest-test.false)) in
+    output_missing _ _ _ _ _ _ c.loop-rest.invariant nothing (omega (arith, c.len.ensures, c.loop-rest.outputs.ok.0))
 
 pub returns : goal.returns
 returns c =
-    let nothing = nil_from_length c.loop-rest.rest.now
-    (eqb-true _ _ (sym c.is_empty.ensures ∙ c.loop-rest-test.false)) in
-    rw c.from_vec.ensures (all_read c.args.ins.now c.args.outs.now c.args.text.now c.loop-rest.rest.now
-    c.loop-rest.count c.loop-rest.outputs.items c.loop-rest.invariant nothing
-    (omega (arith, c.len.ensures, c.loop-rest.outputs.ok.0)))
+    let nothing = nil_from_length c.loop-rest.rest.now (eqb-true _ _ (sym c.is_empty.ensures ∙ c.loop-rest-test.false)) in
+    rw c.from_vec.ensures (all_read _ _ _ _ _ _ c.loop-rest.invariant nothing (omega (arith, c.len.ensures, c.loop-rest.outputs.ok.0)))

@@ -12,6 +12,5 @@ returns c =
     let all = all_from_yields_List (λ word. not (is_term word) || list_all (includes c.args.names.now)
     (factors_of word)) _ _ c.all.result c.all.ensures.ran
     (YieldsList-from_slice_split _ (λ b. b == 32) c.args.right.now c.split.ensures.rest c.split.ensures.done
-    c.split.ensures.closure (λ x b q k. search (rules, tests)))
-    (λ x b q k. search (rules, tests)) in
+    c.split.ensures.closure (λ x b q k. search (rules, tests))) (λ x b q k. search (rules, tests)) in
     all ∙ known_by_words c.args.names.now (words c.args.right.now)

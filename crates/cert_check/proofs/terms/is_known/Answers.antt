@@ -10,7 +10,5 @@ pub returns-else-is_word : goal.returns-else-is_word
 returns-else-is_word c =
     let all = all_from_yields_List (includes c.args.names.now) _ _ c.all.result c.all.ensures.ran
     (YieldsList-from_slice_split _ (λ b. b == 42) c.args.term.now c.split.ensures.rest c.split.ensures.done
-    c.split.ensures.closure (λ x b q k. search (rules, tests)))
-    (λ x b q k. search (rules, tests)) in
-    all ∙ ap (list_all (includes c.args.names.now)) (sym
-    (factors_of_other c.args.term.now (sym c.is_word.ensures ∙ c.if-is_word.false)))
+    c.split.ensures.closure (λ x b q k. search (rules, tests))) (λ x b q k. search (rules, tests)) in
+    all ∙ ap (list_all (includes c.args.names.now)) (sym (factors_of_other c.args.term.now (sym c.is_word.ensures ∙ c.if-is_word.false)))

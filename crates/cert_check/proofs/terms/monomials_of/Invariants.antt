@@ -1,7 +1,11 @@
-use Rattle.std.proofs.Common.{length}
 use Rattle.cert_check.specs.Reading.{words}
+use Rattle.cert_check.specs.Parts.{parts_left}
+use Rattle.cert_check.proofs.Cuts.{left_length}
 use Rattle.cert_check.proofs.ReadTerms.{ReadsTerms}
 use Rattle.cert_check.proofs.terms.monomials_of.Given as goal
 
-abbrev pub invariant-loop-word : goal.invariant-loop-word
-invariant-loop-word l = ReadsTerms l.names (words l.fn.right) (length l.yielded) l.limit l.monos
+abbrev pub invariant-loop-rest : goal.invariant-loop-rest
+invariant-loop-rest l = ReadsTerms l.names (words l.fn.right) (parts_left 32 l.rest) l.limit l.monos
+
+abbrev pub decreases-loop-rest : goal.decreases-loop-rest
+decreases-loop-rest l = left_length l.rest

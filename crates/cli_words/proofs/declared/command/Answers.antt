@@ -13,5 +13,6 @@ returns c =
     let app_3 = c.in_ok-arg-3.ensures.shape c.nodes.ensures.local ∙ ap₂ with_rule app_2 c.nodes.ensures.rule in
     let app_4 = c.in_ok-arg-4.ensures.shape c.terms.ensures.local ∙ ap₂ with_rule app_3 c.terms.ensures.rule in
     record {
-      app = IfOk-weaker c.arg-5.result _ _ (λ r h. (names, c.mode.ensures.rule.1, h.shape c.seed.ensures.local ∙ ap₂ with_rule app_4 c.seed.ensures.rule)) c.arg-5.ensures;
+      app = IfOk-weaker c.arg-5.result _ _
+          (λ r h. (names, c.mode.ensures.rule.1, h.shape c.seed.ensures.local ∙ ap₂ with_rule app_4 c.seed.ensures.rule)) c.arg-5.ensures;
     }

@@ -1,5 +1,6 @@
 use Rattle.std.proofs.Common.{arith, codes}
 use Rattle.clap.specs.Words.{found_of}
+use Rattle.lattice.specs.declared.limits.TheConstants.{MIN_BITS, MAX_BITS}
 use Rattle.cli_words.proofs.Taken.{number_in}
 use Rattle.cli_words.proofs.job.job_of.Goals as goal
 
@@ -9,7 +10,11 @@ overflow_cast-result c =
 
 pub overflow_cast-result-2 : goal.overflow_cast-result-2
 overflow_cast-result-2 c =
-    omega (arith, number_in (found_of c.args.matches.now) (codes "nodes") 4 19 c.number-2.result c.requires.nodes c.number-2.ensures)
+    omega (
+      arith,
+      number_in (found_of c.args.matches.now) (codes "nodes") MIN_BITS MAX_BITS c.number-2.result c.requires.nodes
+          c.number-2.ensures,
+    )
 
 pub returns : goal.returns
 returns c =
@@ -22,6 +27,6 @@ returns c =
       seed = c.number-4.ensures;
       mode_in = c.mode_of.ensures.known;
       workers_in = number_in f (codes "workers") 1 16 c.number.result c.requires.workers c.number.ensures;
-      nodes_in = number_in f (codes "nodes") 4 19 c.number-2.result c.requires.nodes c.number-2.ensures;
+      nodes_in = number_in f (codes "nodes") MIN_BITS MAX_BITS c.number-2.result c.requires.nodes c.number-2.ensures;
       terms_in = number_in f (codes "terms") 1 1000000 c.number-3.result c.requires.terms c.number-3.ensures;
     }

@@ -17,7 +17,8 @@ returns-in-Ok-clause-taken c =
 pub returns-in-Ok-clause-job : goal.returns-in-Ok-clause-job
 returns-in-Ok-clause-job c =
     let app = c.in_ok-command.ensures.app in
-    let taken = is_taken app.0 _ c.args.words.now _ c.in-Ok.matches app.1 app.2 c.all.ensures.words c.in-Ok.ensures.kinds c.in-Ok.ensures.matches in
+    let taken = is_taken app.0 _ c.args.words.now _ c.in-Ok.matches app.1 app.2 c.all.ensures.words c.in-Ok.ensures.kinds
+    c.in-Ok.ensures.matches in
     subst (λ rows. IsJob rows c.job_of.result) taken.1 c.job_of.ensures
 
 pub returns : goal.returns

@@ -1,29 +1,40 @@
-use Rattle.std.proofs.Common.{[], ◌∷◌, Ok, refl}
-use Rattle.lattice.specs.Family.{power, minus_of, first_only}
-use Rattle.node_store.specs.Stores.{family}
-use Rattle.node_store.proofs.StoreLemmas.{Grows-denotes}
-use Rattle.cube_build.proofs.WorkingLemmas.{set_head, set_tail}
-use Rattle.cube_build.proofs.BuiltSets.{built_start, built_after, then_builds, plan_combined, then_combined}
+use Rattle.std.proofs.Common.{◌≡◌, [], ◌∷◌, Ok, refl, subst}
+use Rattle.lattice.specs.Family.{power, minus_of}
+use Rattle.lattice.proofs.Diagrams.{covers_head, covers_tail}
+use Rattle.node_store.specs.Stores.{family, Builds}
+use Rattle.node_store.proofs.StoreLaws.{builds_gives, found_gives, found_one, Denotes-family, Grows-family}
 use Rattle.cube_build.proofs.care.outside.Goals as goal
 
 pub power-requires : goal.power-requires
 power-requires g c =
     let s = g.S.Store.state c.args.store.now in
-    record { planned = set_head s.vars s.plan (power s.vars) (minus_of s.vars (power s.vars) (family s c.args.a) ∷ []) c.requires.planned }
+    record { planned = covers_head s.vars s.plan _ (power s.vars) c.requires.planned }
 
 pub minus-requires-clause-planned : goal.minus-requires-clause-planned
 minus-requires-clause-planned g c =
     let s = g.S.Store.state c.args.store.now in
     let t = g.S.Store.state c.power.new.store in
     let rest = minus_of s.vars (power s.vars) (family s c.args.a) in
-    let before = built_after s t c.in_ok-all.all (power s.vars) (power s.vars ∷ []) (then_builds s s [] (built_start s) t (Ok c.in_ok-all.all) (power s.vars) (power s.vars) c.in_ok-all.ensures refl) in
-    plan_combined s t (power s.vars ∷ []) before first_only c.in_ok-all.all c.args.a (power s.vars) (family s c.args.a) c.in_ok-all.ensures.ok (Grows-denotes s t c.args.a c.in_ok-all.ensures.grows c.requires.known)
-    (set_head s.vars s.plan rest [] (set_tail s.vars s.plan (power s.vars) (rest ∷ []) c.requires.planned))
+    let is = c.in_ok-all.ensures in
+    rw (
+      is.grows.plan,
+      is.grows.vars,
+      Denotes-family t c.in_ok-all.all (power s.vars) is.ok,
+      Grows-family s t c.args.a is.grows
+          c.requires.known,
+    )
+    (covers_head s.vars s.plan [] rest (covers_tail s.vars s.plan (rest ∷ []) (power s.vars) c.requires.planned))
 
 pub returns : goal.returns
 returns g c =
     let s = g.S.Store.state c.args.store.now in
     let t = g.S.Store.state c.power.new.store in
-    let before = built_after s t c.in_ok-all.all (power s.vars) (power s.vars ∷ []) (then_builds s s [] (built_start s) t (Ok c.in_ok-all.all) (power s.vars) (power s.vars) c.in_ok-all.ensures refl) in
-    then_combined s t (power s.vars ∷ []) before first_only c.in_ok-all.all c.args.a (power s.vars) (family s c.args.a) c.in_ok-all.ensures.ok (Grows-denotes s t c.args.a c.in_ok-all.ensures.grows c.requires.known)
-    (g.S.Store.state c.minus.new.store) c.minus.result c.minus.ensures
+    let u = g.S.Store.state c.minus.new.store in
+    let rest = minus_of s.vars (power s.vars) (family s c.args.a) in
+    let is = c.in_ok-all.ensures in
+    let all = builds_gives s t (Ok c.in_ok-all.all) (power s.vars) is in
+    let same : minus_of t.vars (family t c.in_ok-all.all) (family t c.args.a) ≡ rest =
+    rw (is.grows.vars, Denotes-family t c.in_ok-all.all (power s.vars) is.ok, Grows-family s t c.args.a is.grows c.requires.known) refl in
+    found_gives s t u c.minus.result rest (power s.vars ∷ []) (rest ∷ [])
+    (found_one s t c.in_ok-all.all (power s.vars) (power s.vars ∷ []) all)
+    (builds_gives t u c.minus.result rest (subst (Builds t u c.minus.result) same c.minus.ensures))

@@ -1,88 +1,93 @@
-use Rattle.cube_build.proofs.FdSets.{planned_on, failed_on, rows_dc, planned_dc, failed_dc, planned_ones, failed_ones, planned_listed, failed_listed, planned_zeros, failed_zeros, given}
+use Rattle.std.proofs.Common.{Some, ap, ◌∙◌, sym, subst}
+use Rattle.std.specs.List.{All}
+use Rattle.lattice.specs.declared.kind.Kind.TheVariants.{Fd}
+use Rattle.node_store.proofs.StoreLaws.{Reads-refl, reads_one, then_call}
+use Rattle.cube_build.specs.PointSets.{IsRowOver}
+use Rattle.cube_build.proofs.CallsUnderway.{cover_planned, cover_next, cover_is, combined_planned, combined_next}
+use Rattle.cube_build.proofs.CallsUnderway.{combined_is, outside_planned, outside_next, outside_is}
+use Rattle.cube_build.proofs.CareLemmas.{ones_fd, zeros_fd, calls_begin, calls_end, calls_fail}
 use Rattle.cube_build.proofs.care.sets_of_fd.Goals as goal
 
 pub cover-requires-clause-planned : goal.cover-requires-clause-planned
 cover-requires-clause-planned g c =
-    let s = g.S.Store.state c.args.store.now in
-    planned_on s c.args.rows.now c.args.output c.requires.planned
+    cover_planned _ _ (calls_begin {s = g.S.Store.state c.args.store.now} Fd c.args.rows.now c.args.output c.requires.planned)
 
 pub returns-in_err-on : goal.returns-in_err-on
 returns-in_err-on g c =
-    let s = g.S.Store.state c.args.store.now in
-    failed_on s c.args.rows.now c.args.output c.requires.planned (g.S.Store.state c.cover.new.store) c.from_residual.result c.in_err-on.field-0.0 c.from_residual.ensures.0 c.in_err-on.ensures
+    calls_fail c.from_residual.ensures.0 (Reads-refl (g.S.Store.state c.args.store.now)) c.in_err-on.ensures
 
 pub cover-requires-2-clause-rows : goal.cover-requires-2-clause-rows
 cover-requires-2-clause-rows g c =
-    let s = g.S.Store.state c.args.store.now in
-    let t1 = g.S.Store.state c.cover.new.store in
-    rows_dc s c.args.rows.now c.args.output c.requires.planned t1 c.in_ok-on.on c.in_ok-on.ensures c.requires.rows
+    subst (λ v. All (IsRowOver v) c.args.rows.now) (sym c.in_ok-on.ensures.grows.vars) c.requires.rows
 
 pub cover-requires-2-clause-planned : goal.cover-requires-2-clause-planned
 cover-requires-2-clause-planned g c =
-    let s = g.S.Store.state c.args.store.now in
-    let t1 = g.S.Store.state c.cover.new.store in
-    planned_dc s c.args.rows.now c.args.output c.requires.planned t1 c.in_ok-on.on c.in_ok-on.ensures
+    cover_planned _ _ (cover_next _ _ (calls_begin Fd c.args.rows.now c.args.output c.requires.planned) c.in_ok-on.ensures)
 
 pub returns-in_err-dc : goal.returns-in_err-dc
 returns-in_err-dc g c =
-    let s = g.S.Store.state c.args.store.now in
-    let t1 = g.S.Store.state c.cover.new.store in
-    failed_dc s c.args.rows.now c.args.output c.requires.planned t1 c.in_ok-on.on c.in_ok-on.ensures (g.S.Store.state c.cover-2.new.store) c.from_residual-in_err-dc.result c.in_err-dc.field-0.0 c.from_residual-in_err-dc.ensures.0 c.in_err-dc.ensures
+    calls_fail c.from_residual-in_err-dc.ensures.0 (reads_one c.in_ok-on.ensures) c.in_err-dc.ensures
 
 pub minus-requires-clause-planned : goal.minus-requires-clause-planned
 minus-requires-clause-planned g c =
-    let s = g.S.Store.state c.args.store.now in
-    let t1 = g.S.Store.state c.cover.new.store in
-    let t2 = g.S.Store.state c.cover-2.new.store in
-    planned_ones s c.args.rows.now c.args.output c.requires.planned t1 c.in_ok-on.on c.in_ok-on.ensures t2 c.in_ok-dc.dc c.in_ok-dc.ensures
+    let one = cover_next _ _ (calls_begin Fd c.args.rows.now c.args.output c.requires.planned) c.in_ok-on.ensures in
+    let two = cover_next _ _ one c.in_ok-dc.ensures in
+    let on_is = c.in_ok-dc.ensures.grows.known _ _ c.in_ok-on.ensures.ok in
+    combined_planned _ _ _ _ c.in_ok-on.on c.in_ok-dc.dc two on_is (cover_is _ _ one c.in_ok-dc.ensures)
 
 pub returns-in_err-ones : goal.returns-in_err-ones
 returns-in_err-ones g c =
-    let s = g.S.Store.state c.args.store.now in
-    let t1 = g.S.Store.state c.cover.new.store in
-    let t2 = g.S.Store.state c.cover-2.new.store in
-    failed_ones s c.args.rows.now c.args.output c.requires.planned t1 c.in_ok-on.on c.in_ok-on.ensures t2 c.in_ok-dc.dc c.in_ok-dc.ensures (g.S.Store.state c.minus.new.store) c.from_residual-in_err-ones.result c.in_err-ones.field-0.0 c.from_residual-in_err-ones.ensures.0 c.in_err-ones.ensures
+    calls_fail c.from_residual-in_err-ones.ensures.0 (then_call (reads_one c.in_ok-on.ensures) c.in_ok-dc.ensures) c.in_err-ones.ensures
 
 pub union-requires-clause-planned : goal.union-requires-clause-planned
 union-requires-clause-planned g c =
-    let s = g.S.Store.state c.args.store.now in
-    let t1 = g.S.Store.state c.cover.new.store in
-    let t2 = g.S.Store.state c.cover-2.new.store in
-    let t3 = g.S.Store.state c.minus.new.store in
-    planned_listed s c.args.rows.now c.args.output c.requires.planned t1 c.in_ok-on.on c.in_ok-on.ensures t2 c.in_ok-dc.dc c.in_ok-dc.ensures t3 c.in_ok-ones.ones c.in_ok-ones.ensures
+    let one = cover_next _ _ (calls_begin Fd c.args.rows.now c.args.output c.requires.planned) c.in_ok-on.ensures in
+    let two = cover_next _ _ one c.in_ok-dc.ensures in
+    let on_is = c.in_ok-dc.ensures.grows.known _ _ c.in_ok-on.ensures.ok in
+    let dc_is = cover_is _ _ one c.in_ok-dc.ensures in
+    let three = combined_next _ _ _ _ c.in_ok-on.on c.in_ok-dc.dc two on_is dc_is c.in_ok-ones.ensures in
+    let on_then = c.in_ok-ones.ensures.grows.known _ _ on_is in
+    combined_planned _ _ _ _ c.in_ok-on.on c.in_ok-dc.dc three on_then (c.in_ok-ones.ensures.grows.known _ _ dc_is)
 
 pub returns-in_err-listed : goal.returns-in_err-listed
 returns-in_err-listed g c =
-    let s = g.S.Store.state c.args.store.now in
-    let t1 = g.S.Store.state c.cover.new.store in
-    let t2 = g.S.Store.state c.cover-2.new.store in
-    let t3 = g.S.Store.state c.minus.new.store in
-    failed_listed s c.args.rows.now c.args.output c.requires.planned t1 c.in_ok-on.on c.in_ok-on.ensures t2 c.in_ok-dc.dc c.in_ok-dc.ensures t3 c.in_ok-ones.ones c.in_ok-ones.ensures (g.S.Store.state c.union.new.store) c.from_residual-in_err-listed.result c.in_err-listed.field-0.0 c.from_residual-in_err-listed.ensures.0 c.in_err-listed.ensures
+    calls_fail c.from_residual-in_err-listed.ensures.0
+    (then_call (then_call (reads_one c.in_ok-on.ensures) c.in_ok-dc.ensures) c.in_ok-ones.ensures) c.in_err-listed.ensures
 
 pub outside-requires-clause-planned : goal.outside-requires-clause-planned
 outside-requires-clause-planned g c =
-    let s = g.S.Store.state c.args.store.now in
-    let t1 = g.S.Store.state c.cover.new.store in
-    let t2 = g.S.Store.state c.cover-2.new.store in
-    let t3 = g.S.Store.state c.minus.new.store in
-    let t4 = g.S.Store.state c.union.new.store in
-    planned_zeros s c.args.rows.now c.args.output c.requires.planned t1 c.in_ok-on.on c.in_ok-on.ensures t2 c.in_ok-dc.dc c.in_ok-dc.ensures t3 c.in_ok-ones.ones c.in_ok-ones.ensures t4 c.in_ok-listed.listed c.in_ok-listed.ensures
+    let one = cover_next _ _ (calls_begin Fd c.args.rows.now c.args.output c.requires.planned) c.in_ok-on.ensures in
+    let two = cover_next _ _ one c.in_ok-dc.ensures in
+    let on_is = c.in_ok-dc.ensures.grows.known _ _ c.in_ok-on.ensures.ok in
+    let dc_is = cover_is _ _ one c.in_ok-dc.ensures in
+    let three = combined_next _ _ _ _ c.in_ok-on.on c.in_ok-dc.dc two on_is dc_is c.in_ok-ones.ensures in
+    let on_then = c.in_ok-ones.ensures.grows.known _ _ on_is in
+    let dc_then = c.in_ok-ones.ensures.grows.known _ _ dc_is in
+    let four = combined_next _ _ _ _ c.in_ok-on.on c.in_ok-dc.dc three on_then dc_then c.in_ok-listed.ensures in
+    let listed_is = combined_is _ _ _ _ c.in_ok-on.on c.in_ok-dc.dc three on_then dc_then c.in_ok-listed.ensures in
+    outside_planned _ c.in_ok-listed.listed four listed_is
 
 pub returns-in_err-zeros : goal.returns-in_err-zeros
 returns-in_err-zeros g c =
-    let s = g.S.Store.state c.args.store.now in
-    let t1 = g.S.Store.state c.cover.new.store in
-    let t2 = g.S.Store.state c.cover-2.new.store in
-    let t3 = g.S.Store.state c.minus.new.store in
-    let t4 = g.S.Store.state c.union.new.store in
-    failed_zeros s c.args.rows.now c.args.output c.requires.planned t1 c.in_ok-on.on c.in_ok-on.ensures t2 c.in_ok-dc.dc c.in_ok-dc.ensures t3 c.in_ok-ones.ones c.in_ok-ones.ensures t4 c.in_ok-listed.listed c.in_ok-listed.ensures (g.S.Store.state c.outside.new.store) c.from_residual-in_err-zeros.result c.in_err-zeros.field-0.0 c.from_residual-in_err-zeros.ensures.0 c.in_err-zeros.ensures
+    calls_fail c.from_residual-in_err-zeros.ensures.0
+    (then_call (then_call (then_call (reads_one c.in_ok-on.ensures) c.in_ok-dc.ensures) c.in_ok-ones.ensures)
+    c.in_ok-listed.ensures) c.in_err-zeros.ensures
 
 pub returns : goal.returns
 returns g c =
     let s = g.S.Store.state c.args.store.now in
-    let t1 = g.S.Store.state c.cover.new.store in
-    let t2 = g.S.Store.state c.cover-2.new.store in
-    let t3 = g.S.Store.state c.minus.new.store in
-    let t4 = g.S.Store.state c.union.new.store in
-    let t5 = g.S.Store.state c.outside.new.store in
-    given s c.args.rows.now c.args.output c.requires.planned t1 c.in_ok-on.on c.in_ok-on.ensures t2 c.in_ok-dc.dc c.in_ok-dc.ensures t3 c.in_ok-ones.ones c.in_ok-ones.ensures t4 c.in_ok-listed.listed c.in_ok-listed.ensures t5 c.in_ok-zeros.zeros c.in_ok-zeros.ensures
+    let one = cover_next _ _ (calls_begin Fd c.args.rows.now c.args.output c.requires.planned) c.in_ok-on.ensures in
+    let two = cover_next _ _ one c.in_ok-dc.ensures in
+    let on_is = c.in_ok-dc.ensures.grows.known _ _ c.in_ok-on.ensures.ok in
+    let dc_is = cover_is _ _ one c.in_ok-dc.ensures in
+    let three = combined_next _ _ _ _ c.in_ok-on.on c.in_ok-dc.dc two on_is dc_is c.in_ok-ones.ensures in
+    let on_then = c.in_ok-ones.ensures.grows.known _ _ on_is in
+    let dc_then = c.in_ok-ones.ensures.grows.known _ _ dc_is in
+    let four = combined_next _ _ _ _ c.in_ok-on.on c.in_ok-dc.dc three on_then dc_then c.in_ok-listed.ensures in
+    let listed_is = combined_is _ _ _ _ c.in_ok-on.on c.in_ok-dc.dc three on_then dc_then c.in_ok-listed.ensures in
+    let ones_is = combined_is _ _ _ _ c.in_ok-on.on c.in_ok-dc.dc two on_is dc_is c.in_ok-ones.ensures in
+    calls_end s _ c.in_ok-zeros.zeros c.in_ok-ones.ones Fd c.args.rows.now c.args.output
+    (outside_next _ c.in_ok-listed.listed four listed_is c.in_ok-zeros.ensures)
+    (outside_is _ c.in_ok-listed.listed four listed_is c.in_ok-zeros.ensures ∙ ap Some (zeros_fd s.vars c.args.rows.now c.args.output))
+    (c.in_ok-zeros.ensures.grows.known _ _ (c.in_ok-listed.ensures.grows.known _ _ ones_is)
+    ∙ ap Some (ones_fd s.vars c.args.rows.now c.args.output))

@@ -1,37 +1,36 @@
-use Rattle.cube_build.proofs.FrSets.{planned_ones, failed_ones, rows_zeros, planned_zeros, failed_zeros, given}
+use Rattle.std.proofs.Common.{Some, ap, ◌∙◌, sym, subst}
+use Rattle.std.specs.List.{All}
+use Rattle.lattice.specs.declared.kind.Kind.TheVariants.{Fr}
+use Rattle.node_store.proofs.StoreLaws.{Reads-refl, reads_one}
+use Rattle.cube_build.specs.PointSets.{IsRowOver}
+use Rattle.cube_build.proofs.CallsUnderway.{cover_planned, cover_next, cover_is}
+use Rattle.cube_build.proofs.CareLemmas.{ones_fr, zeros_fr, calls_begin, calls_end, calls_fail}
 use Rattle.cube_build.proofs.care.sets_of_fr.Goals as goal
 
 pub cover-requires-clause-planned : goal.cover-requires-clause-planned
 cover-requires-clause-planned g c =
-    let s = g.S.Store.state c.args.store.now in
-    planned_ones s c.args.rows.now c.args.output c.requires.planned
+    cover_planned _ _ (calls_begin {s = g.S.Store.state c.args.store.now} Fr c.args.rows.now c.args.output c.requires.planned)
 
 pub returns-in_err-ones : goal.returns-in_err-ones
 returns-in_err-ones g c =
-    let s = g.S.Store.state c.args.store.now in
-    failed_ones s c.args.rows.now c.args.output c.requires.planned (g.S.Store.state c.cover.new.store) c.from_residual.result c.in_err-ones.field-0.0 c.from_residual.ensures.0 c.in_err-ones.ensures
+    calls_fail c.from_residual.ensures.0 (Reads-refl (g.S.Store.state c.args.store.now)) c.in_err-ones.ensures
 
 pub cover-requires-2-clause-rows : goal.cover-requires-2-clause-rows
 cover-requires-2-clause-rows g c =
-    let s = g.S.Store.state c.args.store.now in
-    let t1 = g.S.Store.state c.cover.new.store in
-    rows_zeros s c.args.rows.now c.args.output c.requires.planned t1 c.in_ok-ones.ones c.in_ok-ones.ensures c.requires.rows
+    subst (λ v. All (IsRowOver v) c.args.rows.now) (sym c.in_ok-ones.ensures.grows.vars) c.requires.rows
 
 pub cover-requires-2-clause-planned : goal.cover-requires-2-clause-planned
 cover-requires-2-clause-planned g c =
-    let s = g.S.Store.state c.args.store.now in
-    let t1 = g.S.Store.state c.cover.new.store in
-    planned_zeros s c.args.rows.now c.args.output c.requires.planned t1 c.in_ok-ones.ones c.in_ok-ones.ensures
+    cover_planned _ _ (cover_next _ _ (calls_begin Fr c.args.rows.now c.args.output c.requires.planned) c.in_ok-ones.ensures)
 
 pub returns-in_err-zeros : goal.returns-in_err-zeros
 returns-in_err-zeros g c =
-    let s = g.S.Store.state c.args.store.now in
-    let t1 = g.S.Store.state c.cover.new.store in
-    failed_zeros s c.args.rows.now c.args.output c.requires.planned t1 c.in_ok-ones.ones c.in_ok-ones.ensures (g.S.Store.state c.cover-2.new.store) c.from_residual-in_err-zeros.result c.in_err-zeros.field-0.0 c.from_residual-in_err-zeros.ensures.0 c.in_err-zeros.ensures
+    calls_fail c.from_residual-in_err-zeros.ensures.0 (reads_one c.in_ok-ones.ensures) c.in_err-zeros.ensures
 
 pub returns : goal.returns
 returns g c =
     let s = g.S.Store.state c.args.store.now in
-    let t1 = g.S.Store.state c.cover.new.store in
-    let t2 = g.S.Store.state c.cover-2.new.store in
-    given s c.args.rows.now c.args.output c.requires.planned t1 c.in_ok-ones.ones c.in_ok-ones.ensures t2 c.in_ok-zeros.zeros c.in_ok-zeros.ensures
+    let one = cover_next _ _ (calls_begin Fr c.args.rows.now c.args.output c.requires.planned) c.in_ok-ones.ensures in
+    calls_end s _ c.in_ok-zeros.zeros c.in_ok-ones.ones Fr c.args.rows.now c.args.output (cover_next _ _ one c.in_ok-zeros.ensures)
+    (cover_is _ _ one c.in_ok-zeros.ensures ∙ ap Some (zeros_fr s.vars c.args.rows.now c.args.output))
+    (c.in_ok-zeros.ensures.grows.known _ _ c.in_ok-ones.ensures.ok ∙ ap Some (ones_fr s.vars c.args.rows.now c.args.output))

@@ -25,7 +25,9 @@ pub returns-then-row-weight-eq0-2-clause-high : goal.returns-then-row-weight-eq0
 returns-then-row-weight-eq0-2-clause-high c s ok is =
     let r = c.args.row.now in
     let k = c.args.behind in
-    ok.empty ∙ ap Some (sym (high_none k r (bit_present k r.care c.requires.behind c.if-row-weight-eq0.false) (bit_absent k r.value c.requires.behind c.if-row-weight-eq0-2.true)))
+    ok.empty ∙ ap Some (sym
+    (high_none k r (bit_present k r.care c.requires.behind c.if-row-weight-eq0.false)
+    (bit_absent k r.value c.requires.behind c.if-row-weight-eq0-2.true)))
 
 pub returns-else-row-weight-eq0-2-clause-low : goal.returns-else-row-weight-eq0-2-clause-low
 returns-else-row-weight-eq0-2-clause-low c s ok is =
@@ -37,4 +39,5 @@ pub returns-else-row-weight-eq0-2-clause-high : goal.returns-else-row-weight-eq0
 returns-else-row-weight-eq0-2-clause-high c s ok is =
     let r = c.args.row.now in
     let k = c.args.behind in
-    is ∙ ap Some (sym (high_rest k r (bit_present k r.care c.requires.behind c.if-row-weight-eq0.false ∙ sym (bit_present k r.value c.requires.behind c.if-row-weight-eq0-2.false))))
+    is ∙ ap Some (sym (high_rest k r (bit_present k r.care c.requires.behind c.if-row-weight-eq0.false
+    ∙ sym (bit_present k r.value c.requires.behind c.if-row-weight-eq0-2.false))))

@@ -3,25 +3,27 @@ use Rattle.std.specs.Int.{w64, trailing_zeros}
 use Rattle.std.proofs.lemmas.Bool.{true≢false}
 use Rattle.std.specs.Int.Bits.{and_lt}
 use Rattle.std.proofs.lemmas.Nat.Bits.{bit_at-trailing_zeros}
-use Rattle.cube_sets.proofs.Pairs.{none_without_output, none_without_point, none_up_to, least_of_pair}
+use Rattle.cube_sets.proofs.Pairs.{none_without_output, none_up_to, least_of_pair}
 use Rattle.cube_sets.proofs.clash.clash_of.Goals as goal
-use Rattle.cube_sets.proofs.clash.clash_of.Goals.{then-both-eq0-via-then-both-eq0, then-both-eq0-via-else-both-eq0+then-not-meets}
+
+pub returns-then-not-meets : goal.returns-then-not-meets
+returns-then-not-meets c n a_below b_below d clash =
+    true≢false (sym ((c.meets.ensures n a_below b_below).1 clash.1.shared) ∙ c.if-not-meets.true)
 
 pub returns-then-both-eq0 : goal.returns-then-both-eq0
-returns-then-both-eq0 c n a_below b_below d clash =
-    elim c.then-both-eq0.branch [
-      | then-both-eq0-via-then-both-eq0 w ↦ none_without_output n c.args.outputs c.args.a.now c.args.b.now w.if-both-eq0.true d clash
-      | then-both-eq0-via-else-both-eq0+then-not-meets w ↦ none_without_point n c.args.outputs c.args.a.now c.args.b.now (λ shared. true≢false (sym ((w.meets.ensures n a_below b_below).1 shared) ∙ w.if-not-meets.true)) d clash
-    ]
+returns-then-both-eq0 c n a_below b_below d clash = none_without_output n c.args.a.now c.args.b.now c.if-both-eq0.true d clash.1
 
 pub returns-then-output-outputs : goal.returns-then-output-outputs
 returns-then-output-outputs c n a_below b_below d clash =
-    let small : bit_and c.args.a.now.on c.args.b.now.off < 2 ^ 64 = and_lt 64 c.args.a.now.on c.args.b.now.off (omega arith) (omega arith) in
-    let lowest = bit_at-trailing_zeros w64 (bit_and c.args.a.now.on c.args.b.now.off) (omega arith) small in
-    none_up_to n c.args.outputs (trailing_zeros w64 (bit_and c.args.a.now.on c.args.b.now.off)) c.args.a.now c.args.b.now lowest.2 c.if-output-outputs.true d clash
+    let both = bit_and c.args.a.now.on c.args.b.now.off in
+    let small : both < 2 ^ 64 = and_lt 64 c.args.a.now.on c.args.b.now.off (omega arith) (omega arith) in
+    none_up_to n c.args.a.now c.args.b.now (trailing_zeros w64 both) (bit_at-trailing_zeros w64 both (omega arith) small).2 c.args.outputs
+    c.if-output-outputs.true d clash.0 clash.1
 
 pub returns : goal.returns
 returns c n a_below b_below =
-    let small : bit_and c.args.a.now.on c.args.b.now.off < 2 ^ 64 = and_lt 64 c.args.a.now.on c.args.b.now.off (omega arith) (omega arith) in
-    let lowest = bit_at-trailing_zeros w64 (bit_and c.args.a.now.on c.args.b.now.off) (omega arith) small in
-    least_of_pair n c.args.outputs (trailing_zeros w64 (bit_and c.args.a.now.on c.args.b.now.off)) c.args.a.now c.args.b.now lowest.1 lowest.2 c.if-output-outputs.false ((c.meets.ensures n a_below b_below).0 c.if-not-meets.false)
+    let both = bit_and c.args.a.now.on c.args.b.now.off in
+    let small : both < 2 ^ 64 = and_lt 64 c.args.a.now.on c.args.b.now.off (omega arith) (omega arith) in
+    let lowest = bit_at-trailing_zeros w64 both (omega arith) small in
+    least_of_pair n c.args.a.now c.args.b.now (trailing_zeros w64 both) lowest.2 c.args.outputs lowest.1 c.if-output-outputs.false
+    ((c.meets.ensures n a_below b_below).0 c.if-not-meets.false)

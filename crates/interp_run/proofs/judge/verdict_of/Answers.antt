@@ -1,27 +1,34 @@
-use Rattle.std.proofs.Common.{arith, refl}
-use Rattle.interp_run.proofs.Verdicts.{after_is, answer_refused, conflict_ends, has_answer}
+use Rattle.std.proofs.Common.{◌∙◌, ap, drop, length, length-drop, arith, refl}
+use Rattle.interp_run.specs.Parts.{no_memory}
+use Rattle.interp_run.proofs.Endings.{clash_ends, refused_ends, verdict_due, wide_ends}
 use Rattle.interp_run.proofs.judge.verdict_of.Goals as goal
+
+pub returns-then-pla-gt-MOST_INPUTS-clause-err : goal.returns-then-pla-gt-MOST_INPUTS-clause-err
+returns-then-pla-gt-MOST_INPUTS-clause-err c = λ job checks. wide_ends job c.args.bytes.now c.in_ok-pla.pla (c.in_ok-pla.ensures.ok job)
+    checks _ refl (omega arith)
+
+pub read_answer-requires : goal.read_answer-requires
+read_answer-requires c = omega (arith, c.in_ok-pla.ensures.few, ap length c.behind.ensures, length-drop c.in_ok-pla.taken c.args.bytes.now)
 
 pub returns-in-Err-clause-err : goal.returns-in-Err-clause-err
 returns-in-Err-clause-err c = λ job checks.
+    let text = c.behind.ensures ∙ ap (λ n. drop n c.args.bytes.now) c.in_ok-pla.ensures.taken in
     rw (c.refused.ensures)
-    (answer_refused job c.args.bytes.now c.in_ok-pla.pla c.behind.result.now c.in-Err.refusal checks c.in_ok-pla.ensures.ok (omega (arith, c.if-pla-gt-MOST_INPUTS.false))
-    (after_is c.args.bytes.now c.in_ok-pla.taken c.behind.result.now c.in_ok-pla.ensures.taken c.behind.ensures) c.in-Err.ensures.reading)
+    (refused_ends job c.args.bytes.now c.in_ok-pla.pla (c.in_ok-pla.ensures.ok job) checks c.behind.result.now text c.in-Err.refusal
+    (omega (arith, c.if-pla-gt-MOST_INPUTS.false)) c.in-Err.ensures.reading)
 
 pub returns-in-Some-clause-err : goal.returns-in-Some-clause-err
 returns-in-Some-clause-err c = λ job checks.
-    conflict_ends job c.args.bytes.now c.in_ok-pla.pla c.in-Ok.answer c.in-Some.outcome checks
-    (has_answer c.args.bytes.now c.in_ok-pla.pla c.behind.result.now c.in-Ok.answer c.in_ok-pla.ensures.ok (omega (arith, c.if-pla-gt-MOST_INPUTS.false))
-    (after_is c.args.bytes.now c.in_ok-pla.taken c.behind.result.now c.in_ok-pla.ensures.taken c.behind.ensures) c.in-Ok.ensures.reading)
-    c.in-Some.ensures.some
+    let text = c.behind.ensures ∙ ap (λ n. drop n c.args.bytes.now) c.in_ok-pla.ensures.taken in
+    clash_ends job c.args.bytes.now c.in_ok-pla.pla (c.in_ok-pla.ensures.ok job) checks c.behind.result.now text c.in-Ok.answer
+    (omega (arith, c.if-pla-gt-MOST_INPUTS.false)) c.in-Ok.ensures.reading c.in-Some.ensures.some
 
 pub returns-in-Ok-check-clause-ok : goal.returns-in-Ok-check-clause-ok
-returns-in-Ok-check-clause-ok c = record {
-  pla = c.in_ok-pla.pla;
-  answer = c.in-Ok.answer;
-  has = has_answer c.args.bytes.now c.in_ok-pla.pla c.behind.result.now c.in-Ok.answer c.in_ok-pla.ensures.ok (omega (arith, c.if-pla-gt-MOST_INPUTS.false))
-      (after_is c.args.bytes.now c.in_ok-pla.taken c.behind.result.now c.in_ok-pla.ensures.taken c.behind.ensures) c.in-Ok.ensures.reading;
-  consistent = c.in_default.ensures.consistent refl;
-  first = c.in-Ok-check.ensures.first;
-  right = c.in-Ok-check.ensures.right;
-}
+returns-in-Ok-check-clause-ok c = λ job checks.
+    let text = c.behind.ensures ∙ ap (λ n. drop n c.args.bytes.now) c.in_ok-pla.ensures.taken in
+    verdict_due job c.args.bytes.now c.in_ok-pla.pla (c.in_ok-pla.ensures.ok job) checks c.behind.result.now text c.in-Ok.answer
+    (omega (arith, c.if-pla-gt-MOST_INPUTS.false)) c.in-Ok.ensures.reading
+    c.in-Ok-check.verdict (c.in_default.ensures.consistent refl) c.in-Ok-check.ensures.first
+
+pub returns-clause-err : goal.returns-clause-err
+returns-clause-err c = λ job checks. no_memory

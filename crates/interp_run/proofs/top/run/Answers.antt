@@ -1,22 +1,43 @@
-use Rattle.std.proofs.Common.{inl, inr, ⊎_elim, ◌∙◌, ap}
-use Rattle.interp_run.specs.Run.{status_of}
-use Rattle.interp_run.proofs.Outcomes.{gains_whole, unwritten_status}
-use Rattle.interp_run.proofs.Verdicts.{answered_or_memory}
+use Rattle.std.proofs.Common.{◌∙◌, subst, sym, inl, inr, ⊎_elim}
+use Rattle.interp_run.specs.Due.{IsDue}
+use Rattle.interp_run.proofs.Endings.{nobody_in_check, nobody_told, nothing_gained, others_taken, usage_refused, written_or_memory}
 use Rattle.interp_run.proofs.top.run.Goals as goal
 
-pub returns-clause-due : goal.returns-clause-due
-returns-clause-due g c = λ bytes told.
-    let e = c.outcome_of-outcome.ensures in
-    (c.outcome_of-outcome.result, c.report.ensures.status, e.due bytes told, λ job pages notes asked answer. e.text job bytes pages notes asked told answer, c.report.ensures.line)
-
 pub returns-clause-headline : goal.returns-clause-headline
-returns-clause-headline g c = λ job bytes outcome pages notes asked told text due answer calm quiet.
+returns-clause-headline g c = λ job bytes due asked told text is calm quiet.
     let e = c.outcome_of-outcome.ensures in
-    ⊎_elim
-    (λ is. inr (c.report.ensures.status ∙ ap status_of is, gains_whole c.outcome_of-outcome.result outcome (g.K.Sink.held c.args.out.now) (g.K.Sink.held c.outcome_of-outcome.new.out) pages is text (e.text job bytes pages notes asked told answer).0))
-    (λ memory. inl (c.report.ensures.status ∙ ap status_of memory))
-    (answered_or_memory job c.args.words.now bytes outcome c.outcome_of-outcome.result asked text due (e.due bytes told) (λ fault. calm (e.read fault)) (λ fault. quiet (e.write fault)))
+    let status = c.report.ensures.status in
+    ⊎_elim (λ seven. inl (status ∙ seven)) (λ h. inr (status ∙ h.0, h.1))
+    (written_or_memory c.args.words.now e.ran.bytes _ _ _ _ job asked due (subst (λ b. IsDue job b due) (sym (e.ran.told bytes told)) is)
+    text e.ran.ended (λ fault. calm (e.read fault)) (λ fault. quiet (e.write fault)))
+
+pub returns-clause-ran : goal.returns-clause-ran
+returns-clause-ran g c = (c.outcome_of-outcome.result, c.report.ensures.status, c.outcome_of-outcome.ensures.ran, c.report.ensures.line)
+
+pub returns-clause-usage : goal.returns-clause-usage
+returns-clause-usage g c = λ two.
+    let ran = c.outcome_of-outcome.ensures.ran in
+    usage_refused c.args.words.now ran.bytes _ _ _ _ ran.ended (sym c.report.ensures.status ∙ two)
+
+pub returns-clause-taken : goal.returns-clause-taken
+returns-clause-taken g c = λ two seven.
+    let ran = c.outcome_of-outcome.ensures.ran in
+    let status = c.report.ensures.status in
+    others_taken c.args.words.now ran.bytes _ _ _ _ ran.ended (λ s. two (status ∙ s)) (λ s. seven (status ∙ s))
 
 pub returns-clause-nothing : goal.returns-clause-nothing
 returns-clause-nothing g c = λ zero one nine.
-    c.outcome_of-outcome.ensures.nothing (unwritten_status c.outcome_of-outcome.result c.report.result c.report.ensures.status zero one nine)
+    let ran = c.outcome_of-outcome.ensures.ran in
+    let status = c.report.ensures.status in
+    nothing_gained c.args.words.now ran.bytes _ _ _ _ ran.ended (λ s. zero (status ∙ s)) (λ s. one (status ∙ s)) (λ s. nine (status ∙ s))
+
+pub returns-clause-nobody : goal.returns-clause-nobody
+returns-clause-nobody g c = λ zero nine.
+    let ran = c.outcome_of-outcome.ensures.ran in
+    let status = c.report.ensures.status in
+    nobody_told c.args.words.now ran.bytes _ _ _ _ ran.ended (λ s. zero (status ∙ s)) (λ s. nine (status ∙ s))
+
+pub returns-clause-checks : goal.returns-clause-checks
+returns-clause-checks g c = λ job asked checks.
+    let ran = c.outcome_of-outcome.ensures.ran in
+    nobody_in_check c.args.words.now ran.bytes _ _ _ _ job asked ran.ended checks

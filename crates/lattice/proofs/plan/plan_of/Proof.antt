@@ -89,5 +89,6 @@ pub plan_of_spec : {M : Type 1} → stated.statement M
 unfolding tables_of
 plan_of_spec 𝓤 𝓛 𝓜 𝓡 wired P L S d met =
     let 𝓣 : Tables 𝓤 𝓛.H = tables_of 𝓤 𝓛.H 𝓜 (tables 𝓤 𝓛.H 𝓜 𝓡 𝓡.env) in
-    entered 𝓤 𝓛.H (triple_of 𝓛 (ended P S d).signature (closing 𝓛 (ended P S d) (held P S d 𝓛 𝓜.mem 𝓡.returns))) 𝓣.C 𝓣.Λ (#self (args P S d)) (function P S d)
+    entered 𝓤 𝓛.H (triple_of 𝓛 (ended P S d).signature (closing 𝓛 (ended P S d) (held P S d 𝓛 𝓜.mem 𝓡.returns))) 𝓣.C 𝓣.Λ
+    (#self (args P S d)) (function P S d)
     (code.unfolded 𝓤 𝓛.H 𝓜 𝓡 wired (P, tt) d) (meets P S d 𝓛 𝓜.mem 𝓡.returns 𝓣)

@@ -1,6 +1,6 @@
 use Rattle.std.proofs.Common.{◌≡◌, suc, ◌-◌, ap, ◌∙◌, is_some, refl, arith}
 use Rattle.lattice.specs.Family.{power, IsFamily}
-use Rattle.lattice.proofs.Subfamilies.{IsFamily-power, IsFamily-nil}
+use Rattle.lattice.proofs.Diagrams.{IsFamily-nil, IsFamily-power}
 use Rattle.node_store.specs.Stores.{State, family, Denotes, AreParts, IsSound}
 use Rattle.node_store.specs.declared.store.Handle.{Handle}
 use Rattle.node_store.proofs.StoreLemmas.{Denotes-knows, Denotes-family, zero_family}
@@ -22,11 +22,14 @@ growable s all ok vars is =
     }
 
 pub parts-halves-requires-clause-after : goal.parts-halves-requires-clause-after
-parts-halves-requires-clause-after g c = after (g.S.Store.state c.first_var-first.new.store) c.args.all (c.first_var-first.ensures.reads.grows.vars ∙ c.requires.vars) (c.first_var-first.ensures.reads.grows.known c.args.all.0 (power 2) c.requires.all)
+parts-halves-requires-clause-after g c = after (g.S.Store.state c.first_var-first.new.store) c.args.all
+    (c.first_var-first.ensures.reads.grows.vars ∙ c.requires.vars)
+    (c.first_var-first.ensures.reads.grows.known c.args.all.0 (power 2) c.requires.all)
 
 pub grow-grown-requires-clause-parts : goal.grow-grown-requires-clause-parts
 grow-grown-requires-clause-parts g c =
     let t = g.S.Store.state c.first_var-first.new.store in
     growable (g.S.Store.state c.parts-halves.new.store) c.args.all (g.met.S.Store.sound c.parts-halves.new.store)
     (c.parts-halves.ensures.reads.grows.vars ∙ (c.first_var-first.ensures.reads.grows.vars ∙ c.requires.vars))
-    (c.parts-halves.ensures.reads.grows.known c.args.all.0 (power 2) (c.first_var-first.ensures.reads.grows.known c.args.all.0 (power 2) c.requires.all))
+    (c.parts-halves.ensures.reads.grows.known c.args.all.0 (power 2)
+    (c.first_var-first.ensures.reads.grows.known c.args.all.0 (power 2) c.requires.all))

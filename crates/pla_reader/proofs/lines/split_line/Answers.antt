@@ -12,5 +12,11 @@ pub returns-else-feed-bytes-clause-first : goal.returns-else-feed-bytes-clause-f
 returns-else-feed-bytes-clause-first c =
     let bytes = c.args.bytes.now in
     let le = rw c.first_feed-feed.ensures.place at c.if-feed-bytes.false in
-    rw (c.split_at-else-feed-bytes.ensures.front, c.split_at-else-feed-bytes.ensures.back, c.first_feed-feed.ensures.place, take_all (feed_at bytes) bytes le, drop_all (feed_at bytes) bytes le)
+    rw (
+      c.split_at-else-feed-bytes.ensures.front,
+      c.split_at-else-feed-bytes.ensures.back,
+      c.first_feed-feed.ensures.place,
+      take_all (feed_at bytes) bytes le,
+      drop_all (feed_at bytes) bytes le,
+    )
     (last_line bytes c.requires le)

@@ -16,5 +16,6 @@ returns-in_default-clause-reading c =
 pub returns-clause-reading : goal.returns-clause-reading
 returns-clause-reading c =
     let lines = c.in_ok-draft.field-0 in
-    let whole = read_whole c.args.bytes.now lines.draft lines.count lines.taken c.in_ok-draft.ensures c.in-Some.inputs c.in-Some.outputs (sym c.sizes.ensures ∙ c.in-Some.is) in
+    let whole = read_whole c.args.bytes.now lines.draft lines.count lines.taken c.in_ok-draft.ensures c.in-Some.inputs c.in-Some.outputs
+    (sym c.sizes.ensures ∙ c.in-Some.is) in
     rw (c.unwrap_or.ensures, c.unwrap_or-2.ensures, c.new.ensures, c.unwrap_or-3.ensures, c.new-2.ensures) whole

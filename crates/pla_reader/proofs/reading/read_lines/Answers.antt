@@ -8,29 +8,28 @@ use Rattle.pla_reader.proofs.reading.read_lines.Goals as goal
 pub returns-in-Ok-true : goal.returns-in-Ok-true
 returns-in-Ok-true c =
     let so_far = c.loop-rest.invariant in
-    let earlier = map content so_far.front in
-    let number = number_of c.args.bytes.now c.loop-rest.rest.now c.loop-rest.draft c.loop-rest.count c.loop-rest.invariant c.split_line.result.0.now c.split_line.result.1.now c.split_line.ensures.first c.split_line.ensures.some c.split_line.ensures.all in
-    let added = rw c.content.ensures at c.in-Ok-true.ensures earlier number so_far.agrees in
-    ended c.args.bytes.now c.loop-rest.rest.now c.loop-rest.draft c.loop-rest.count c.loop-rest.invariant c.split_line.result.0.now c.split_line.result.1.now c.split_line.ensures.first c.split_line.ensures.some c.split_line.ensures.all c.add_line.new.self _ added.0 (sym c.in-Ok-true.field-0-test ∙ added.1) added.2 refl
+    let cut = c.split_line.ensures in
+    let number = number_of _ _ _ _ so_far _ _ cut.first cut.some cut.all in
+    let now = rw c.content.ensures at c.in-Ok-true.ensures (map content so_far.front) number so_far.agrees in
+    ended _ _ _ _ so_far _ _ cut.first cut.some cut.all _ _ now.0 (sym c.in-Ok-true.field-0-test ∙ now.1) now.2 refl
 
 pub loop-rest-preserved : goal.loop-rest-preserved
 loop-rest-preserved c =
     let so_far = c.loop-rest.invariant in
-    let earlier = map content so_far.front in
-    let number = number_of c.args.bytes.now c.loop-rest.rest.now c.loop-rest.draft c.loop-rest.count c.loop-rest.invariant c.split_line.result.0.now c.split_line.result.1.now c.split_line.ensures.first c.split_line.ensures.some c.split_line.ensures.all in
-    let added = rw c.content.ensures at c.in-Ok-false.ensures earlier number so_far.agrees in
-    one_more c.args.bytes.now c.loop-rest.rest.now c.loop-rest.draft c.loop-rest.count c.loop-rest.invariant c.split_line.result.0.now c.split_line.result.1.now c.split_line.ensures.first c.split_line.ensures.some c.split_line.ensures.all c.add_line.new.self added.0 (sym c.in-Ok-false.field-0-test ∙ added.1) added.2
+    let cut = c.split_line.ensures in
+    let number = number_of _ _ _ _ so_far _ _ cut.first cut.some cut.all in
+    let now = rw c.content.ensures at c.in-Ok-false.ensures (map content so_far.front) number so_far.agrees in
+    one_more _ _ _ _ so_far _ _ cut.first cut.some cut.all _ now.0 (sym c.in-Ok-false.field-0-test ∙ now.1) now.2
 
 pub returns-in-Err : goal.returns-in-Err
 returns-in-Err c =
     let so_far = c.loop-rest.invariant in
-    let earlier = map content so_far.front in
-    let number = number_of c.args.bytes.now c.loop-rest.rest.now c.loop-rest.draft c.loop-rest.count c.loop-rest.invariant c.split_line.result.0.now c.split_line.result.1.now c.split_line.ensures.first c.split_line.ensures.some c.split_line.ensures.all in
-    let stops = rw c.content.ensures at c.in-Err.ensures earlier number so_far.agrees in
-    rw c.at.ensures (stopped c.args.bytes.now c.loop-rest.rest.now c.loop-rest.draft c.loop-rest.count c.loop-rest.invariant c.split_line.result.0.now c.split_line.result.1.now c.split_line.ensures.first c.split_line.ensures.some c.split_line.ensures.all c.in-Err.refusal stops)
+    let cut = c.split_line.ensures in
+    let number = number_of _ _ _ _ so_far _ _ cut.first cut.some cut.all in
+    let now = rw c.content.ensures at c.in-Err.ensures (map content so_far.front) number so_far.agrees in
+    rw c.of_line.ensures (stopped _ _ _ _ so_far _ _ cut.first cut.some cut.all c.in-Err.refusal now)
 
 pub returns : goal.returns
 returns c =
-    let rest = c.loop-rest.rest.now in
-    let nothing = nil_from_length rest (eqb-true _ _ (sym c.is_empty.ensures ∙ c.loop-rest-test.false)) in
-    all_done c.args.bytes.now rest c.loop-rest.draft c.loop-rest.count nothing c.loop-rest.invariant
+    let nothing = nil_from_length c.loop-rest.rest.now (eqb-true _ _ (sym c.is_empty.ensures ∙ c.loop-rest-test.false)) in
+    all_done _ _ _ _ nothing c.loop-rest.invariant

@@ -1,7 +1,7 @@
-use Rattle.std.proofs.Common.{◌≡◌, ◌≤◌, length, take, sym, refl, ◌∙◌, arith}
+use Rattle.std.proofs.Common.{◌≡◌, ◌≤◌, length, take, sym, refl, ap, ◌∙◌, arith}
 use Rattle.std.proofs.lemmas.List.{take_all, drop_all}
 use Rattle.pla_reader.specs.Grammar.{symbols}
-use Rattle.pla_reader.proofs.Symbols.{counted_more_yes, counted_more_no, cut_front, cut_back, whole_back}
+use Rattle.pla_reader.proofs.Symbols.{counted_more_yes, symbols_same, cut_front, cut_back, whole_back}
 use Rattle.pla_reader.proofs.row.split_symbols.Goals as goal
 use Rattle.pla_reader.proofs.row.split_symbols.Goals.{then-is_symbol, else-is_symbol}
 
@@ -25,7 +25,7 @@ loop-i-preserved c =
           let one = counted_more_yes line c.loop-i.i c.loop-i-test.true (sym c.is_symbol.ensures ∙ w.if-is_symbol.true) in
           record { seen = omega (arith, one); below = omega arith; few = omega arith }
       | else-is_symbol w ↦
-          let none = counted_more_no line c.loop-i.i c.loop-i-test.true (sym c.is_symbol.ensures ∙ w.if-is_symbol.false) in
+          let none = ap length (symbols_same line c.loop-i.i c.loop-i-test.true (sym c.is_symbol.ensures ∙ w.if-is_symbol.false)) in
           record { seen = omega (arith, none); below = omega arith; few = omega arith }
     ]
 

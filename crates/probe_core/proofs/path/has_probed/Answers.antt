@@ -2,7 +2,8 @@ use Rattle.std.proofs.Common.{ℕ, ◌<◌, refl, sym, ◌∙◌, subst}
 use Rattle.std.proofs.lemmas.Bool.{false≢true}
 use Rattle.lattice.specs.NodeWords.{place}
 use Rattle.probe_core.specs.Events.{HasPassed}
-use Rattle.probe_core.proofs.Places.{shifted_one, small_place}
+use Rattle.lattice.proofs.Diagrams.{shifted_one}
+use Rattle.probe_core.proofs.Places.{small_place}
 use Rattle.probe_core.proofs.Probing.{probed, not_probed, walked_on}
 use Rattle.probe_core.proofs.path.has_probed.Goals as goal
 use Rattle.probe_core.proofs.path.has_probed.Goals.{Then-here-at, Then-not-has_passed, Else-not-has_passed}

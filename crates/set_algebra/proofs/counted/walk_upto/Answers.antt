@@ -9,4 +9,5 @@ walk_into-requires-clause-base g c =
 
 pub returns-clause-members : goal.returns-clause-members
 returns-clause-members g c =
-    from_empty c.new-members.result c.walk_into.new.into (reverse (family (g.S.Store.state c.args.store.now) c.args.a)) c.new-members.ensures c.in_ok-walk_into.ensures.members
+    from_empty c.new-members.result c.walk_into.new.into (reverse (family (g.S.Store.state c.args.store.now) c.args.a))
+    c.new-members.ensures c.in_ok-walk_into.ensures.members

@@ -1,18 +1,19 @@
 use Rattle.node_store.specs.Stores.{family}
-use Rattle.node_store.proofs.AnyPlanned.{MayHoldAny-later}
-use Rattle.node_store.proofs.StoreLemmas.{known_after}
-use Rattle.std_monomials.proofs.ListedFamilies.{standard_closed, any_standard, any_leads}
+use Rattle.node_store.proofs.StoreLaws.{MayHoldAny-later, known_after}
+use Rattle.std_monomials.proofs.MonomialNeeds.{standard_closed, any_standard, any_leads}
 use Rattle.std_monomials.proofs.tests.both_of.Goals as goal
 
 pub standard-requires-clause-planned : goal.standard-requires-clause-planned
 standard-requires-clause-planned g c =
-    any_standard c.args.vars (g.S.Store.state c.family_of.new.store) c.in_ok-points.points (g.met.S.Store.sound c.family_of.new.store) c.in_ok-points.ensures.known c.family_of.ensures.any
+    any_standard c.args.vars (g.S.Store.state c.family_of.new.store) c.in_ok-points.points c.family_of.ensures.any
+    (g.met.S.Store.sound c.family_of.new.store) c.in_ok-points.ensures.known
 
 pub leads-requires-clause-closed : goal.leads-requires-clause-closed
 leads-requires-clause-closed g c =
     let s = g.S.Store.state c.family_of.new.store in
     standard_closed s.vars (family s c.in_ok-points.points) (family (g.S.Store.state c.standard.new.store) c.in_ok-monos.monos)
-    (known_after s c.in_ok-points.points (g.met.S.Store.sound c.family_of.new.store) c.in_ok-points.ensures.known) c.in_ok-monos.ensures.standard
+    (known_after s c.in_ok-points.points (g.met.S.Store.sound c.family_of.new.store) c.in_ok-points.ensures.known)
+    c.in_ok-monos.ensures.standard
 
 pub leads-requires-clause-planned : goal.leads-requires-clause-planned
 leads-requires-clause-planned g c =

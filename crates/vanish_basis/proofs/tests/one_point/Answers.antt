@@ -1,18 +1,11 @@
-use Rattle.std.proofs.Common.{[], ◌∷◌, refl}
-use Rattle.lattice.specs.Family.{divides, has, numbers_below, family_where, combine}
-use Rattle.lattice.specs.Cofactors.{low_cofactor, high_cofactor, join}
-use Rattle.lattice.specs.Basis.{standard_of, has_divisors, leads_of}
-use Rattle.vanish_basis.proofs.ListedPoints.{is_lead}
+use Rattle.vanish_basis.proofs.ListedPoints.{leads}
 use Rattle.vanish_basis.proofs.tests.one_point.Goals as goal
 
 pub element-requires-clause-lead : goal.element-requires-clause-lead
-unfolding standard_of has_divisors leads_of combine family_where numbers_below low_cofactor high_cofactor join has divides
-element-requires-clause-lead g c = is_lead 3 (5 ∷ []) 1 refl
+element-requires-clause-lead g c = leads.3
 
 pub element-requires-2-clause-lead : goal.element-requires-2-clause-lead
-unfolding standard_of has_divisors leads_of combine family_where numbers_below low_cofactor high_cofactor join has divides
-element-requires-2-clause-lead g c = is_lead 3 (5 ∷ []) 2 refl
+element-requires-2-clause-lead g c = leads.4
 
 pub element-requires-3-clause-lead : goal.element-requires-3-clause-lead
-unfolding standard_of has_divisors leads_of combine family_where numbers_below low_cofactor high_cofactor join has divides
-element-requires-3-clause-lead g c = is_lead 3 (5 ∷ []) 4 refl
+element-requires-3-clause-lead g c = leads.5

@@ -1,4 +1,4 @@
-use Rattle.std.proofs.Common.{sym, refl, arith}
+use Rattle.std.proofs.Common.{sym, arith}
 use Rattle.std.proofs.lemmas.List.Elements.{All-nil}
 use Rattle.lattice.specs.declared.kind.Kind.TheVariants.{Fd}
 use Rattle.pla_reader.specs.Description.{FitsSizes}
@@ -10,13 +10,9 @@ pub returns : goal.returns
 unfolding arguments_of rows_of
 returns c = record {
   given = record {
-    inputs_are = refl;
-    outputs_are = refl;
-    kind_is = refl;
+    commands = assumption;
     rows_are = sym c.new.ensures;
     none_before = λ _. c.new.ensures;
-    in_names_are = refl;
-    out_names_are = refl;
   };
   fit = record {
     inputs_fit = tt;

@@ -1,0 +1,423 @@
+#!/usr/bin/env python3
+"""Checks the shape of the repository's proofs, and fails with a message for each rule that is broken.
+
+usage: shape.py [TOP]
+
+The rules: a crate gives its lemmas to other crates by two modules at most, where each lemma has a comment; no statement is proved in
+two crates; lines are short; each lemma is used; and the proofs as a whole are short. `rt ci` proves the repository: this script says
+nothing about that.
+"""
+import collections
+import os
+import re
+import sys
+
+COLUMNS = 140
+PUBLIC_MODULES = 2
+PROOF_LINES = 28_250
+# Modules whose lemmas nothing need use: examples, and what the words of kept results are made of.
+EXAMPLES = re.compile(r"Examples|Worked|WordParts")
+
+MARKS = r"((?:(?:pattern|unfoldable|abbrev|pub|axiom) )*)"
+NAME = r"([^\s(){}.,;:]+)"
+SIGNATURE = re.compile(rf"^( *){MARKS}{NAME} : (.*)$")
+TYPE = re.compile(rf"^( *){MARKS}(?:record|data|ruleset) {NAME}")
+PASSED_ON = re.compile(r"^(?:unfoldable )?pub use ([\w.+]+)\.\{([^}]*)\}")
+IMPORT = re.compile(r"^\s*(?:ghost |unfoldable |pub )*use (?:package\.)?([\w.+]+)\.\{([^}]*)\}", re.M)
+TOKEN = re.compile(r"[(){}]|\.(?=\S)|[.,;]|[^\s(){}.,;]+")
+
+Lemma = collections.namedtuple("Lemma", "crate path line name statement local plain")
+
+
+# ---- the files
+
+
+def read_lines(path):
+    with open(path, encoding="utf8") as file:
+        return file.read().splitlines()
+
+
+def files_of(top, crate, folder, ending):
+    """The files of one folder of a crate, at any depth, in order."""
+    found = []
+    for place, _, names in os.walk(os.path.join(top, "crates", crate, folder)):
+        found += [os.path.join(place, name) for name in names if name.endswith(ending)]
+    return sorted(found)
+
+
+def crates_of(top):
+    return sorted(name for name in os.listdir(os.path.join(top, "crates")) if os.path.isdir(os.path.join(top, "crates", name)))
+
+
+def proofs_of(top, crate):
+    return files_of(top, crate, "proofs", ".antt")
+
+
+def sources_of(top):
+    """All files of proofs/, specs/ and src/, each with its crate."""
+    for crate in crates_of(top):
+        for folder, ending in (("proofs", ".antt"), ("specs", ".antt"), ("src", ".rt")):
+            for path in files_of(top, crate, folder, ending):
+                yield crate, path
+
+
+def module_of(top, crate, path):
+    """The name that `use` lines give the module of a file of proofs/."""
+    inside = os.path.relpath(path, os.path.join(top, "crates", crate))
+    return f"Rattle.{crate}." + inside[: -len(".antt")].replace(os.sep, ".")
+
+
+def imported(text):
+    """(module, name, name here) for each name of the `use` lines of a file."""
+    for match in IMPORT.finditer(text):
+        for part in match.group(2).split(","):
+            words = part.split()
+            if words:
+                yield match.group(1), words[0], words[-1]
+
+
+# ---- the public modules of a crate
+
+
+def public_modules(top, crate):
+    """The modules that proofs/Lib.antt declares `pub`."""
+    lib = os.path.join(top, "crates", crate, "proofs", "Lib.antt")
+    lines = read_lines(lib) if os.path.exists(lib) else []
+    return [match.group(1) for match in (re.match(r"pub mod (\w+)", line) for line in lines) if match]
+
+
+def is_public_line(line):
+    """Whether a line passes a lemma on or declares one that other crates can name."""
+    if PASSED_ON.match(line):
+        return True
+    match = SIGNATURE.match(line) or TYPE.match(line)
+    return match is not None and "pub" in match.group(2).split()
+
+
+def fields_of_records(lines):
+    """The numbers of the lines that stand in the body of a record or of a data type, declared or written as a term."""
+    inside, depth, braces = set(), None, 0
+    for number, line in enumerate(lines):
+        indent = len(line) - len(line.lstrip())
+        if depth is not None and line.strip() and indent <= depth:
+            depth = None
+        if depth is not None or braces > 0:
+            inside.add(number)
+        elif TYPE.match(line):
+            depth = indent
+        if not line.lstrip().startswith("--"):
+            braces += line.count("{") - line.count("}")
+    return inside
+
+
+def check_public_modules(top):
+    """Each crate has two public lemma modules at most, and each lemma of these has a comment directly above it."""
+    for crate in crates_of(top):
+        modules = public_modules(top, crate)
+        if len(modules) > PUBLIC_MODULES:
+            yield f"{crate}: {len(modules)} public modules of lemmas, more than {PUBLIC_MODULES}: {', '.join(modules)}"
+        for module in modules:
+            path = os.path.join(top, "crates", crate, "proofs", module + ".antt")
+            if not os.path.exists(path):
+                continue
+            lines = read_lines(path)
+            fields = fields_of_records(lines)
+            for number, line in enumerate(lines):
+                above = lines[number - 1].lstrip() if number else ""
+                if is_public_line(line) and number not in fields and not above.startswith("--"):
+                    yield f"{os.path.relpath(path, top)}:{number + 1}: no comment above this public lemma: {line.strip()[:80]}"
+
+
+# ---- lemmas and their statements
+
+
+def blocks_above(stack, indent):
+    """Takes the blocks that end before a line with this indent from the stack."""
+    while stack and indent <= stack[-1][0]:
+        stack.pop()
+
+
+def lemmas_of(top, crate, path):
+    """The lemmas of a file of proofs/, with the parameters of their modules in front of their statements."""
+    lines = read_lines(path)
+    fields, stack, found = fields_of_records(lines), [], []
+    for number, line in enumerate(lines):
+        text = line.strip()
+        indent = len(line) - len(line.lstrip())
+        if not text or text.startswith("--") or number in fields:
+            continue
+        blocks_above(stack, indent)
+        if text.startswith("module _") and text.endswith("where"):
+            stack.append((indent, text[len("module _") : -len("where")].strip(), False))
+            continue
+        if text == "where" or (text.endswith(" where") and not TYPE.match(line)):
+            stack.append((indent, "", True))
+            continue
+        match = SIGNATURE.match(line)
+        if match:
+            parameters = " ".join(block[1] for block in stack if block[1])
+            statement = statement_at(lines, number, match)
+            whole = f"{parameters} → {statement}" if parameters else statement
+            local = any(block[2] for block in stack)
+            plain = not {"abbrev", "unfoldable", "axiom"} & set(match.group(2).split())
+            found.append(Lemma(crate, path, number + 1, match.group(3), whole, local, plain))
+    return found
+
+
+def statement_at(lines, number, match):
+    """The type of a signature, with the lines that go on with it."""
+    parts = [match.group(4)]
+    for line in lines[number + 1 :]:
+        if len(line) - len(line.lstrip()) < len(match.group(1)) + 4 or line.lstrip().startswith("--"):
+            break
+        parts.append(line.strip())
+    return " ".join(parts)
+
+
+class Statement:
+    """A statement in one form: bound variables by number, each with a binder of its own, implicit or not; other names by their origin."""
+
+    def __init__(self, text, origins):
+        self.tokens = TOKEN.findall(text)
+        self.at = 0
+        self.origins = origins
+        self.bound = 0
+        self.dependent = "≡" in self.tokens
+
+    def form(self):
+        return " ".join(self.until_close([{}]))
+
+    def peek(self, ahead=0):
+        return self.tokens[self.at + ahead] if self.at + ahead < len(self.tokens) else ""
+
+    def until_close(self, scopes):
+        """The tokens up to the bracket that closes this part, in their form."""
+        out = []
+        while self.at < len(self.tokens) and self.peek() not in (")", "}"):
+            token = self.peek()
+            if token in ("(", "{") and self.names_bound():
+                out += self.binder(scopes)
+            elif token in ("(", "{"):
+                self.at += 1
+                out += [token] + self.until_close(scopes + [{}]) + [self.take()]
+            elif token == "λ":
+                out += self.function(scopes)
+            elif token == "let":
+                out += [self.take(), self.bind(self.take(), scopes)]
+            elif token == "." and self.at and self.peek(1):
+                out += [self.take(), self.take()] if self.is_field() else [self.take()]
+            else:
+                out.append(self.name(self.take(), scopes))
+        return out
+
+    def is_field(self):
+        """Whether this dot stands before the field of a value, and not behind the variables of a function."""
+        return re.match(r"[\w']", self.peek(1)) is not None and self.tokens[self.at - 1] not in (".", ",")
+
+    def take(self):
+        self.at += 1
+        return self.tokens[self.at - 1] if self.at <= len(self.tokens) else ""
+
+    def names_bound(self):
+        """The names of the binder that begins here, or none."""
+        names, ahead = [], 1
+        while self.peek(ahead) not in ("", "(", ")", "{", "}", ".", ",", ";", ":"):
+            names.append(self.peek(ahead))
+            ahead += 1
+        return names if self.peek(ahead) == ":" else []
+
+    def binder(self, scopes):
+        names = self.names_bound()
+        self.at += len(names) + 2
+        kind = self.until_close(scopes + [{}])
+        self.at += 1
+        out = []
+        joined = [self.peek()] if self.peek() in ("→", "×") else []
+        arrow = self.take() if joined else ("→" if self.peek() in ("(", "{") else "")
+        for name in names:
+            out += ["(", self.bind(name, scopes), ":"] + kind + [")"] + ([arrow] if arrow else [])
+        return out
+
+    def function(self, scopes):
+        out = [self.take()]
+        while self.at < len(self.tokens) and self.peek() != ".":
+            if self.peek() in ("(", "{") and self.names_bound():
+                names = self.names_bound()
+                self.at += len(names) + 2
+                self.until_close(scopes + [{}])
+                self.at += 1
+                out += [self.bind(name, scopes) for name in names]
+            else:
+                out.append(self.bind(self.take(), scopes))
+        return out + [self.take()]
+
+    def bind(self, name, scopes):
+        scopes[-1][name] = f"v{self.bound}"
+        self.bound += 1
+        return scopes[-1][name]
+
+    def name(self, token, scopes):
+        for scope in reversed(scopes):
+            if token in scope:
+                self.dependent = True
+                return scope[token]
+        return self.origins.get(token, token)
+
+
+def origins_of(crates, crate, text, names):
+    """Where the names that a file uses come from: another crate of the repository, or this one."""
+    origins = {name: f"{crate}:{name}" for name in names}
+    for module, name, here in imported(text):
+        parts = module.split(".")
+        if parts[0] == "Rattle" and len(parts) > 1 and parts[1] in crates:
+            origins[here] = f"{parts[1]}:{name}"
+        elif name != here:
+            origins[here] = name
+    return origins
+
+
+def declared_in(text):
+    return {match.group(3) for line in text.splitlines() for match in [SIGNATURE.match(line) or TYPE.match(line)] if match}
+
+
+def forms_of(top, crates, crate, path):
+    """(form, lemma) for each lemma of a file whose statement says something of its variables or is an equation."""
+    text = "\n".join(read_lines(path))
+    origins = origins_of(crates, crate, text, declared_in(text))
+    for lemma in lemmas_of(top, crate, path):
+        if lemma.plain and not lemma.local:
+            statement = Statement(lemma.statement, origins)
+            form = statement.form()
+            if statement.dependent:
+                yield form, lemma
+
+
+def check_statements(top):
+    """No statement is proved in two crates."""
+    crates, by_form = set(crates_of(top)), collections.defaultdict(list)
+    for crate in sorted(crates):
+        for path in proofs_of(top, crate):
+            for form, lemma in forms_of(top, crates, crate, path):
+                by_form[form].append(lemma)
+    for lemmas in by_form.values():
+        if len({lemma.crate for lemma in lemmas}) > 1:
+            places = ", ".join(f"{lemma.name} ({os.path.relpath(lemma.path, top)}:{lemma.line})" for lemma in lemmas)
+            yield f"one statement in several crates: {places}"
+
+
+# ---- lines
+
+
+def check_columns(top):
+    """No line of proofs/ is longer than 140 columns."""
+    for crate in crates_of(top):
+        for path in proofs_of(top, crate):
+            for number, line in enumerate(read_lines(path)):
+                if len(line) > COLUMNS:
+                    yield f"{os.path.relpath(path, top)}:{number + 1}: {len(line)} columns, more than {COLUMNS}"
+
+
+def check_length(top):
+    """The proofs have fewer lines in all than the bound."""
+    lines = sum(len(read_lines(path)) for crate in crates_of(top) for path in proofs_of(top, crate))
+    if lines >= PROOF_LINES:
+        yield f"the proofs have {lines} lines, not fewer than {PROOF_LINES}"
+
+
+# ---- uses
+
+
+def indent_of(line):
+    return len(line) - len(line.lstrip())
+
+
+def own_lines(lines, lemma):
+    """The numbers of the lines of the lemma: its signature and its clauses, with what belongs to them."""
+    start = lemma.line - 1
+    indent = indent_of(lines[start])
+    head = re.compile(rf" *{re.escape(lemma.name)}(?![^\s(){{}}.,;:])")
+    own, number = {start}, start + 1
+    while number < len(lines):
+        line = lines[number]
+        if line.strip() and indent_of(line) <= indent and not head.match(line) and not re.match(r" *(?:unfolding|[|\])}\]])", line):
+            break
+        own.add(number)
+        number += 1
+    return own
+
+
+def is_code(line):
+    return not re.match(r"\s*(?:--|//|(?:ghost |unfoldable |pub )*(?:use|mod) )", line)
+
+
+def is_used_here(lines, words, lemma):
+    """Whether another lemma or an answer of the file names the lemma."""
+    places = [number for number, line in enumerate(lines) if lemma.name in words[number] and is_code(line)]
+    return bool(set(places) - own_lines(lines, lemma))
+
+
+def is_asked_for(lemma):
+    """Whether the toolchain asks for this name: an answer to a goal, or a whole proof of a function or of what a type may be sent over."""
+    folder, file = os.path.split(lemma.path)
+    whole = file == "Proof.antt" and lemma.name == os.path.basename(folder) + "_spec"
+    return whole or lemma.statement.startswith("goal.") or file in ("Send.antt", "Sync.antt")
+
+
+def doors_of(top, crates):
+    """{(module, name): public modules that pass the name on}, over all crates."""
+    doors = collections.defaultdict(set)
+    for crate in crates:
+        for path in proofs_of(top, crate):
+            for line in read_lines(path):
+                match = PASSED_ON.match(line)
+                for part in match.group(2).split(",") if match else []:
+                    doors[(match.group(1), part.split()[0])].add((module_of(top, crate, path), part.split()[-1]))
+    return doors
+
+
+def names_imported(top):
+    """The (module, name) pairs that files other than the public modules import, or name by a path."""
+    names = set()
+    for _, path in sources_of(top):
+        text = "\n".join(line for line in read_lines(path) if not PASSED_ON.match(line))
+        names |= {(module, name) for module, name, _ in imported(text)}
+        names |= {(f".{module}", name) for module, name in re.findall(r"(\w+)(?:\.|::)([^\s(){}.,;:]+)", text)}
+    return names
+
+
+def is_imported(lemma, module, doors, names):
+    places = {(module, lemma.name)} | doors[(module, lemma.name)]
+    return any((place, name) in names or ("." + place.split(".")[-1], name) in names for place, name in places)
+
+
+def check_uses(top):
+    """Each lemma is used by another one or by an answer; examples are left out."""
+    crates = crates_of(top)
+    doors, names = doors_of(top, crates), names_imported(top)
+    for crate in crates:
+        for path in proofs_of(top, crate):
+            if EXAMPLES.search(os.path.relpath(path, top)):
+                continue
+            lines = read_lines(path)
+            words = [set(TOKEN.findall(line)) for line in lines]
+            module = module_of(top, crate, path)
+            for lemma in lemmas_of(top, crate, path):
+                used = is_asked_for(lemma) or is_used_here(lines, words, lemma) or is_imported(lemma, module, doors, names)
+                if not used:
+                    yield f"{os.path.relpath(path, top)}:{lemma.line}: nothing uses {lemma.name}"
+
+
+CHECKS = (check_public_modules, check_statements, check_columns, check_uses, check_length)
+
+
+def main():
+    top = sys.argv[1] if len(sys.argv) > 1 else "."
+    broken = [message for check in CHECKS for message in check(top)]
+    for message in broken:
+        print(message)
+    print(f"{len(broken)} faults in the shape of the proofs" if broken else "the proofs are in shape")
+    return 1 if broken else 0
+
+
+if __name__ == "__main__":
+    sys.exit(main())

@@ -1,0 +1,89 @@
+-- Calls one after the other that find the families of a list: what is planned for those to come, and what is held at the end.
+use Rattle.std.proofs.Common.{ℕ, Bool, List, [], ◌∷◌, ◌++◌, Ok, subst}
+use Rattle.lattice.specs.Family.{Family, Covers, combine, power, minus_of}
+use Rattle.lattice.specs.Rows.{cover}
+use Rattle.lattice.specs.WorkingLists.{working_set, cover_list}
+use Rattle.lattice.specs.declared.row.Row.{Row}
+use Rattle.lattice.proofs.Diagrams.{covers_append, covers_head, covers_left, covers_right}
+use Rattle.node_store.specs.Stores.{State, family, Denotes, IsPlanned, Grows, Reads, Gives, Builds}
+use Rattle.node_store.specs.declared.store.Handle.{Handle}
+use Rattle.node_store.proofs.StoreLaws.{builds_gives, Denotes-family, Gives-reads, Grows-trans, Reads-refl, Reads-trans}
+
+-- calls led from s to t, and of the families of `all` those of `rest` are still to be found
+pub record Underway (s t : State) (all rest : List Family) : Type 0 where
+  pub reads : Reads s t
+  pub planned : Covers s.plan (working_set s.vars rest)
+  pub whole : (u : State) → Grows t u → Covers u.held (working_set s.vars rest) → Covers u.held (working_set s.vars all)
+
+pub underway : (s : State) (all : List Family) → Covers s.plan (working_set s.vars all) → Underway s s all all
+underway s all planned = record { reads = Reads-refl s; planned = planned; whole = λ u later held. held }
+
+-- a call that finds the families of a list, by the number of variables
+module _ (s t : State) (all rest : List Family) (list : ℕ → List Family) (here : Underway s t all (list s.vars ++ rest)) where
+  next_planned : Covers t.plan (working_set t.vars (list t.vars))
+  next_planned = rw (here.reads.grows.plan, here.reads.grows.vars) (covers_left s.vars s.plan (list s.vars) rest here.planned)
+
+  next : (u : State) (h : Handle) (f : Family) → Gives t u (Ok h) f (working_set t.vars (list t.vars)) → Underway s u all rest
+  next u h f is =
+      let found : Covers u.held (working_set s.vars (list s.vars)) =
+      subst (λ v. Covers u.held (working_set v (list v))) here.reads.grows.vars is.held in
+      record {
+        reads = Reads-trans s t u here.reads (Gives-reads t u h f (working_set t.vars (list t.vars)) is);
+        planned = covers_right s.vars s.plan (list s.vars) rest here.planned;
+        whole = λ v later held. here.whole v (Grows-trans t u v is.grows later)
+            (covers_append s.vars v.held (list s.vars) rest (λ k i. later.held k (found k i)) held);
+      }
+
+-- ---- a call that finds the points of some rows
+
+module _ {s t : State} {all : List Family} (rest : List Family) (rows : List Row)
+    (here : Underway s t all (cover_list s.vars rows ++ rest)) where
+  pub cover_planned : Covers t.plan (working_set t.vars (cover_list t.vars rows))
+  cover_planned = next_planned s t all rest (λ v. cover_list v rows) here
+
+  module _ {u : State} {h : Handle} (is : Gives t u (Ok h) (cover t.vars rows) (working_set t.vars (cover_list t.vars rows))) where
+    pub cover_next : Underway s u all rest
+    cover_next = next s t all rest (λ v. cover_list v rows) here u h (cover t.vars rows) is
+
+    pub cover_is : Denotes u h (cover s.vars rows)
+    cover_is = rw here.reads.grows.vars at is.ok
+
+-- ---- a call that combines two families
+
+module _ {s t : State} {all : List Family} (rest : List Family) (test : Bool → Bool → Bool) (A B : Family) (a b : Handle)
+    (here : Underway s t all (combine test s.vars A B ∷ rest)) (a_is : Denotes t a A) (b_is : Denotes t b B) where
+  pub combined_planned : IsPlanned t (combine test t.vars (family t a) (family t b))
+  combined_planned =
+      rw (here.reads.grows.plan, here.reads.grows.vars, Denotes-family t a A a_is, Denotes-family t b B b_is)
+      (covers_head s.vars s.plan rest (combine test s.vars A B) here.planned)
+
+  module _ {u : State} {h : Handle} (is : Builds t u (Ok h) (combine test t.vars (family t a) (family t b))) where
+    named : Builds t u (Ok h) (combine test t.vars A B)
+    named = rw (Denotes-family t a A a_is, Denotes-family t b B b_is) at is
+
+    pub combined_next : Underway s u all rest
+    combined_next =
+        next s t all rest (λ v. combine test v A B ∷ []) here u h (combine test t.vars A B)
+        (builds_gives t u (Ok h) (combine test t.vars A B) named)
+
+    pub combined_is : Denotes u h (combine test s.vars A B)
+    combined_is = rw here.reads.grows.vars at named.ok
+
+-- ---- a call that finds the points outside a family
+
+abbrev pub rest_of : Family → ℕ → List Family
+rest_of A n = power n ∷ minus_of n (power n) A ∷ []
+
+module _ {s t : State} {all : List Family} (A : Family) (a : Handle) (here : Underway s t all (rest_of A s.vars)) (a_is : Denotes t a A)
+  where
+    pub outside_planned : Covers t.plan (working_set t.vars (rest_of (family t a) t.vars))
+    outside_planned = rw (Denotes-family t a A a_is) (next_planned s t all [] (rest_of A) here)
+
+    module _ {u : State} {h : Handle}
+        (is : Gives t u (Ok h) (minus_of t.vars (power t.vars) (family t a)) (working_set t.vars (rest_of (family t a) t.vars))) where
+      pub outside_next : Underway s u all []
+      outside_next =
+          next s t all [] (rest_of A) here u h (minus_of t.vars (power t.vars) A) (rw (Denotes-family t a A a_is) at is)
+
+      pub outside_is : Denotes u h (minus_of s.vars (power s.vars) A)
+      outside_is = rw (here.reads.grows.vars, Denotes-family t a A a_is) at is.ok

@@ -1,0 +1,292 @@
+-- How a run ends, from the file that its bytes have and from what its steps found, and what its status says then.
+use Rattle.std.proofs.Common.{◌≡◌, ◌∙◌, ap, subst, ℕ, ◌+◌, ◌<◌, ◌≤◌, List, length, length-take, min, take, take_all, drop, refl, sym, inl}
+use Rattle.std.proofs.Common.{inr, ◌⊎◌, ⊎_elim, arith, [], Option, Some, None, ◌≢◌, ◌∷◌, append-nil, true}
+use Rattle.std.specs.Prelude.{Ok, Err, Result, IfErr, OnOk}
+use Rattle.std.proofs.lemmas.Bool.{cases_lt, le-ltb, lt-ltb}
+use Rattle.pla_reader.specs.Reading.{Description, bytes_taken, description, reading_of}
+use Rattle.pla_reader.specs.declared.pla.Pla.{Pla}
+use Rattle.pla_reader.specs.declared.refusal.Refusal.{Refusal}
+use Rattle.cert_check.specs.Reading.{answer_reading, GivesAnswer}
+use Rattle.cert_check.specs.declared.answer.GivenOutput.{GivenOutput}
+use Rattle.cert_check.specs.declared.refusal.AnswerWhy.{AnswerWhy}
+use Rattle.cli_words.specs.declared.job.Job.{Job}
+use Rattle.interp_run.specs.Due.{Due, IsDue, IsExhausted, checking, file_of, given_of, most_bytes, most_checked_inputs, no_file, solving}
+use Rattle.interp_run.specs.Due.{IsDueChecking, contradicted, contradiction, contradiction_behind, judged, no_answer, silent, verdict}
+use Rattle.interp_run.specs.Due.{HasText, judged_outcome, verdict_text}
+use Rattle.lattice.specs.Rows.{IsConsistent}
+use Rattle.lattice.specs.declared.kind.Mode.TheVariants.{Anf, Basis, Check}
+use Rattle.cert_check.specs.Faults.{verdict_on}
+use Rattle.cert_check.specs.declared.refusal.AnswerRefusal.{AnswerRefusal}
+use Rattle.cert_check.specs.declared.refusal.AnswerRefusal.TheVariants.{Bad, Memory}
+use Rattle.cert_check.specs.declared.refusal.Verdict.{Verdict}
+use Rattle.interp_run.specs.Parts.{EndsUnsolved, EndsWithout, IsContradiction, due_unsolved, due_without, exhausted_without, no_memory}
+use Rattle.interp_run.specs.Parts.{no_memory_to_solve, nodes_over, refused_outcome}
+use Rattle.interp_run.specs.declared.outcome.Outcome.{Outcome}
+use Rattle.watch.specs.Notes.{WatcherState, left_after_all}
+use Rattle.interp_run.specs.Run.{Ends, Ran, IsAsked, IsRefused, as_due, exhausted, memory, read_fault, refused, status_of}
+use Rattle.interp_run.specs.Run.{write_fault}
+use Rattle.std.specs.Result.{IsErrAnd}
+use Rattle.std.specs.List.{concat}
+use Rattle.std.specs.Io.KnownBytes.{Appends, Keeps}
+use Rattle.outside.specs.Causes.{GainsFront, GainsLess, GainsUnlessRose, HasCause}
+use Rattle.cert_check.specs.declared.refusal.Verdict.TheVariants.{Yes, No}
+use Rattle.watch.specs.declared.note.Note.{Note}
+use Rattle.watch.proofs.LeftAfter.{left_after_all-nil}
+use Rattle.interp_run.proofs.OneDue.{same_job, fits_with_text, same_due, check_silent, is_owed, shape}
+use Rattle.interp_run.proofs.Written.{appends_nothing, stopped_at}
+use Rattle.interp_run.specs.declared.outcome.Outcome.TheVariants as ends
+
+-- ==== the file of a run and the answer that is judged, from what was read of its bytes
+
+module _ (job : Job) (bytes : List ℕ) where
+  pub file_too_long : most_bytes < length bytes → file_of job bytes ≡ Err ends.TooLong
+  file_too_long long = rw (lt-ltb most_bytes (length bytes) long) refl
+
+  pub file_read : (d : Description) → length bytes ≤ most_bytes → reading_of bytes ≡ Ok d → file_of job bytes ≡ Ok d
+  file_read d few read = rw (le-ltb most_bytes (length bytes) few, read) refl
+
+  pub file_refused : (r : Refusal) → length bytes ≤ most_bytes → reading_of bytes ≡ Err r → file_of job bytes ≡ Err (ends.Text r.line r.why)
+  file_refused r few bad = rw (le-ltb most_bytes (length bytes) few, bad) refl
+
+module _ (p : Pla) (text : List ℕ) where
+  pub given_too_wide : most_checked_inputs < p.inputs → given_of p text ≡ Err ends.TooWide
+  given_too_wide wide = rw (lt-ltb most_checked_inputs p.inputs wide) refl
+
+  pub given_read : (answer : List GivenOutput) → p.inputs ≤ most_checked_inputs → answer_reading p text ≡ Ok answer
+      → given_of p text ≡ Ok answer
+  given_read answer few read = rw (le-ltb most_checked_inputs p.inputs few, read) refl
+
+  pub given_refused : (line : ℕ) (why : AnswerWhy) → p.inputs ≤ most_checked_inputs → answer_reading p text ≡ Err (line, why)
+      → given_of p text ≡ Err (ends.AnswerText line why)
+  given_refused line why few bad = rw (le-ltb most_checked_inputs p.inputs few, bad) refl
+
+-- ---- what was read is all bytes, or they are too many
+
+module _ (job : Job) (bytes read : List ℕ) (is : read ≡ take (most_bytes + 1) bytes) where
+  read_whole : (read ≡ bytes) ⊎ ((most_bytes < length read) × (most_bytes < length bytes))
+  read_whole =
+      let size : length (take (most_bytes + 1) bytes) ≡ min (most_bytes + 1) (length bytes) = length-take (most_bytes + 1) bytes in
+      let same : length read ≡ length (take (most_bytes + 1) bytes) = ap length is in
+      ⊎_elim (λ long. inr (omega (arith, size, same, long), long)) (λ few. inl (is ∙ take_all (most_bytes + 1) bytes (omega (arith, few))))
+      (cases_lt most_bytes (length bytes))
+
+  too_long : {due : Due} → most_bytes < length read → most_bytes < length bytes → IsDue job read due → IsDue job bytes due
+  too_long a b (no_file o e) = no_file o (file_too_long job bytes b ∙ (sym (file_too_long job read a) ∙ e))
+  too_long a b (solving d due e mode h) = let bad = sym (file_too_long job read a) ∙ e in cc
+  too_long a b (checking p due e mode h) = let bad = sym (file_too_long job read a) ∙ e in cc
+
+  -- what is due for what was read is due for all bytes
+  pub due_of_read : {due : Due} → IsDue job read due → IsDue job bytes due
+  due_of_read {due = due} h = ⊎_elim (λ same. subst (λ (b : List ℕ). IsDue job b due) same h) (λ long. too_long long.0 long.1 h) read_whole
+
+  pub exhausted_of_read : IsExhausted job read → IsExhausted job bytes
+  exhausted_of_read h =
+      ⊎_elim (λ same. subst (IsExhausted job) same h) (λ long. let bad = sym (file_too_long job read long.0) ∙ h.file in cc) read_whole
+
+-- ==== ends without an answer, from what the steps of a run found
+
+module _ (job : Job) (bytes : List ℕ) (d : Description) (file : file_of job bytes ≡ Ok d) (mode : (job.mode ≡ Anf) ⊎ (job.mode ≡ Basis))
+  where
+    pub contradiction_ends : {o : Outcome} → IsContradiction d o → EndsWithout job bytes o
+    contradiction_ends h = subst (EndsWithout job bytes) (sym h.outcome_is)
+        (due_without _ (solving d (contradicted h.clash) file mode (contradiction h.clash h.least)))
+
+    pub unsolved_ends : {o : Outcome} → EndsUnsolved job d o → EndsWithout job bytes o
+    unsolved_ends (due_unsolved o due) = due_without o (solving d (silent o) file mode due)
+    unsolved_ends (nodes_over ok over) = exhausted_without
+        (record { description = d; file = file; mode = mode; consistent = ok; over = over })
+    unsolved_ends no_memory_to_solve = no_memory
+
+-- in mode check, with the text behind the description
+module _ (job : Job) (bytes : List ℕ) (p : Pla) (file : file_of job bytes ≡ Ok (description p)) (checks : job.mode ≡ Check) (text : List ℕ)
+    (is : text ≡ drop (bytes_taken bytes) bytes) where
+  behind : {due : Due} → IsDueChecking p text due → IsDue job bytes due
+  behind {due = due} h = checking p due file checks (subst (λ (t : List ℕ). IsDueChecking p t due) is h)
+
+  pub wide_ends : most_checked_inputs < p.inputs → EndsWithout job bytes ends.TooWide
+  wide_ends wide = due_without ends.TooWide (behind (no_answer ends.TooWide (given_too_wide p text wide)))
+
+  pub refused_ends : (refusal : AnswerRefusal) → p.inputs ≤ most_checked_inputs → GivesAnswer (Err refusal) (answer_reading p text)
+      → EndsWithout job bytes (refused_outcome refusal)
+  refused_ends (Bad line why) few e = due_without (ends.AnswerText line why)
+      (behind (no_answer (ends.AnswerText line why) (given_refused p text line why few e)))
+  refused_ends Memory few e = no_memory
+
+  module _ (answer : List GivenOutput) (few : p.inputs ≤ most_checked_inputs) (read : answer_reading p text ≡ Ok answer) where
+    pub clash_ends : {o : Outcome} → IsContradiction (description p) o → EndsWithout job bytes o
+    clash_ends h =
+        subst (EndsWithout job bytes) (sym h.outcome_is)
+        (due_without _ (behind (contradiction_behind answer h.clash (given_read p text answer few read) h.least)))
+
+    pub verdict_due : (v : Verdict) → IsConsistent p.inputs p.outputs p.rows → v ≡ verdict_on p answer → IsDue job bytes (judged v)
+    verdict_due v ok first = subst (λ (w : Verdict). IsDue job bytes (judged w)) (sym first)
+        (behind (verdict answer (given_read p text answer few read) ok))
+
+-- ==== a run ends as is due for the bytes of its source: those that it told, or else those that it gave
+
+-- the bytes that a source told, or else those that were read
+told_or : Option (List ℕ) → List ℕ → List ℕ
+told_or None read = read
+told_or (Some all) read = all
+
+told_is : (left : Option (List ℕ)) (read all : List ℕ) → left ≡ Some all → told_or left read ≡ all
+unfolding told_or
+told_is None read all e = cc
+told_is (Some xs) read all e = cc
+
+read_is : (left : Option (List ℕ)) (read : List ℕ) → ((xs : List ℕ) → left ≡ Some xs → read ≡ take (most_bytes + 1) xs)
+    → length read ≤ most_bytes + 1
+    → read ≡ take (most_bytes + 1) (told_or left read)
+unfolding told_or
+read_is None read told few = sym (take_all (most_bytes + 1) read few)
+read_is (Some xs) read told few = told xs refl
+
+module _ (words : List (List ℕ)) (left old new : Option (List ℕ)) (before after : List WatcherState) (o : Outcome) where
+  -- a run that ends so on each source
+  pub ran_short : ((bytes : List ℕ) → Ends words bytes old new before after o) → Ran words left old new before after o
+  ran_short ends = record { bytes = told_or left []; told = told_is left []; ended = ends (told_or left []) }
+
+  -- a run that read its source
+  pub ran_read : (read : List ℕ) → ((xs : List ℕ) → left ≡ Some xs → read ≡ take (most_bytes + 1) xs) → length read ≤ most_bytes + 1
+      → ((bytes : List ℕ) → read ≡ take (most_bytes + 1) bytes → Ends words bytes old new before after o)
+      → Ran words left old new before after o
+  ran_read read told few ends = record
+      { bytes = told_or left read; told = told_is left read; ended = ends (told_or left read) (read_is left read told few) }
+
+-- ==== how a run ends, from what its steps found, and what its status says then
+
+pub keeps_same : (old : Option (List ℕ)) → Keeps old old
+keeps_same None = tt
+keeps_same (Some xs) = refl
+
+keeps_nothing : (old new : Option (List ℕ)) → Appends old new [] → Keeps old new
+keeps_nothing None new a = tt
+keeps_nothing (Some xs) None a = absurd a
+keeps_nothing (Some xs) (Some ys) a = a ∙ append-nil xs
+
+-- a line is gained whole, or the count rose
+pub gains_line : {T E : Type 0} (old new : Option (List ℕ)) (text : List ℕ) (before now : ℕ) (r : Result T E)
+    → OnOk r (Appends old new text) → GainsFront old new text → HasCause before now r → GainsUnlessRose old new text before now
+gains_line old new text before now (Ok x) whole front cause = record
+    { part = text; front = take_all (length text) text (omega arith); gained = whole; whole = inl refl }
+gains_line old new text before now (Err e) whole front cause = record
+    { part = front.part; front = front.front; gained = front.gained; whole = inr cause.rose }
+
+pub if_err : {T E : Type 0} (r : Result T E) (x : E) (P : E → Type 0) → IsErrAnd r (λ e. e ≡ x) → P x → IfErr r P
+if_err (Ok t) x P same p = tt
+if_err (Err e) x P same p = subst P (sym same) p
+
+-- ---- from what the steps found
+
+module _ (words : List (List ℕ)) (bytes read : List ℕ) (job : Job) (asked : IsAsked words job) (is : read ≡ take (most_bytes + 1) bytes)
+  where
+    -- without an answer
+    pub ends_without : {o : Outcome} (held : Option (List ℕ)) (states : List WatcherState) → EndsWithout job read o
+        → Ends words bytes held held states states o
+    ends_without held states (due_without o due) = as_due job (silent o) asked (due_of_read job bytes read is due) (appends_nothing held)
+        (sym (left_after_all-nil states))
+    ends_without held states (exhausted_without h) = exhausted job asked (exhausted_of_read job bytes read is h) (keeps_same held) refl
+    ends_without held states no_memory = memory (keeps_same held) refl
+
+    whole_text : (v : Verdict) → verdict_text v ≡ concat (verdict_text v ∷ [])
+    whole_text v = sym (append-nil (verdict_text v))
+
+    -- with a verdict
+    pub ends_judged : (old new : Option (List ℕ)) (states : List WatcherState) (v : Verdict) → IsDue job read (judged v)
+        → Appends old new (verdict_text v)
+        → Ends words bytes old new states states (judged_outcome v)
+    ends_judged old new states v due gained =
+        as_due job (judged v) asked (due_of_read job bytes read is due) (subst (Appends old new) (whole_text v) gained)
+        (sym (left_after_all-nil states))
+
+    has_text : (v : Verdict) → HasText (judged_outcome v)
+    has_text Yes = tt
+    has_text (No line why) = tt
+
+    -- with a part of it
+    pub ends_unjudged : (old new : Option (List ℕ)) (states : List WatcherState) (v : Verdict) → IsDue job read (judged v)
+        → GainsFront old new (verdict_text v)
+        → GainsLess old new (verdict_text v) → Ends words bytes old new states states ends.WriteFault
+    ends_unjudged old new states v due front less =
+        write_fault job (judged v) asked (due_of_read job bytes read is due) (has_text v) (subst (GainsFront old new) (whole_text v) front)
+        (stopped_at old old new (verdict_text v ∷ []) [] 0 (verdict_text v) states states (omega arith) refl (appends_nothing old) less
+        (sym (left_after_all-nil states)))
+
+-- ---- what the status says
+
+owed_status : (o : Outcome) → is_owed o ≡ true → status_of o ≢ 2
+owed_status ends.Usage owed e = cc
+owed_status _ owed e = omega (arith, e)
+
+text_status : (o : Outcome) → HasText o → (status_of o ≡ 0) ⊎ (status_of o ≡ 1)
+text_status ends.Done text = inl refl
+text_status (ends.No line why) text = inr refl
+text_status _ text = absurd text
+
+module _ (words : List (List ℕ)) (bytes : List ℕ) (old new : Option (List ℕ)) (before after : List WatcherState) where
+  pub usage_refused : {o : Outcome} → Ends words bytes old new before after o → status_of o ≡ 2 → IsRefused words
+  usage_refused (refused r keeps same) two = r
+  usage_refused (as_due job due asked is gained left) two = absurd (owed_status due.outcome ((shape job bytes is).0) two)
+  usage_refused _ two = absurd (omega (arith, two))
+
+  pub others_taken : {o : Outcome} → Ends words bytes old new before after o → status_of o ≢ 2 → status_of o ≢ 7 → ¬ IsRefused words
+  others_taken (refused r keeps same) two seven = absurd (two refl)
+  others_taken (as_due job due asked is gained left) two seven = λ r. r asked.0
+  others_taken (write_fault job due asked is text front told) two seven = λ r. r asked.0
+  others_taken (exhausted job asked h keeps same) two seven = λ r. r asked.0
+  others_taken (read_fault job asked keeps same) two seven = λ r. r asked.0
+  others_taken (memory keeps same) two seven = absurd (seven refl)
+
+  pub nothing_gained : {o : Outcome} → Ends words bytes old new before after o → status_of o ≢ 0 → status_of o ≢ 1 → status_of o ≢ 9
+      → Keeps old new
+  nothing_gained (as_due job due asked is gained left) zero one nine =
+      ⊎_elim (λ text. absurd (⊎_elim zero one (text_status due.outcome text)))
+      (λ none. keeps_nothing old new (subst (λ (ps : List (List ℕ)). Appends old new (concat ps)) none gained))
+      (shape job bytes is).1
+  nothing_gained (write_fault job due asked is text front told) zero one nine = absurd (nine refl)
+  nothing_gained (refused r keeps same) zero one nine = keeps
+  nothing_gained (exhausted job asked h keeps same) zero one nine = keeps
+  nothing_gained (read_fault job asked keeps same) zero one nine = keeps
+  nothing_gained (memory keeps same) zero one nine = keeps
+
+  untold : (notes : List Note) → notes ≡ [] → after ≡ left_after_all notes before → after ≡ before
+  untold notes none left = left ∙ (ap (λ (ns : List Note). left_after_all ns before) none ∙ left_after_all-nil before)
+
+  pub nobody_told : {o : Outcome} → Ends words bytes old new before after o → status_of o ≢ 0 → status_of o ≢ 9 → after ≡ before
+  nobody_told (as_due job due asked is gained left) zero nine =
+      ⊎_elim (λ done. absurd (zero (ap status_of done))) (λ none. untold due.notes none left) (shape job bytes is).2
+  nobody_told (write_fault job due asked is text front told) zero nine = absurd (nine refl)
+  nobody_told (refused r keeps same) zero nine = same
+  nobody_told (exhausted job asked h keeps same) zero nine = same
+  nobody_told (read_fault job asked keeps same) zero nine = same
+  nobody_told (memory keeps same) zero nine = same
+
+  -- one who asks for the job is told as is due for it
+  module _ (job : Job) (asked : IsAsked words job) where
+    asked_due : (other : Job) {due : Due} → IsAsked words other → IsDue other bytes due → IsDue job bytes due
+    asked_due other {due = due} again is = subst (λ (j : Job). IsDue j bytes due) (same_job words other job again asked) is
+
+    pub nobody_in_check : {o : Outcome} → Ends words bytes old new before after o → job.mode ≡ Check → after ≡ before
+    nobody_in_check (as_due other due again is gained left) checks = untold due.notes
+        (check_silent job bytes (asked_due other again is) checks) left
+    nobody_in_check (write_fault other due again is text front told) checks =
+        untold (take told.count due.notes) (ap (take told.count) (check_silent job bytes (asked_due other again is) checks)
+        ∙ take_all told.count [] (omega arith)) told.left
+    nobody_in_check (refused r keeps same) checks = same
+    nobody_in_check (exhausted other again h keeps same) checks = same
+    nobody_in_check (read_fault other again keeps same) checks = same
+    nobody_in_check (memory keeps same) checks = same
+
+    -- an answer that is due is written, or memory ran out, unless a fault was counted
+    pub written_or_memory : (due : Due) {o : Outcome} → IsDue job bytes due → HasText due.outcome → Ends words bytes old new before after o
+        → o ≢ ends.ReadFault → o ≢ ends.WriteFault
+        → (status_of o ≡ 7) ⊎ ((status_of o ≡ status_of due.outcome) × Appends old new (concat due.pages))
+    written_or_memory due is text (refused r keeps same) calm quiet = absurd (r asked.0)
+    written_or_memory due is text (as_due other found again so gained left) calm quiet =
+        let same : found ≡ due = same_due job bytes (asked_due other again so) is in
+        inr (ap (λ (x : Due). status_of x.outcome) same, subst (λ (x : Due). Appends old new (concat x.pages)) same gained)
+    written_or_memory due is text (write_fault other found again so t front told) calm quiet = absurd (quiet refl)
+    written_or_memory due is text (exhausted other again h keeps same) calm quiet =
+        absurd (fits_with_text other bytes h (subst (λ (j : Job). IsDue j bytes due) (same_job words job other asked again) is) text)
+    written_or_memory due is text (read_fault other again keeps same) calm quiet = absurd (calm refl)
+    written_or_memory due is text (memory keeps same) calm quiet = inl refl

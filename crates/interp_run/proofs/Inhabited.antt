@@ -1,0 +1,214 @@
+-- What is due for a worked file of two points over two inputs, in modes anf, basis and check: the premises of the headline
+-- are met.
+use Rattle.std.proofs.Common.{◌≡◌, subst, sym, refl, ℕ, ◌≤◌, ◌^◌, ◌⊎◌, List, [], ◌∷◌, ◌++◌, codes, Ok, length, drop, zero, suc}
+use Rattle.std.proofs.Common.{inl, inr, lit<, lit≤, arith}
+use Rattle.std.specs.List.Sorted.{IsStrictlyIncreasing}
+use Rattle.std.proofs.lemmas.Bool.{false≢true}
+use Rattle.std.proofs.lemmas.List.Elements.{All-nil, All-cons}
+use Rattle.lattice.specs.Family.{AreDisjoint, includes, combine, family_where, numbers_below, has, divides}
+use Rattle.lattice.specs.Polynomial.{value, ones_of}
+use Rattle.lattice.specs.Cofactors.{low_cofactor, high_cofactor, join, sub}
+use Rattle.lattice.specs.Interpolation.{interpolate, upper_zeros, upper_ones, lower_points}
+use Rattle.lattice.specs.Basis.{basis_element_of, has_divisors, leads_of, normal_form_of, standard_of}
+use Rattle.lattice.specs.Rows.{IsConsistent, cube, cover, on_set, off_set, rows_with, points_where, in_cube}
+use Rattle.lattice.specs.WorkingLists.{working_set, distinct, ones_list, interpolation_list, standard_list, leads_list, normal_form_list}
+use Rattle.lattice.specs.WorkingLists.{basis_element_list, cover_list, care_list, output_list, output_leads_list, output_basis_list}
+use Rattle.lattice.specs.WorkingLists.{first_phase, second_phase}
+use Rattle.lattice.specs.declared.kind.Kind.TheVariants.{Fr}
+use Rattle.lattice.specs.declared.kind.Mode.{Mode}
+use Rattle.lattice.specs.declared.kind.Mode.TheVariants.{Anf, Basis, Check}
+use Rattle.lattice.specs.declared.row.Row.{Row}
+use Rattle.lattice.proofs.Polynomials.{disjoint_from_test}
+use Rattle.pla_reader.specs.PlainNames.{are_plain, is_plain}
+use Rattle.pla_reader.specs.Lines.{content, words_of}
+use Rattle.pla_reader.specs.Grammar.{kind_named, command_fault, arguments_on, arguments_of, symbols, size_fault, kind_fault, names_fault}
+use Rattle.pla_reader.specs.Grammar.{row_fault, fault_of}
+use Rattle.pla_reader.specs.Description.{FitsSizes}
+use Rattle.pla_reader.specs.declared.pla.Pla.{Pla}
+use Rattle.pla_reader.specs.Reading.{Description, input_mask, output_mask, row_of, rows_of, up_to_end, first_fault, description}
+use Rattle.pla_reader.specs.Reading.{description_of, reading_of, bytes_taken}
+use Rattle.anf_printer.specs.Text.{numbered, printed_names, variables_of, monomial_text, sum_text, line, basis_lines, output_text, texts_of}
+use Rattle.cert_check.specs.Faults.{first_verdict, misses, is_one_in, greatest_of, is_comparable, is_below_last, has_no_lead}
+use Rattle.cert_check.specs.Faults.{is_out_of_order, is_divided, miscounts, basis_checks, reduced_checks, output_checks, checks_from}
+use Rattle.cert_check.specs.Faults.{verdict_on}
+use Rattle.cert_check.specs.Reading.{answer_reading, bare, is_term, is_sum, is_line, terms_in, factors_of, factors_product, monomial_of}
+use Rattle.cert_check.specs.Reading.{monomials_of, are_known, ascends_from, are_ordered, left_fault, right_fault, line_fault, with_element}
+use Rattle.cert_check.specs.Reading.{with_line, read_on}
+use Rattle.cert_check.specs.declared.answer.GivenOutput.{GivenOutput}
+use Rattle.cert_check.specs.declared.refusal.Verdict.{Verdict}
+use Rattle.cert_check.specs.declared.refusal.Verdict.TheVariants.{Yes}
+use Rattle.watch.specs.declared.note.Note.{Note}
+use Rattle.interp_run.specs.Answers.{first_count, second_count, last_nodes, texts, notes_from}
+use Rattle.interp_run.specs.Due.{IsDue, IsDueChecking, IsDueSolving, checking, done, judged, most_bytes, most_checked_inputs, solving}
+use Rattle.interp_run.specs.Due.{verdict}
+use Rattle.interp_run.specs.Laws.{two_points, usual_job}
+use Rattle.interp_run.specs.declared.outcome.Outcome.TheVariants as ends
+use Rattle.interp_run.proofs.Endings.{file_read, given_read}
+use Rattle.interp_run.proofs.SolvedAnswers.{answers_are, answers_for}
+
+abbrev first_row : Row
+first_row = record { line = 6; care = 3; value = 3; on = 1; off = 0; dc = 0 }
+
+abbrev second_row : Row
+second_row = record { line = 7; care = 3; value = 0; on = 0; off = 1; dc = 0 }
+
+rows : List Row
+rows = first_row ∷ second_row ∷ []
+
+fits_first : FitsSizes 2 1 Fr first_row
+unfolding divides
+fits_first = record {
+  care = lit< tt;
+  value = refl;
+  on = lit< tt;
+  off = lit< tt;
+  dc = lit< tt;
+  on_or_off = refl;
+  on_or_dc = refl;
+  off_or_dc
+      = refl;
+  no_off = λ e. refl;
+  no_dc = λ e. refl;
+}
+
+fits_second : FitsSizes 2 1 Fr second_row
+unfolding divides
+fits_second = record {
+  care = lit< tt;
+  value = refl;
+  on = lit< tt;
+  off = lit< tt;
+  dc = lit< tt;
+  on_or_off = refl;
+  on_or_dc = refl;
+  off_or_dc = refl;
+  no_off
+      = λ e. absurd (false≢true (sym e));
+  no_dc = λ e. refl;
+}
+
+ascend : IsStrictlyIncreasing (6 ∷ 7 ∷ [])
+ascend zero within = lit< tt
+ascend (suc k) within = absurd (omega (arith, within))
+
+p : Pla
+unfolding rows
+p = record {
+  inputs = 2;
+  outputs = 1;
+  kind = Fr;
+  rows = rows;
+  in_names = codes "a" ∷ codes "b" ∷ [];
+  out_names = codes "f" ∷ [];
+  fits = record {
+    some_inputs = lit≤ tt;
+    few_inputs = lit≤ tt;
+    some_outputs = lit≤ tt;
+    few_outputs = lit≤ tt;
+    few_rows = lit≤ tt;
+    lines_ascend = ascend;
+    rows_fit = All-cons (FitsSizes 2 1 Fr) first_row (second_row ∷ []) fits_first
+        (All-cons (FitsSizes 2 1 Fr) second_row [] fits_second (All-nil (FitsSizes 2 1 Fr)));
+    in_count = λ some. refl;
+    out_count = λ some. refl;
+  };
+}
+
+abbrev d : Description
+d = description p
+
+reads : reading_of two_points ≡ Ok d
+unfolding rows p reading_of first_fault fault_of description_of up_to_end content words_of kind_named command_fault arguments_on
+    arguments_of symbols size_fault kind_fault names_fault row_fault rows_of row_of input_mask output_mask
+reads = refl
+
+consistent_at : AreDisjoint (on_set 2 rows 1) (off_set 2 rows 1)
+unfolding rows cover rows_with in_cube family_where numbers_below divides
+consistent_at = disjoint_from_test (3 ∷ []) (0 ∷ []) refl
+
+consistent : IsConsistent p.inputs p.outputs p.rows
+unfolding p
+consistent output first last = let e : 1 ≡ output = omega (arith, first, last) in
+    subst (λ (k : ℕ). AreDisjoint (on_set 2 rows k) (off_set 2 rows k)) e consistent_at
+
+short : length two_points ≤ most_bytes
+short = lit≤ tt
+
+-- ---- modes anf and basis
+
+abbrev Fits : Mode → (pages : List (List ℕ)) → (notes : List Note) → Type 0
+Fits mode pages notes =
+    (first_count (answers_for d mode) ≤ 1000000) × (last_nodes d mode ≤ 2 ^ 19) × (second_count (answers_for d mode) ≤ 1000000)
+    × (texts d mode (answers_for d mode) ≡ pages) × (notes_from 1 (answers_for d mode) ≡ notes)
+
+due_of : (mode : Mode) (pages : List (List ℕ)) (notes : List Note) → (mode ≡ Anf) ⊎ (mode ≡ Basis) → Fits mode pages notes
+    → IsDue (usual_job mode) two_points (record { outcome = ends.Done; pages = pages; notes = notes })
+due_of mode pages notes solves fits =
+    solving d _ (file_read (usual_job mode) two_points d short reads) solves
+    (subst (IsDueSolving (usual_job mode) d) (λ i. record { outcome = ends.Done; pages = fits.3 i; notes = fits.4 i })
+    (done (answers_for d mode) (answers_are d mode consistent) fits.0 fits.1 fits.2))
+
+anf_fits : Fits Anf (codes "f = b\n" ∷ []) (record { output = 1; terms = 1; basis = 0 } ∷ [])
+unfolding rows p working_set distinct ones_list interpolation_list cover_list care_list output_list first_phase second_phase sub includes
+    interpolate upper_zeros upper_ones lower_points ones_of combine family_where numbers_below low_cofactor high_cofactor join has value
+    divides cube cover rows_with points_where in_cube are_plain is_plain numbered printed_names variables_of monomial_text sum_text
+    line basis_lines output_text texts_of notes_from
+anf_fits = (lit≤ tt, lit≤ tt, lit≤ tt, refl, refl)
+
+basis_fits : Fits Basis (codes "f = b\n0 = a + b\n" ∷ []) (record { output = 1; terms = 1; basis = 1 } ∷ [])
+unfolding rows p working_set distinct ones_list interpolation_list cover_list care_list output_list first_phase second_phase sub includes
+    interpolate upper_zeros upper_ones lower_points ones_of combine family_where numbers_below low_cofactor high_cofactor join has value
+    divides cube cover rows_with points_where in_cube are_plain is_plain numbered printed_names variables_of monomial_text sum_text
+    line basis_lines output_text texts_of notes_from standard_list leads_list normal_form_list basis_element_list output_leads_list
+    output_basis_list basis_element_of has_divisors leads_of normal_form_of standard_of
+basis_fits = (lit≤ tt, lit≤ tt, lit≤ tt, refl, refl)
+
+pub due_in_anf : IsDue (usual_job Anf) two_points
+    (record { outcome = ends.Done; pages = codes "f = b\n" ∷ []; notes = record { output = 1; terms = 1; basis = 0 } ∷ [] })
+due_in_anf = due_of Anf _ _ (inl refl) anf_fits
+
+pub due_in_basis : IsDue (usual_job Basis) two_points
+    (record { outcome = ends.Done; pages = codes "f = b\n0 = a + b\n" ∷ []; notes = record { output = 1; terms = 1; basis = 1 } ∷ [] })
+due_in_basis = due_of Basis _ _ (inr refl) basis_fits
+
+-- ---- mode check
+
+abbrev text : List ℕ
+text = codes "f = b\n0 = a + b\n"
+
+answer : List GivenOutput
+answer = record { poly = record { terms = 1 ∷ []; line = 1 }; basis = record { terms = 2 ∷ 1 ∷ []; line = 2 } ∷ [] } ∷ []
+
+answered : answer_reading p text ≡ Ok answer
+unfolding p answer is_plain are_plain includes numbered printed_names bare is_term is_sum is_line terms_in factors_of factors_product
+    monomial_of monomials_of are_known ascends_from are_ordered left_fault right_fault line_fault with_element with_line read_on
+answered = refl
+
+reads_too : reading_of (two_points ++ text) ≡ Ok (description p)
+unfolding p rows reading_of first_fault fault_of description_of up_to_end content words_of kind_named command_fault arguments_on
+    arguments_of symbols size_fault kind_fault names_fault row_fault rows_of row_of input_mask output_mask
+reads_too = refl
+
+text_is : drop (bytes_taken (two_points ++ text)) (two_points ++ text) ≡ text
+unfolding bytes_taken up_to_end content words_of arguments_on
+text_is = refl
+
+verdict_is : verdict_on p answer ≡ Yes
+unfolding p answer rows first_verdict misses is_one_in greatest_of is_comparable is_below_last has_no_lead is_out_of_order is_divided
+    miscounts basis_checks reduced_checks output_checks checks_from value divides numbers_below family_where has combine cover rows_with
+    points_where in_cube
+verdict_is = refl
+
+few : p.inputs ≤ most_checked_inputs
+unfolding p
+few = lit≤ tt
+
+short_too : length (two_points ++ text) ≤ most_bytes
+short_too = lit≤ tt
+
+pub due_in_check : IsDue (usual_job Check) (two_points ++ text) (judged Yes)
+due_in_check =
+    checking p (judged Yes) (file_read (usual_job Check) (two_points ++ text) (description p) short_too reads_too) refl
+    (subst (λ (t : List ℕ). IsDueChecking p t (judged Yes)) (sym text_is)
+    (subst (λ (v : Verdict). IsDueChecking p text (judged v)) verdict_is
+    (verdict answer (given_read p text answer few answered) consistent)))

@@ -1,0 +1,402 @@
+-- Words ask for one job at most. Exactly one thing is due for a job and bytes that have a file; it is no fault of the run.
+use Rattle.std.proofs.Common.{◌≡◌, ◌≢◌, ◌∙◌, ap, ℕ, zero, suc, ◌<◌, length, List, [], ◌∷◌, Option, Some, refl, sym, inl, inr, ◌⊎◌, ⊎_elim}
+use Rattle.std.proofs.Common.{arith, subst, Bool, true, false, ap₂, ◌+◌, ◌^◌, ◌≤◌, cond, ◌++◌, get_or, codes, None, drop}
+use Rattle.std.specs.Prelude.{Contains, Result, Ok, Err, if◌then◌else◌, nat_lt, length, ◌↔◌, IsNone, IfSome}
+use Rattle.std.specs.List.{slice_index_or}
+use Rattle.lattice.specs.declared.kind.Mode.{Mode}
+use Rattle.lattice.specs.declared.kind.Mode.TheVariants.{Anf, Basis, Check, Gen}
+use Rattle.cli_words.specs.CommandLine.{mode_name, modes}
+use Rattle.cli_words.specs.declared.job.Job.{Job}
+use Rattle.interp_run.specs.Run.{IsAsked}
+use Rattle.std.proofs.lemmas.Bool.{false≢true, cases_Bool, le-ltb, lt-ltb, cases_lt}
+use Rattle.pla_reader.specs.Reading.{Description, reading_of, description, bytes_taken}
+use Rattle.pla_reader.specs.declared.pla.Pla.{Pla}
+use Rattle.cert_check.specs.Faults.{verdict_on, checks_from, first_verdict, output_checks, Check as Test}
+use Rattle.cert_check.specs.Reading.{answer_reading, read_on}
+use Rattle.cert_check.specs.declared.refusal.Verdict.{Verdict}
+use Rattle.cert_check.specs.declared.refusal.Verdict.TheVariants.{Yes, No}
+use Rattle.interp_run.specs.Due.{Due, HasText, IsDue, IsDueChecking, IsDueSolving, checking, contradiction, contradiction_behind, done}
+use Rattle.interp_run.specs.Due.{first_nodes_over, first_terms_over, judged, judged_outcome, last_nodes_over, last_terms_over, most_bytes}
+use Rattle.interp_run.specs.Due.{most_checked_inputs, no_answer, no_file, or_ends, silent, solving, verdict, IsExhausted, contradicted}
+use Rattle.interp_run.specs.Due.{file_of, given_of, solved}
+use Rattle.interp_run.specs.Parts.{EndsWithout, due_without, exhausted_without, no_memory}
+use Rattle.interp_run.specs.declared.outcome.Outcome.{Outcome}
+use Rattle.std.proofs.lemmas.List.{same_lists}
+use Rattle.std.proofs.lemmas.Option.{slice_get-get_or}
+use Rattle.lattice.specs.Rows.{IsConsistent, care_zeros, care_ones}
+use Rattle.lattice.specs.WorkingLists.{care_set, is_basis}
+use Rattle.lattice.specs.declared.row.Row.{Row}
+use Rattle.lattice.proofs.Polynomials.{IsLeast-unique, IsReducedBasis-unique, consistent_by_rows}
+use Rattle.pla_reader.specs.Lines.{lines_of}
+use Rattle.anf_printer.specs.Text.{Answer, printed_names, input_names, output_names}
+use Rattle.cube_sets.specs.Clashes.{IsClash, IsLeastOf, IsNotAfter}
+use Rattle.cube_sets.specs.declared.clash.Clash.{Clash}
+use Rattle.cert_check.specs.declared.answer.GivenOutput.{GivenOutput}
+use Rattle.interp_run.specs.Answers.{AreAnswers, IsAnswerOf, first_count, second_count, first_nodes, last_nodes}
+use Rattle.interp_run.proofs.SolvedAnswers.{answers_are, answers_for, first_within_last}
+use Rattle.anf_printer.proofs.PrintedLists.{count_printed}
+use Rattle.cert_check.specs.Right.{IsRight}
+use Rattle.cert_check.proofs.Verdicts.{answer_fits, yes_where_right}
+use Rattle.interp_run.specs.declared.outcome.Outcome.TheVariants as ends
+
+-- ==== the one job that words ask for
+
+-- the first letter of a name
+initial : List ℕ → ℕ
+initial [] = 0
+initial (x ∷ xs) = x
+
+same_mode : (m k : Mode) → mode_name m ≡ mode_name k → m ≡ k
+unfolding initial
+same_mode Anf Anf e = refl
+same_mode Basis Basis e = refl
+same_mode Check Check e = refl
+same_mode Gen Gen e = refl
+same_mode m k e = let bad : initial (mode_name m) ≡ initial (mode_name k) = ap initial e in absurd (omega (arith, bad))
+
+some_is : {X : Type 0} {x y : X} → Some x ≡ Some y → x ≡ y
+some_is e = cc
+
+pub same_job : (words : List (List ℕ)) (a b : Job) → IsAsked words a → IsAsked words b → a ≡ b
+same_job words a b x y =
+    let mode = same_mode a.mode b.mode (some_is (sym x.1.mode ∙ y.1.mode)) in
+    let workers : a.workers ≡ b.workers = some_is (sym x.1.workers ∙ y.1.workers) in
+    let nodes : a.nodes ≡ b.nodes = some_is (sym x.1.nodes ∙ y.1.nodes) in
+    let terms : a.terms ≡ b.terms = some_is (sym x.1.terms ∙ y.1.terms) in
+    let seed : a.seed ≡ b.seed = some_is (sym x.1.seed ∙ y.1.seed) in
+    λ i. record { mode = mode i; workers = workers i; nodes = nodes i; terms = terms i; seed = seed i }
+
+-- the command asks for no other mode
+pub mode_cases : (m : Mode) → Contains modes m → ((m ≡ Anf) ⊎ (m ≡ Basis)) ⊎ (m ≡ Check)
+mode_cases Anf h = inl (inl refl)
+mode_cases Basis h = inl (inr refl)
+mode_cases Check h = inr refl
+mode_cases Gen h = absurd (no_gen h.0 h.1 h.2)
+  where
+    no_gen : (k : ℕ) → k < length modes → slice_index_or modes k Gen ≡ Gen → ⊥
+    no_gen zero l e = cc
+    no_gen (suc zero) l e = cc
+    no_gen (suc (suc zero)) l e = cc
+    no_gen (suc (suc (suc k))) l e = omega (arith, l)
+
+-- ==== exactly one thing is due for a job and bytes that have a file: it is no fault of the run, and right answers are due yes
+
+-- ==== what is due is never a fault of the run, and has texts and notes only where it has an answer
+
+-- whether bytes and words alone can bring a run to this end
+abbrev pub is_owed : Outcome → Bool
+is_owed ends.Usage = false
+is_owed ends.Memory = false
+is_owed ends.ReadFault = false
+is_owed ends.WriteFault = false
+is_owed _ = true
+
+error_owed : {T E : Type 0} (test : Bool) (first o : Outcome) (end : E → Outcome) (r : Result T E) → is_owed first ≡ true
+    → ((e : E) → is_owed (end e) ≡ true)
+    → (if test then Err first else or_ends end r) ≡ Err o → is_owed o ≡ true
+error_owed true first o end r a b e = let same : first ≡ o = cc in ap is_owed (sym same) ∙ a
+error_owed false first o end (Ok x) a b e = cc
+error_owed false first o end (Err y) a b e = let same : end y ≡ o = cc in ap is_owed (sym same) ∙ b y
+
+-- the modes that solve are not the one that checks
+pub other_mode : (m : Mode) → (m ≡ Anf) ⊎ (m ≡ Basis) → m ≡ Check → ⊥
+other_mode m (inl a) c = let bad = sym a ∙ c in cc
+other_mode m (inr b) c = let bad = sym b ∙ c in cc
+
+-- no fault of the run, with texts only where there is an answer, and with notes only where it was written whole
+abbrev pub Shape : Due → Type 0
+Shape due = (is_owed due.outcome ≡ true) × (HasText due.outcome ⊎ (due.pages ≡ [])) × ((due.outcome ≡ ends.Done) ⊎ (due.notes ≡ []))
+
+silent_shape : (o : Outcome) → is_owed o ≡ true → Shape (silent o)
+silent_shape o owed = (owed, inr refl, inr refl)
+
+judged_shape : (v : Verdict) → Shape (judged v)
+judged_shape Yes = (refl, inl tt, inr refl)
+judged_shape (No line why) = (refl, inl tt, inr refl)
+
+module _ (job : Job) where
+  solving_shape : (d : Description) {due : Due} → IsDueSolving job d due → Shape due
+  solving_shape d (done answers are few fits all) = (refl, inl tt, inl refl)
+  solving_shape d _ = silent_shape _ refl
+
+  checking_shape : (p : Pla) (text : List ℕ) {due : Due} → IsDueChecking p text due → Shape due × (due.notes ≡ [])
+  checking_shape p text (no_answer o e) =
+      (silent_shape o (error_owed (nat_lt most_checked_inputs p.inputs) ends.TooWide o _ (answer_reading p text) refl (λ r. refl) e), refl)
+  checking_shape p text (contradiction_behind answer c e least) = (silent_shape _ refl, refl)
+  checking_shape p text (verdict answer e ok) = (judged_shape (verdict_on p answer), refl)
+
+  pub shape : (bytes : List ℕ) {due : Due} → IsDue job bytes due → Shape due
+  shape bytes (no_file o e) = silent_shape o
+      (error_owed (nat_lt most_bytes (length bytes)) ends.TooLong o _ (reading_of bytes) refl (λ r. refl) e)
+  shape bytes (solving d due e mode is) = solving_shape d is
+  shape bytes (checking p due e mode is) = (checking_shape p _ is).0
+
+  pub check_silent : (bytes : List ℕ) {due : Due} → IsDue job bytes due → job.mode ≡ Check → due.notes ≡ []
+  check_silent bytes (no_file o e) checks = refl
+  check_silent bytes (solving d due e mode is) checks = absurd (other_mode job.mode mode checks)
+  check_silent bytes (checking p due e mode is) checks = (checking_shape p _ is).1
+
+  -- an end without an answer is no fault
+  pub without_owed : (bytes : List ℕ) {o : Outcome} → EndsWithout job bytes o → (o ≢ ends.Usage) × (o ≢ ends.ReadFault)
+      × (o ≢ ends.WriteFault)
+  without_owed bytes (due_without o is) =
+      let fault = λ (p : Outcome) (bad : is_owed p ≡ false) (e : o ≡ p). false≢true (sym bad ∙ (sym (ap is_owed e) ∙ (shape bytes is).0)) in
+      (fault ends.Usage refl, fault ends.ReadFault refl, fault ends.WriteFault refl)
+  without_owed bytes (exhausted_without h) = (λ e. cc, λ e. cc, λ e. cc)
+  without_owed bytes no_memory = (λ e. cc, λ e. cc, λ e. cc)
+
+-- a job of mode check
+checking_job : Job
+checking_job = record { mode = Check; workers = 1; nodes = 4; terms = 1; seed = 0 }
+
+pub unjudged_owed : (bytes : List ℕ) {o : Outcome} → ((job : Job) → job.mode ≡ Check → EndsWithout job bytes o) → (o ≢ ends.Usage)
+    × (o ≢ ends.ReadFault) × (o ≢ ends.WriteFault)
+unfolding checking_job
+unjudged_owed bytes h = without_owed checking_job bytes (h checking_job refl)
+
+pub checked_owed : (v : Verdict) → (judged_outcome v ≢ ends.Usage) × (judged_outcome v ≢ ends.ReadFault)
+    × (judged_outcome v ≢ ends.WriteFault)
+checked_owed Yes = (λ e. cc, λ e. cc, λ e. cc)
+checked_owed (No line why) = (λ e. cc, λ e. cc, λ e. cc)
+
+-- ==== only one thing is due for a job and bytes
+
+or_else : {D E : Type 0} → D → Result D E → D
+or_else d (Ok x) = x
+or_else d (Err e) = d
+
+ok_is : {D E : Type 0} (x y : D) (r : Result D E) → r ≡ Ok x → r ≡ Ok y → x ≡ y
+unfolding or_else
+ok_is x y r a b = ap (or_else x) (sym a ∙ b)
+
+err_is : {D E : Type 0} {x y : E} (r : Result D E) → r ≡ Err x → r ≡ Err y → x ≡ y
+err_is {D = D} {E = E} {x = x} {y = y} r a b = let same : ◌≡◌ {A = Result D E} (Err x) (Err y) = sym a ∙ b in cc
+
+-- ---- one answer
+
+same_output : (d : Description) (mode : Mode) (output : ℕ) (a b : Answer) → IsAnswerOf d mode output a → IsAnswerOf d mode output b → a ≡ b
+same_output d mode output a b x y =
+    let p = IsLeast-unique d.inputs (care_zeros d.inputs d.kind d.rows output) (care_ones d.inputs d.kind d.rows output) a.polynomial
+    b.polynomial x.least y.least in
+    let q : a.basis ≡ b.basis = elim (cases_Bool (is_basis mode)) [
+      | inl is ↦ IsReducedBasis-unique d.inputs (care_set d.inputs d.kind d.rows output) a.basis b.basis (x.basis is) (y.basis is)
+      | inr is ↦ x.bare is ∙ sym (y.bare is)
+    ] in
+    λ i. record { polynomial = p i; basis = q i }
+
+same_answers : (d : Description) (mode : Mode) (xs ys : List Answer) → AreAnswers d mode xs → AreAnswers d mode ys → xs ≡ ys
+same_answers d mode xs ys a b = same_lists xs ys (a.count ∙ sym b.count) (λ k e within.
+    same_output d mode (k + 1) (get_or xs k e) (get_or ys k e)
+    (a.each k (get_or xs k e) (slice_get-get_or xs k e within))
+    (b.each k (get_or ys k e) (slice_get-get_or ys k e (omega (arith, a.count, b.count, within)))))
+
+-- ---- one contradiction
+
+no_clash : (n outputs : ℕ) (rows : List Row) (c : Clash) → IsConsistent n outputs rows → IsClash n outputs rows rows c → ⊥
+no_clash n outputs rows c consistent clash = (consistent_by_rows n outputs rows).0 consistent c.output clash.shared.point clash.on_row
+    clash.off_row clash.first clash.last clash.shared.below clash.on clash.off clash.shared.in_first clash.shared.in_second
+
+neither_after : (c e : Clash) → IsNotAfter c e → IsNotAfter e c → c ≡ e
+neither_after c e (inr (o, inr (l, a))) (inr (p, inr (m, b))) = let f : c.off_line ≡ e.off_line = omega (arith, a, b) in
+    λ i. record { output = o i; on_line = l i; off_line = f i }
+neither_after c e (inr (o, inr (l, a))) (inr (p, inl m)) = absurd (omega (arith, l, m))
+neither_after c e (inr (o, inl l)) (inr (p, inl m)) = absurd (omega (arith, l, m))
+neither_after c e (inr (o, inl l)) (inr (p, inr m)) = absurd (omega (arith, l, m.0))
+neither_after c e (inr a) (inl b) = absurd (omega (arith, a.0, b))
+neither_after c e (inl a) (inl b) = absurd (omega (arith, a, b))
+neither_after c e (inl a) (inr b) = absurd (omega (arith, a, b.0))
+
+one_least : (holds : Clash → Type 0) (c e : Clash) → IsLeastOf holds c → IsLeastOf holds e → c ≡ e
+one_least holds c e a b = neither_after c e (a.least e b.clash) (b.least c a.clash)
+
+-- ---- one end in modes anf and basis
+
+-- the first of these limits that is passed
+abbrev first_passed : (nodes terms first_nodes first_terms last_nodes last_terms : ℕ) → Due → Due
+first_passed nodes terms n t m u due =
+    cond (nat_lt nodes n) (silent (ends.Exhausted nodes)) (cond (nat_lt terms t) (silent (ends.Terms terms))
+    (cond (nat_lt nodes m) (silent (ends.Exhausted nodes)) (cond (nat_lt terms u) (silent (ends.Terms terms)) due)))
+
+module _ (nodes terms n t m u : ℕ) (due : Due) where
+  at_first_nodes : nodes < n → silent (ends.Exhausted nodes) ≡ first_passed nodes terms n t m u due
+  at_first_nodes a = rw (lt-ltb nodes n a) refl
+
+  at_first_terms : n ≤ nodes → terms < t → silent (ends.Terms terms) ≡ first_passed nodes terms n t m u due
+  at_first_terms a b = rw (le-ltb nodes n a, lt-ltb terms t b) refl
+
+  at_last_nodes : n ≤ nodes → t ≤ terms → nodes < m → silent (ends.Exhausted nodes) ≡ first_passed nodes terms n t m u due
+  at_last_nodes a b c = rw (le-ltb nodes n a, le-ltb terms t b, lt-ltb nodes m c) refl
+
+  at_last_terms : n ≤ nodes → t ≤ terms → m ≤ nodes → terms < u → silent (ends.Terms terms) ≡ first_passed nodes terms n t m u due
+  at_last_terms a b c d = rw (le-ltb nodes n a, le-ltb terms t b, le-ltb nodes m c, lt-ltb terms u d) refl
+
+  at_none : n ≤ nodes → t ≤ terms → m ≤ nodes → u ≤ terms → due ≡ first_passed nodes terms n t m u due
+  at_none a b c d = rw (le-ltb nodes n a, le-ltb terms t b, le-ltb nodes m c, le-ltb terms u d) refl
+
+module _ (job : Job) (d : Description) where
+  abbrev due_by : List Answer → Due
+  due_by answers = first_passed (2 ^ job.nodes) job.terms (first_nodes d job.mode) (first_count answers) (last_nodes d job.mode)
+      (second_count answers) (solved job d answers)
+
+  abbrev IsFound : Due → Type 0
+  IsFound due = ((c : Clash) × IsLeastOf (IsClash d.inputs d.outputs d.rows d.rows) c × (due ≡ contradicted c))
+      ⊎ (IsConsistent d.inputs d.outputs d.rows × (due ≡ due_by (answers_for d job.mode)))
+
+  found_by : {due : Due} (answers : List Answer) → AreAnswers d job.mode answers → due ≡ due_by answers → IsFound due
+  found_by answers are is = inr (
+    are.consistent,
+    is
+        ∙ ap due_by (same_answers d job.mode answers (answers_for d job.mode) are (answers_are d job.mode are.consistent)),
+  )
+
+  abbrev fits : last_nodes d job.mode ≤ 2 ^ job.nodes → first_nodes d job.mode ≤ 2 ^ job.nodes
+  fits last = let within = first_within_last d job.mode in omega (arith, within, last)
+
+  found : {due : Due} → IsDueSolving job d due → IsFound due
+  found (contradiction c least) = inl (c, least, refl)
+  found (first_nodes_over ok over) = inr (ok, at_first_nodes (2 ^ job.nodes) job.terms _ _ _ _ _ over)
+  found (first_terms_over answers are first over) = found_by answers are (at_first_terms (2 ^ job.nodes) job.terms _ _ _ _ _ first over)
+  found (last_nodes_over answers are first few over) = found_by answers are
+      (at_last_nodes (2 ^ job.nodes) job.terms _ _ _ _ _ first few over)
+  found (last_terms_over answers are few last over) = found_by answers are
+      (at_last_terms (2 ^ job.nodes) job.terms _ _ _ _ _ (fits last) few last over)
+  found (done answers are few last all) = found_by answers are (at_none (2 ^ job.nodes) job.terms _ _ _ _ _ (fits last) few last all)
+
+  fits_solved : {due : Due} → IsDueSolving job d due → HasText due.outcome → last_nodes d job.mode ≤ 2 ^ job.nodes
+  fits_solved (done answers are few last all) text = last
+  fits_solved _ text = absurd text
+
+  same_found : {a b : Due} → IsFound a → IsFound b → a ≡ b
+  same_found (inl x) (inl y) = x.2 ∙ (ap contradicted (one_least _ x.0 y.0 x.1 y.1) ∙ sym y.2)
+  same_found (inl x) (inr y) = absurd (no_clash d.inputs d.outputs d.rows x.0 y.0 x.1.clash)
+  same_found (inr x) (inl y) = absurd (no_clash d.inputs d.outputs d.rows y.0 x.0 y.1.clash)
+  same_found (inr x) (inr y) = x.1 ∙ sym y.1
+
+-- ---- one end in mode check
+
+module _ (p q : Pla) (e : description p ≡ description q) (text : List ℕ) where
+  same_given : given_of p text ≡ given_of q text
+  same_given =
+      ap (λ (d : Description). if nat_lt most_checked_inputs d.inputs then Err ends.TooWide else or_ends
+      (λ (r : _). ends.AnswerText r.0 r.1)
+      (read_on (printed_names (codes "x") d.inputs d.in_names) (printed_names (codes "f") d.outputs d.out_names) 0 [] (lines_of text))) e
+
+  same_checks : (output : ℕ) (answer : List GivenOutput) → checks_from p output answer ≡ checks_from q output answer
+  unfolding checks_from
+  same_checks output [] = refl
+  same_checks output (given ∷ answer) =
+      ap₂ (λ (a b : List Test). a ++ b)
+      (ap (λ (d : Description). output_checks d.inputs (care_zeros d.inputs d.kind d.rows output) (care_ones d.inputs d.kind d.rows output)
+      (care_set d.inputs d.kind d.rows output) given) e)
+      (same_checks (output + 1) answer)
+
+  consistent_too : IsConsistent p.inputs p.outputs p.rows → IsConsistent q.inputs q.outputs q.rows
+  consistent_too ok = subst (λ (d : Description). IsConsistent d.inputs d.outputs d.rows) e ok
+
+  least_too : (c : Clash) → IsLeastOf (IsClash p.inputs p.outputs p.rows p.rows) c → IsLeastOf (IsClash q.inputs q.outputs q.rows q.rows) c
+  least_too c least = subst (λ (d : Description). IsLeastOf (IsClash d.inputs d.outputs d.rows d.rows) c) e least
+
+  same_checking : {a b : Due} → IsDueChecking p text a → IsDueChecking q text b → a ≡ b
+  same_checking (no_answer o x) (no_answer u y) = ap silent (err_is (given_of q text) (sym same_given ∙ x) y)
+  same_checking (no_answer o x) (contradiction_behind answer c y least) = let bad = sym x ∙ (same_given ∙ y) in cc
+  same_checking (no_answer o x) (verdict answer y ok) = let bad = sym x ∙ (same_given ∙ y) in cc
+  same_checking (contradiction_behind answer c x least) (no_answer u y) = let bad = sym x ∙ (same_given ∙ y) in cc
+  same_checking (verdict answer x ok) (no_answer u y) = let bad = sym x ∙ (same_given ∙ y) in cc
+  same_checking (contradiction_behind answer c x least) (contradiction_behind other f y least') = ap contradicted
+      (one_least _ c f (least_too c least) least')
+  same_checking (contradiction_behind answer c x least) (verdict other y ok) = absurd
+      (no_clash q.inputs q.outputs q.rows c ok (least_too c least).clash)
+  same_checking (verdict answer x ok) (contradiction_behind other c y least) = absurd
+      (no_clash q.inputs q.outputs q.rows c (consistent_too ok) least.clash)
+  same_checking (verdict answer x ok) (verdict other y ok') =
+      ap (λ (checks : List Test). judged (first_verdict checks)) (same_checks 1 answer
+      ∙ ap (checks_from q 1) (ok_is answer other (given_of q text) (sym same_given ∙ x) y))
+
+-- ---- one end
+
+module _ (job : Job) (bytes : List ℕ) where
+  pub same_due : {a b : Due} → IsDue job bytes a → IsDue job bytes b → a ≡ b
+  same_due (no_file o x) (no_file u y) = ap silent (err_is (file_of job bytes) x y)
+  same_due (no_file o x) (solving d due y mode is) = let bad = sym x ∙ y in cc
+  same_due (no_file o x) (checking p due y mode is) = let bad = sym x ∙ y in cc
+  same_due (solving d due x mode is) (no_file o y) = let bad = sym x ∙ y in cc
+  same_due (checking p due x mode is) (no_file o y) = let bad = sym x ∙ y in cc
+  same_due (solving d due x mode is) (checking p other y checks so) = absurd (other_mode job.mode mode checks)
+  same_due (checking p due x checks is) (solving d other y mode so) = absurd (other_mode job.mode mode checks)
+  same_due (solving d due x mode is) (solving f other y mode' so) =
+      same_found job f (found job f (subst (λ (g : Description). IsDueSolving job g due) (ok_is d f (file_of job bytes) x y) is))
+      (found job f so)
+  same_due (checking p due x mode is) (checking q other y mode' so) = same_checking p q
+      (ok_is (description p) (description q) (file_of job bytes) x y) _ is so
+
+  -- a run that has an answer fits into its slots
+  pub fits_with_text : {due : Due} → IsExhausted job bytes → IsDue job bytes due → HasText due.outcome → ⊥
+  fits_with_text h (no_file o x) text = let bad = sym x ∙ h.file in cc
+  fits_with_text h (checking p due x checks is) text = other_mode job.mode h.mode checks
+  fits_with_text h (solving d due x mode is) text =
+      let same : last_nodes h.description job.mode ≡ last_nodes d job.mode = ap (λ (g : Description). last_nodes g job.mode)
+      (ok_is h.description d (file_of job bytes) h.file x) in
+      let last = fits_solved job d is text in
+      omega (arith, same, last, h.over)
+
+-- ==== something is due for each job on a file, and its verdict is yes exactly where the answer is right
+
+-- ---- in modes anf and basis
+
+some_limit : (job : Job) (d : Description) → IsConsistent d.inputs d.outputs d.rows → (due : Due) × IsDueSolving job d due
+some_limit job d ok =
+    let answers = answers_for d job.mode in
+    let are = answers_are d job.mode ok in
+    ⊎_elim (λ over. (silent (ends.Exhausted (2 ^ job.nodes)), first_nodes_over ok over)) (λ first.
+    ⊎_elim (λ over. (silent (ends.Terms job.terms), first_terms_over answers are first over)) (λ few.
+    ⊎_elim (λ over. (silent (ends.Exhausted (2 ^ job.nodes)), last_nodes_over answers are first few over)) (λ last.
+    ⊎_elim (λ over. (silent (ends.Terms job.terms), last_terms_over answers are few last over))
+    (λ all. (solved job d answers, done answers are few last all))
+    (cases_lt job.terms (second_count answers))) (cases_lt (2 ^ job.nodes) (last_nodes d job.mode)))
+    (cases_lt job.terms (first_count answers))) (cases_lt (2 ^ job.nodes) (first_nodes d job.mode))
+
+-- what a search for contradictions finds
+pub Found : Pla → Type 0
+Found p = IsConsistent p.inputs p.outputs p.rows ⊎ ((c : Clash) × IsLeastOf (IsClash p.inputs p.outputs p.rows p.rows) c)
+
+pub searched : (p : Pla) (o : Option Clash) → (IsNone o → IsConsistent p.inputs p.outputs p.rows)
+    → IfSome o (IsLeastOf (IsClash p.inputs p.outputs p.rows p.rows)) → Found p
+unfolding Found
+searched p None consistent least = inl (consistent refl)
+searched p (Some c) consistent least = inr (c, least)
+
+some_solving : (job : Job) (p : Pla) → Found p → (due : Due) × IsDueSolving job (description p) due
+unfolding Found
+some_solving job p (inl ok) = some_limit job (description p) ok
+some_solving job p (inr h) = (contradicted h.0, contradiction h.0 h.1)
+
+-- ---- in mode check
+
+some_checking : (p : Pla) (text : List ℕ) → Found p → (due : Due) × IsDueChecking p text due
+unfolding Found
+some_checking p text found = go (given_of p text) refl found
+  where
+    go : (r : Result (List GivenOutput) _) → given_of p text ≡ r
+        → IsConsistent p.inputs p.outputs p.rows ⊎ ((c : Clash) × IsLeastOf (IsClash p.inputs p.outputs p.rows p.rows) c) → (due : Due)
+        × IsDueChecking p text due
+    go (Err o) e h = (silent o, no_answer o e)
+    go (Ok answer) e (inl ok) = (judged (verdict_on p answer), verdict answer e ok)
+    go (Ok answer) e (inr h) = (contradicted h.0, contradiction_behind answer h.0 e h.1)
+
+pub some_due : (p : Pla) (job : Job) (bytes : List ℕ) → Found p → ((job.mode ≡ Anf) ⊎ (job.mode ≡ Basis)) ⊎ (job.mode ≡ Check)
+    → file_of job bytes ≡ Ok (description p)
+    → (due : Due) × IsDue job bytes due
+some_due p job bytes found (inl mode) file = let some = some_solving job p found in
+    (some.0, solving (description p) some.0 file mode some.1)
+some_due p job bytes found (inr checks) file = let some = some_checking p (drop (bytes_taken bytes) bytes) found in
+    (some.0, checking p some.0 file checks some.1)
+
+-- ---- right answers
+
+pub yes_right : (p : Pla) (text : List ℕ) (answer : List GivenOutput) → answer_reading p text ≡ Ok answer
+    → (verdict_on p answer ≡ Yes) ↔ IsRight p answer
+yes_right p text answer read =
+    yes_where_right p answer
+    (answer_fits (input_names p) (output_names p) p text (Ok answer)
+    (count_printed (codes "x") p.inputs p.in_names (input_names p) (input_names p) p.fits.in_count refl refl)
+    (count_printed (codes "f") p.outputs p.out_names (output_names p) (output_names p) p.fits.out_count refl refl) read)

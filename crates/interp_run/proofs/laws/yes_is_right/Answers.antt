@@ -1,0 +1,5 @@
+use Rattle.interp_run.proofs.OneDue.{yes_right}
+use Rattle.interp_run.proofs.laws.yes_is_right.Goals as goal
+
+pub returns : goal.returns
+returns c = yes_right

@@ -1,0 +1,47 @@
+-- Laws of what is due. The functions of src/laws.rt have them as their contracts.
+use Rattle.std.specs.Prelude.{◌≡◌, ◌↔◌, List, [], ◌∷◌, ◌++◌, ℕ, Ok, codes}
+use Rattle.std.specs.List.{Contains}
+use Rattle.lattice.specs.declared.kind.Mode.{Mode}
+use Rattle.lattice.specs.declared.kind.Mode.TheVariants.{Anf, Basis, Check}
+use Rattle.pla_reader.specs.Reading.{description}
+use Rattle.pla_reader.specs.declared.pla.Pla.{Pla}
+use Rattle.cert_check.specs.Faults.{verdict_on}
+use Rattle.cert_check.specs.Reading.{answer_reading}
+use Rattle.cert_check.specs.Right.{IsRight}
+use Rattle.cert_check.specs.declared.answer.GivenOutput.{GivenOutput}
+use Rattle.cert_check.specs.declared.refusal.Verdict.TheVariants.{Yes}
+use Rattle.cli_words.specs.CommandLine.{modes}
+use Rattle.cli_words.specs.declared.job.Job.{Job}
+use Rattle.interp_run.specs.Due.{Due, IsDue, file_of, judged}
+use Rattle.interp_run.specs.declared.outcome.Outcome.TheVariants as ends
+
+-- no more than one thing is due for a job and bytes
+abbrev pub OneIsDue : Type 0
+OneIsDue = (job : Job) (bytes : List ℕ) (a b : Due) → IsDue job bytes a → IsDue job bytes b → a ≡ b
+
+-- and no less, where the file of the bytes is this one
+abbrev pub SomeIsDue : Pla → Type 0
+SomeIsDue p = (job : Job) (bytes : List ℕ) → Contains modes job.mode → file_of job bytes ≡ Ok (description p) → (due : Due)
+    × IsDue job bytes due
+
+-- the verdict on an answer that was read is yes exactly where the answer is right
+abbrev pub YesIsRight : Type 0
+YesIsRight = (p : Pla) (text : List ℕ) (answer : List GivenOutput) → answer_reading p text ≡ Ok answer
+    → ((verdict_on p answer ≡ Yes) ↔ IsRight p answer)
+
+-- a job with the limits that words without options ask for
+abbrev pub usual_job : Mode → Job
+usual_job mode = record { mode = mode; workers = 1; nodes = 19; terms = 1000000; seed = 0 }
+
+-- a file of two points over two inputs
+abbrev pub two_points : List ℕ
+two_points = codes ".i 2\n.o 1\n.ilb a b\n.ob f\n.type fr\n11 1\n00 0\n.e\n"
+
+-- what is due for it: so the premises of the clauses of `run` are met in each mode
+abbrev pub DueForTwoPoints : Type 0
+DueForTwoPoints =
+    IsDue (usual_job Anf) two_points
+    (record { outcome = ends.Done; pages = codes "f = b\n" ∷ []; notes = record { output = 1; terms = 1; basis = 0 } ∷ [] })
+    × IsDue (usual_job Basis) two_points
+    (record { outcome = ends.Done; pages = codes "f = b\n0 = a + b\n" ∷ []; notes = record { output = 1; terms = 1; basis = 1 } ∷ [] })
+    × IsDue (usual_job Check) (two_points ++ codes "f = b\n0 = a + b\n") (judged Yes)

@@ -1,0 +1,5 @@
+use Rattle.lattice.proofs.KnownMaps.{known_one}
+use Rattle.lattice.proofs.laws.known_is_one_to_one.Goals as goal
+
+pub returns : goal.returns
+returns c = known_one

@@ -1,6 +1,0 @@
-use Rattle.std.proofs.Common.{◌^◌}
-use Rattle.node_store.proofs.AnyPlanned.{MayHoldAny-made}
-use Rattle.node_store.proofs.tests.store_for_any.Goals as goal
-
-pub returns : goal.returns
-returns c = MayHoldAny-made c.make.result c.args.vars (2 ^ 4) c.plan_of.result.families c.make.ensures.state c.plan_of.ensures

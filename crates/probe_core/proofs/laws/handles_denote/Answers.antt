@@ -1,5 +1,0 @@
-use Rattle.probe_core.proofs.Totality.{denoted}
-use Rattle.probe_core.proofs.laws.handles_denote.Goals as goal
-
-pub returns : goal.returns
-returns c bits vars h ws can is = denoted bits vars ws can h is

@@ -1,5 +1,0 @@
-use Rattle.probe_core.proofs.KnownMaps.{known_one}
-use Rattle.probe_core.proofs.laws.known_is_one_to_one.Goals as goal
-
-pub returns : goal.returns
-returns c = known_one

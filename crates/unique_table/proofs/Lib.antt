@@ -1,0 +1,16 @@
+mod Moves
+mod Pairs
+mod Merging
+mod Sound
+mod Entries
+mod Learning
+mod Probed
+mod FullTables
+mod Filling
+mod Passing
+mod Steps
+mod Visits
+mod Interning
+mod Nodes
+mod Unions
+mod TestedStores

@@ -1,0 +1,29 @@
+use Rattle.unique_table.proofs.Probed.{inside_words}
+use Rattle.std.proofs.Common.{rules, ap, ◌∙◌, sym}
+use Rattle.std.proofs.lemmas.Nat.{pow_pos}
+use Rattle.unique_table.specs.Views.{view_state}
+use Rattle.unique_table.specs.PassOf.{pass_state}
+use Rattle.unique_table.proofs.Unions.{unites, table_same, joined_is}
+use Rattle.unique_table.proofs.Steps.{checks}
+use Rattle.unique_table.proofs.pass.Pass.join.Goals as goal
+
+pub join_seat-requires : goal.join_seat-requires
+unfolding pass_state view_state
+join_seat-requires c = (
+  c.args.self.now.of,
+  table_same _ _ c.requires ∙ c.args.self.now.of,
+  c.args.other.bare,
+  inside_words _ _ 0 (ap (λ z. z.words) (sym c.args.self.now.of) ∙ c.args.self.now.sizes.2) (pow_pos c.args.self.now.bits),
+  unites _ _ _ _ _ (c.args.other.sound).live,
+)
+
+pub load-requires : goal.load-requires
+load-requires c = (
+  search rules,
+  inside_words _ _ 0 (ap (λ z. z.words) (sym c.args.self.now.of) ∙ c.args.self.now.sizes.2) (pow_pos c.args.self.now.bits),
+  checks _ _ (search rules) _ _ _,
+)
+
+pub returns : goal.returns
+unfolding pass_state
+returns c = joined_is _ _ _ _ _ _ (search rules) (search rules) (search rules)

@@ -1,0 +1,79 @@
+-- The rule of the shared table: what holds between any two steps, and the views that making, splitting and joining give.
+use Rattle.std.specs.Prelude.{◌≡◌, ℕ, suc, ◌+◌, ◌^◌, ◌<◌, ◌≤◌, true, false, cond, Some, List, [], ◌∷◌, ◌++◌}
+use Rattle.std.specs.List.{All, Contains}
+use Rattle.atomic_table.specs.Table.{State}
+use Rattle.lattice.specs.Family.{Family, Has, Covers, includes, is_distinct}
+use Rattle.lattice.specs.Cofactors.{sub}
+use Rattle.lattice.specs.Tables.{IsFilled, IsCanonical, DenotesIn, IsStored}
+use Rattle.lattice.specs.History.{FitsHistory}
+use Rattle.lattice.specs.declared.limits.TheConstants.{MAX_VARS, MAX_BITS}
+use Rattle.node_store.specs.Stores.{IsSound}
+use Rattle.unique_table.specs.declared.view.View.{View}
+use Rattle.unique_table.specs.declared.view.About.{About}
+use Rattle.unique_table.specs.declared.view.Terms.{Terms}
+use Rattle.unique_table.specs.ByViews.{ByViews}
+use Rattle.unique_table.specs.Views.{terms_of, known_by, view_state}
+
+-- ---- the rule
+
+-- the table is canonical, and each filled slot denotes a family of the one plan
+pub record IsTable (t : Terms) (ws : List ℕ) : Type 0 where
+  pub canonical : IsCanonical t.bits t.vars ws
+  pub planned : (s : ℕ) → IsFilled ws s → (f : Family) × DenotesIn t.vars ws (suc (suc s)) f × Has t.plan f
+  pub vars_low : 1 ≤ t.vars
+  pub vars_high : t.vars ≤ MAX_VARS
+  pub bits_high : t.bits ≤ MAX_BITS
+
+-- what is known of a handle is what it denotes
+abbrev pub IsPair : ℕ → List ℕ → ℕ × Family → Type 0
+IsPair vars ws p = DenotesIn vars ws p.0 p.1
+
+-- what a live seat knows, holds and met fits the table
+pub record LiveFits (t : Terms) (ws : List ℕ) (v : View) : Type 0 where
+  pub of : v.terms ≡ t
+  pub empty : known_by v.known 0 ≡ Some []
+  pub unit : known_by v.known 1 ≡ Some (0 ∷ [])
+  pub known : All (IsPair t.vars ws) v.known
+  pub subs : (h : ℕ) (f : Family) → known_by v.known h ≡ Some f → Covers v.held (sub t.vars f)
+  pub held : All (IsStored t.vars ws) v.held
+  pub apart : is_distinct v.held ≡ true
+  pub history : FitsHistory (2 ^ t.bits) ws v.history
+
+-- a spent seat owes nothing
+abbrev pub Fits : Terms → List ℕ → View → Type 0
+Fits t ws v = v.live ≡ true → LiveFits t ws v
+
+-- the table, and each view by itself
+abbrev pub Rule : About → State (Unit {0}) View → Type 0
+Rule about = ByViews (IsTable (terms_of about)) (Fits (terms_of about))
+
+-- ---- views
+
+abbrev pub first_view : About → View
+first_view about = record { live = true; terms = terms_of about; known = (0, []) ∷ (1, 0 ∷ []) ∷ []; held = []; history = [] }
+
+-- a second seat knows what the first one knows, and has no history yet
+abbrev pub second_view : View → View
+second_view v = record v { history = [] }
+
+-- the held families with those of another list
+abbrev pub with_family : List Family → Family → List Family
+with_family held f = cond (includes held f) held (f ∷ held)
+
+abbrev pub merged : List Family → List Family → List Family
+merged held [] = held
+merged held (f ∷ fs) = merged (with_family held f) fs
+
+abbrev pub joined_view : View → View → View
+joined_view v w = record v { known = v.known ++ w.known; held = merged v.held w.held; history = v.history ++ w.history }
+
+abbrev pub no_view : View
+no_view = record { live = false; terms = record { bits = 0; vars = 0; plan = [] }; known = []; held = []; history = [] }
+
+-- the seat is a store, each handle that it knows is one of a table of this size, and each pair is what it knows
+pub record IsSoundView (v : View) : Type 0 where
+  pub live : v.live ≡ true
+  pub bits_high : v.terms.bits ≤ MAX_BITS
+  pub store : (name : List ℕ) → IsSound (view_state name v)
+  pub small : (h : ℕ) (f : Family) → known_by v.known h ≡ Some f → h < 2 ^ v.terms.bits + 2
+  pub pairs : (h : ℕ) (f : Family) → Contains v.known (h, f) → known_by v.known h ≡ Some f

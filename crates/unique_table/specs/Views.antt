@@ -1,0 +1,35 @@
+-- What contracts see of a seat of the shared table: a store.
+use Rattle.std.specs.Prelude.{ℕ, ◌^◌, ◌==◌, Option, Some, List, ◌∷◌}
+use Rattle.std.specs.Map.{lookup}
+use Rattle.atomic_table.specs.Seated.{TableId}
+use Rattle.lattice.specs.Family.{Family}
+use Rattle.lattice.specs.History.{refusals_of}
+use Rattle.node_store.specs.Stores.{State}
+use Rattle.unique_table.specs.declared.view.View.{View}
+use Rattle.unique_table.specs.declared.view.About.{About}
+use Rattle.unique_table.specs.declared.view.Terms.{Terms}
+
+-- the terms of the table
+abbrev pub terms_of : About → Terms
+terms_of about = record { bits = about.bits; vars = about.vars; plan = about.plan.families }
+
+-- the family of a handle, by pairs of handles with their families
+abbrev pub known_by : List (ℕ × Family) → ℕ → Option Family
+known_by pairs h = lookup (λ k. k == h) pairs
+
+-- the name of a table
+abbrev pub name_of : TableId → List ℕ
+name_of z = z.words ∷ z.slots ∷ z.views_name ∷ z.atom ∷ z.block ∷ z.offset ∷ z.slot_names
+
+-- a seat's view, as a store on the table of this name
+unfoldable pub view_state : List ℕ → View → State
+view_state name v = record {
+  known = known_by v.known;
+  held = v.held;
+  plan = v.terms.plan;
+  vars = v.terms.vars;
+  capacity = 2 ^ v.terms.bits;
+  refusals = refusals_of v.history;
+  table = Some name;
+  history = v.history;
+}

@@ -1,0 +1,11 @@
+//! The shared table of nodes, on which threads work at once.
+#![tactic(auto)]
+
+mod pass;
+mod plays;
+mod view;
+
+pub use crate::pass::{Pass, Shared, Token};
+
+#[cfg(test)]
+mod tests;
