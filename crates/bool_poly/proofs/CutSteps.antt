@@ -1,7 +1,7 @@
 -- Two operands cut at their first variable, for the recursions on their parts.
 use Rattle.std.proofs.Common.{◌≡◌, ℕ, suc, ◌-◌, ◌<◌, ◌≤◌, max, false, ◌&&◌, inl, inr, [], refl, sym, ◌∙◌, ap, arith, true, Result}
 use Rattle.lattice.specs.Family.{Family, IsFamily, Covers}
-use Rattle.lattice.specs.Cofactors.{low_cofactor, high_cofactor, is_empty, level}
+use Rattle.lattice.specs.Cofactors.{high_cofactor, is_empty, level}
 use Rattle.lattice.specs.Operations.{takes_family, answer}
 use Rattle.lattice.specs.WorkingLists.{needs}
 use Rattle.lattice.specs.declared.op.Op.{Op}
@@ -10,17 +10,11 @@ use Rattle.node_store.specs.Stores.{State, Knows, Denotes, family, IsSound, Read
 use Rattle.node_store.specs.declared.store.Handle.{Handle}
 use Rattle.node_store.specs.declared.store.Full.{Full}
 use Rattle.node_store.proofs.StoreLaws.{Denotes-family, Denotes-knows, Grows-family, Reads-trans, gives_as}
-use Rattle.set_algebra.specs.Pairs.{AreCofactors}
+use Rattle.set_algebra.specs.Pairs.{AreCofactors, IsCutAt}
 use Rattle.set_algebra.specs.declared.pairs.Cofactors.{Cofactors}
 use Rattle.set_algebra.proofs.Levels.{top_after, top_later}
+use Rattle.bool_poly.specs.Parts.{low_part, high_part}
 use Rattle.bool_poly.proofs.CutFamilies.{AreCutAt}
-
--- the parts of an operand, by the state at the call
-abbrev pub low_part : State → Cofactors → Handle → Family
-low_part s c a = low_cofactor (s.vars - c.var) (family s a)
-
-abbrev pub high_part : State → Cofactors → Handle → Family
-high_part s c a = high_cofactor (s.vars - c.var) (family s a)
 
 -- what there is after the cut: s is the state at the call, t the one after the cut
 pub record IsCut (s t : State) (a b : Handle) (c : Cofactors) : Type 0 where
@@ -48,6 +42,19 @@ one_has_it n d f g less ff gf top = elim (cases_empty (high_cofactor d f)) [
     below : (k : Family) → IsFamily (suc d) k → high_cofactor d k ≡ [] → level n k ≤ d
     below k is e = omega (arith, level-narrow (suc d) n k is (omega (arith, less)), level-empty d k e, level-le d k)
 
+-- two families at their first variable
+pub cut_families : {s : State} {a b : Handle} {var : ℕ} → IsSound s → Knows s a → Knows s b → IsCutAt s a b var
+    → AreCutAt s.vars (s.vars - var) (family s a) (family s b)
+cut_families {s} {a} {b} {var} ok ka kb cut =
+    let after = top_after s a b (suc (s.vars - var)) ok ka kb cut.top in
+    let less' : s.vars - var < s.vars = omega (arith, cut.first, cut.last) in
+    record {
+      less = less';
+      first_after = after.0;
+      second_after = after.1;
+      one_has = one_has_it s.vars (s.vars - var) (family s a) (family s b) less' after.0 after.1 cut.top;
+    }
+
 -- r is the state after the look
 pub is_cut : {s r t : State} {a b : Handle} {c : Cofactors} → IsSound s → Knows s a → Knows s b → Reads s r → Reads r t
     → AreCofactors r t a b c → IsCut s t a b c
@@ -56,20 +63,13 @@ is_cut {s} {r} {t} {a} {b} {c} ok ka kb looked cutr are =
     let b_is : family r b ≡ family s b = Grows-family s r b looked.grows kb in
     let top' : max (level s.vars (family s a)) (level s.vars (family s b)) ≡ suc (s.vars - c.var) =
     sym (top_later s r a b looked.grows ka kb) ∙ (are.top ∙ ap (λ v. suc (v - c.var)) looked.grows.vars) in
-    let after = top_after s a b (suc (s.vars - c.var)) ok ka kb top' in
     let last' : c.var ≤ s.vars = omega (arith, are.last, looked.grows.vars) in
-    let less' : s.vars - c.var < s.vars = omega (arith, are.first, last') in
     record {
       reads = Reads-trans s r t looked cutr;
       first = are.first;
       last = last';
       top = top';
-      families = record {
-        less = less';
-        first_after = after.0;
-        second_after = after.1;
-        one_has = one_has_it s.vars (s.vars - c.var) (family s a) (family s b) less' after.0 after.1 top';
-      };
+      families = cut_families ok ka kb (record { first = are.first; last = last'; top = top' });
       a_low = rw (looked.grows.vars, a_is) at are.a_low;
       a_high = rw (looked.grows.vars, a_is) at are.a_high;
       b_low = rw (looked.grows.vars, b_is) at are.b_low;

@@ -1,12 +1,12 @@
 -- The members of a family that pass a test, by its cofactors.
-use Rattle.std.proofs.Common.{◌≡◌, ℕ, suc, ◌+◌, ◌^◌, ◌<◌, ◌≤◌, Bool, true, false, ◌&&◌, [], refl, sym, ap, ap₂, ◌∙◌, subst, arith, inl, inr}
+use Rattle.std.proofs.Common.{◌≡◌, ℕ, suc, ◌+◌, ◌^◌, ◌<◌, ◌≤◌, Bool, true, false, ◌&&◌, [], refl, sym, ap, ap₂, ◌∙◌, arith, inl, inr}
 use Rattle.std.proofs.Common.{◌⊎◌}
 use Rattle.std.proofs.lemmas.Bool.{cases_Bool, and_parts}
 use Rattle.std.proofs.Math.Bool.{and-true, and-false}
-use Rattle.lattice.specs.Family.{Family, IsFamily, has, divides, family_where, Has, Covers}
-use Rattle.lattice.specs.Cofactors.{low_cofactor, high_cofactor, join, sub}
+use Rattle.lattice.specs.Family.{Family, IsFamily, has, divides, family_where}
+use Rattle.lattice.specs.Cofactors.{low_cofactor, high_cofactor, join}
 use Rattle.lattice.specs.Basis.{ones_at}
-use Rattle.lattice.proofs.Diagrams.{join_cofactors_suc, IsFamily-join_suc, low_cofactor-join, sub-narrow, sub-low_cofactor}
+use Rattle.lattice.proofs.Diagrams.{join_cofactors_suc, IsFamily-join_suc}
 use Rattle.lattice.proofs.Polynomials.{below_bound, not_above_bound, is_family, IsFamily-family_where, has-family_where, only_below}
 use Rattle.lattice.proofs.Polynomials.{family_where_has, family_where-agree, family_where-none, same_below, IsFamily_wider}
 use Rattle.lattice.proofs.Polynomials.{IsFamily-low_cofactor, IsFamily-high_cofactor, has-low_cofactor, has-high_cofactor, has-join_low}
@@ -79,14 +79,6 @@ module _ (n d : ℕ) (lo hi : Family) (lf : IsFamily d lo) (hf : IsFamily d hi) 
       ∙ sym (has-kept n lo test a wide_lo))
       (λ a l. has-kept n (join d lo hi) test (2 ^ d + a) IsFamily-whole ∙ ap (λ b. b && test (2 ^ d + a)) (has-join_high d lo hi a lf)
       ∙ sym (has-kept n hi (λ a. test (2 ^ d + a)) a wide_hi))
-
-  -- the subfamilies of the low part
-  pub sub-join_low : Covers (sub n (join d lo hi)) (sub n lo)
-  sub-join_low k h =
-      subst (λ fs. Has fs k) (sym (sub-narrow (suc d) n (join d lo hi) (IsFamily-join_suc d lo hi lf hf) (omega arith)))
-      (sub-low_cofactor d (join d lo hi) (IsFamily-join_suc d lo hi lf hf) k
-      (subst (λ x. Has (sub d x) k) (sym (low_cofactor-join d lo hi lf))
-      (subst (λ fs. Has fs k) (sub-narrow d n lo lf (omega arith)) h)))
 
   -- ---- the points that a monomial divides
 

@@ -1,5 +1,6 @@
 pub mod OnesLemmas
 mod OnesFamilies
+mod SingleOnes
 mod CutFamilies
 mod ValueLemmas
 mod KeptLemmas

@@ -7,14 +7,13 @@ use mathlib.Core.Bool.{beq}
 use Rattle.lattice.specs.Family.{Family, IsFamily, divides}
 use Rattle.lattice.specs.Polynomial.{value, IsGreatest}
 use Rattle.lattice.specs.Cofactors.{join, level}
-use Rattle.lattice.proofs.Diagrams.{sub-join_high, level-below, weight_is}
+use Rattle.lattice.proofs.Diagrams.{sub-join_high, sub-join_low, level-below, weight_is}
 use Rattle.lattice.proofs.Polynomials.{below_bound, value_cases, value-nil, value-one}
 use Rattle.node_store.specs.Stores.{State, Knows, Denotes, family, node_family, IsNode, IsSound, IsPlanned, Grows, Reads, Builds}
 use Rattle.node_store.specs.declared.store.Handle.{Handle}
 use Rattle.node_store.specs.declared.store.Node.{Node}
 use Rattle.node_store.proofs.StoreLaws.{Gives-reads, Grows-family, Grows-knows, Grows-node, Grows-node_family, Reads-refl, Reads-trans}
 use Rattle.node_store.proofs.StoreLaws.{node_level, zero_family, MayGrow, one_family}
-use Rattle.bool_poly.proofs.KeptLemmas.{sub-join_low}
 use Rattle.bool_poly.proofs.ValueLemmas.{greatest_join, greatest_unit, value_without, value_with}
 use Rattle.lattice.specs.declared.limits.TheConstants.{MAX_VARS}
 
@@ -139,7 +138,7 @@ module _ {op : ℕ → Family → Family} {s t : State} {a : Handle} {n : Node} 
 
   pub lows_planned : IsPlanned t (op t.vars (family t n.lo))
   lows_planned = rw (at.reads.grows.plan, at.reads.grows.vars) (λ f h. acts.planned f
-      (rw acts.whole (sub-join_low s.vars (s.vars - n.var) lows highs acts.low_after acts.high_after (less at) f h)))
+      (rw acts.whole (sub-join_low (s.vars - n.var) s.vars lows highs acts.low_after acts.high_after (less at) f h)))
 
   -- u is the state after the low part
   module _ {u : State} {lo : Handle} (low' : Builds t u (Ok lo) (op t.vars (family t n.lo))) where

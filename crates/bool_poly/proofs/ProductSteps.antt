@@ -17,7 +17,8 @@ use Rattle.node_store.proofs.StoreLaws.{Denotes-family, Denotes-knows, Gives-rea
 use Rattle.node_store.proofs.StoreLaws.{filled, known_after, zero_family, MayGrow, gives_as, gives_fewer, node_builds, one_family}
 use Rattle.set_algebra.specs.Pairs.{AreCofactors}
 use Rattle.set_algebra.specs.declared.pairs.Cofactors.{Cofactors}
-use Rattle.bool_poly.proofs.CutSteps.{IsCut, low_part, high_part, is_cut, call_requires, call_given}
+use Rattle.bool_poly.specs.Parts.{low_part, high_part}
+use Rattle.bool_poly.proofs.CutSteps.{IsCut, is_cut, call_requires, call_given}
 use Rattle.bool_poly.proofs.ProductLemmas.{product_of-left_none, product_of-right_unit}
 use Rattle.bool_poly.proofs.ProductLemmas.{product_of-swap, product_of-join, ps_after, qs_after, low_after, high_after}
 use Rattle.bool_poly.proofs.ProductLemmas.{product_list-constant, product_list-swap, covers_low, covers_both, covers_first, covers_second}

@@ -1,15 +1,17 @@
 //! The points at which a monomial or a polynomial is 1.
-ghost use Rattle.std.specs.Prelude.{◌≡◌, ◌<◌, ◌^◌};
+ghost use Rattle.std.specs.Prelude.{◌≡◌, ◌<◌, ◌≤◌, ◌^◌, Ok};
 ghost use Rattle.lattice.specs.Family.{Covers};
 ghost use Rattle.lattice.specs.Basis.{ones_at};
 ghost use Rattle.lattice.specs.Polynomial.{ones_of};
 ghost use Rattle.lattice.specs.declared.op.Op.TheVariants.{Ones};
-ghost use Rattle.node_store.specs.Stores.{Knows, family, IsPlanned, Builds, Gives, needs_of};
-ghost use Rattle.bool_poly.specs.Parts.{part_with};
+ghost use Rattle.node_store.specs.Stores.{Knows, family, IsPlanned, Reads, Builds, Gives, needs_of};
+ghost use Rattle.set_algebra.specs.Begins.{IfDone, IfHalves};
+ghost use Rattle.set_algebra.specs.Pairs.{AreCofactors, IsCutAt};
+ghost use Rattle.bool_poly.specs.Parts.{AreOnes, AsksOnes, AsksWith, part_with};
 
 use lattice::{Mono, Op};
 use node_store::{Full, Handle, Store, grow};
-use set_algebra::{cut, xor};
+use set_algebra::{Begun, Halved, cut, xor};
 
 /// The points of `set` that `m` divides.
 fn above_rest<S: Store>(store: &mut S, m: u64, set: Handle) -> Result<Handle, Full>
@@ -53,7 +55,7 @@ pub fn above<S: Store>(store: &mut S, m: Mono, set: Handle) -> Result<Handle, Fu
 
 /// What is evaluated at the points with a variable, of a polynomial that is `low` without it and `high` with it: their sum,
 /// and 0 where there are no such points.
-fn part_with<S: Store>(
+pub fn part_with<S: Store>(
     store: &mut S,
     low: Handle,
     high: Handle,
@@ -71,6 +73,61 @@ fn part_with<S: Store>(
     xor(store, low, high)
 }
 
+/// What there is before the halves of `ones_of`: the result, where a look at the handles is enough or it is kept, and else `h`
+/// and `set`, cut at their first variable. The low half is that of both low parts, and the high half that of `part_with`.
+pub fn begin_ones<S: Store>(store: &mut S, h: Handle, set: Handle) -> Begun
+    requires { AsksOnes (S.state store.old) h set }
+    ensures reads { Reads (S.state store.old) (S.state store.new) }
+    ensures done { let s = S.state store.old in
+        IfDone result (λ r. Gives s (S.state store.new) (Ok r) (ones_of s.vars (family s h) (family s set)) (needs_of s Ones h set.0)) }
+    ensures operands { IfHalves result (λ b. (b.x ≡ h) × (b.y ≡ set)) }
+    ensures varies { IfHalves result (λ b. 2 ≤ b.x.0) }
+    ensures filled { IfHalves result (λ b. 1 ≤ b.y.0) }
+    ensures cofactors { IfHalves result (λ b. AreCofactors (S.state store.old) (S.state store.new) b.x b.y b.cofactors) }
+    ensures low { IfHalves result (λ b. AsksOnes (S.state store.new) b.cofactors.a_low b.cofactors.b_low) }
+    ensures high { IfHalves result (λ b. AsksWith (S.state store.new) b.cofactors.a_low b.cofactors.a_high b.cofactors.b_high) }
+{
+    if h.0 == 0 {
+        return Begun::Done(Handle(0));
+    }
+    if set.0 == 0 {
+        return Begun::Done(set);
+    }
+    if h.0 == 1 {
+        return Begun::Done(set);
+    }
+    if let Some(r) = store.look(Op::Ones, h, set.0) {
+        return Begun::Done(r);
+    }
+    let cofactors = cut(store, h, set);
+    Begun::Halves(Halved {
+        x: h,
+        y: set,
+        cofactors,
+    })
+}
+
+/// What there is after the halves of `ones_of`, `lo` of the points without the variable of the cut and `hi` of those with it: the
+/// points over both, which are kept.
+pub fn finish_ones<S: Store>(
+    store: &mut S,
+    halved: Halved,
+    lo: Handle,
+    hi: Handle,
+) -> Result<Handle, Full>
+    requires asks { AsksOnes (S.state store.old) halved.x halved.y }
+    requires varies { 2 ≤ halved.x.0 }
+    requires filled { 1 ≤ halved.y.0 }
+    requires cut { IsCutAt (S.state store.old) halved.x halved.y halved.cofactors.var }
+    requires halves { AreOnes (S.state store.old) halved.x halved.y halved.cofactors lo hi }
+    ensures { let s = S.state store.old in
+        Gives s (S.state store.new) result (ones_of s.vars (family s halved.x) (family s halved.y)) (needs_of s Ones halved.x halved.y.0) }
+{
+    let r = grow(store, halved.cofactors.var, lo, hi)?;
+    store.keep(Op::Ones, halved.x, halved.y.0, r);
+    Ok(r)
+}
+
 /// The points of `set` at which the polynomial `h` is 1.
 pub fn ones_of<S: Store>(store: &mut S, h: Handle, set: Handle) -> Result<Handle, Full>
     requires h { Knows (S.state store.old) h }
@@ -78,23 +135,14 @@ pub fn ones_of<S: Store>(store: &mut S, h: Handle, set: Handle) -> Result<Handle
     requires planned { let s = S.state store.old in Covers s.plan (needs_of s Ones h set.0) }
     ensures { let s = S.state store.old in Gives s (S.state store.new) result (ones_of s.vars (family s h) (family s set)) (needs_of s Ones h set.0) }
 {
-    if h.0 == 0 {
-        return Ok(Handle(0));
+    match begin_ones(store, h, set) {
+        Begun::Done(r) => Ok(r),
+        Begun::Halves(halved) => {
+            let c = halved.cofactors;
+            let lo = ones_of(store, c.a_low, c.b_low)?;
+            let with = part_with(store, c.a_low, c.a_high, c.b_high)?;
+            let hi = ones_of(store, with, c.b_high)?;
+            finish_ones(store, halved, lo, hi)
+        }
     }
-    if set.0 == 0 {
-        return Ok(set);
-    }
-    if h.0 == 1 {
-        return Ok(set);
-    }
-    if let Some(r) = store.look(Op::Ones, h, set.0) {
-        return Ok(r);
-    }
-    let c = cut(store, h, set);
-    let lo = ones_of(store, c.a_low, c.b_low)?;
-    let with = part_with(store, c.a_low, c.a_high, c.b_high)?;
-    let hi = ones_of(store, with, c.b_high)?;
-    let r = grow(store, c.var, lo, hi)?;
-    store.keep(Op::Ones, h, set.0, r);
-    Ok(r)
 }

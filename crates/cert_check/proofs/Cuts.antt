@@ -1,6 +1,6 @@
 -- A text cut at a byte of one kind.
-use Rattle.std.proofs.Common.{◌≡◌, ℕ, ◌+◌, ◌-◌, ◌<◌, ◌≤◌, Bool, cond, ltb, eqb, List, [], ◌∷◌, length, take, drop, Option, Some, None, Bor}
-use Rattle.std.proofs.Common.{sym, ap, ◌∙◌, ⊎_elim, arith}
+use Rattle.std.proofs.Common.{◌≡◌, ℕ, ◌+◌, ◌-◌, ◌<◌, ◌≤◌, cond, ltb, eqb, List, [], ◌∷◌, length, take, drop, Option, Some, None, Bor}
+use Rattle.std.proofs.Common.{⊎_elim, arith}
 use Rattle.std.specs.List.{position_or_len}
 use Rattle.std.proofs.lemmas.Bool.{cases_lt, lt-ltb, le-ltb}
 use Rattle.std.proofs.lemmas.List.{take_all, length-drop}
@@ -21,21 +21,17 @@ abbrev pub FindsByte : ℕ → List ℕ → Option ℕ → Type 0
 FindsByte byte text found = found ≡ cond (ltb (place byte text) (length text)) (Some (place byte text)) None
 
 pub parts_whole : (byte : ℕ) (text : List ℕ) (found : Option ℕ) → FindsByte byte text found → found ≡ None → parts byte text ≡ text ∷ []
-parts_whole byte text found is none = ⊎_elim (λ (lt : place byte text < length text). let some : found ≡ Some (place byte text) = is ∙ ap
-    (λ (b : Bool). cond b (Some (place byte text)) None) (lt-ltb (place byte text) (length text) lt) in cc)
+parts_whole byte text found is none = ⊎_elim
+    (λ (lt : place byte text < length text). let some = rw (lt-ltb (place byte text) (length text) lt) at is in cc)
     (λ (le : length text ≤ place byte text). slice_split_none (λ b. eqb b byte) text
     (λ k d h. fails_before_first (λ b. eqb b byte) text k d (omega arith))) (cases_lt (place byte text) (length text))
 
 pub parts_first : (byte : ℕ) (text : List ℕ) (found : Option ℕ) (end : ℕ) → FindsByte byte text found → found ≡ Some end
     → parts byte text ≡ take end text ∷ parts byte (take (length text - (end + 1)) (drop (end + 1) text))
 parts_first byte text found end is some = ⊎_elim (λ (lt : place byte text < length text).
-    let at : found ≡ Some (place byte text) = is ∙ ap (λ (b : Bool). cond b (Some (place byte text)) None)
-    (lt-ltb (place byte text) (length text) lt) in
+    let at = rw (lt-ltb (place byte text) (length text) lt) at is in
     let same : place byte text ≡ end = cc in
-    let rest : take (length text - (end + 1)) (drop (end + 1) text) ≡ drop (end + 1) text = take_all
-    (length text - (end + 1)) (drop (end + 1) text) (omega (arith, length-drop (end + 1) text)) in
-    slice_split_first (λ b. eqb b byte) text 0 lt ∙ ap (λ (i : ℕ). take i text ∷ parts byte (drop (i + 1) text)) same
-    ∙ ap (λ (t : List ℕ). take end text ∷ parts byte t) (sym rest))
-    (λ (le : length text ≤ place byte text). let none : found ≡ None = is ∙ ap
-    (λ (b : Bool). cond b (Some (place byte text)) None) (le-ltb (place byte text) (length text) le) in cc)
+    let rest = take_all (length text - (end + 1)) (drop (end + 1) text) (omega (arith, length-drop (end + 1) text)) in
+    rw (rest, ← same) (slice_split_first (λ b. eqb b byte) text 0 lt))
+    (λ (le : length text ≤ place byte text). let none = rw (le-ltb (place byte text) (length text) le) at is in cc)
     (cases_lt (place byte text) (length text))

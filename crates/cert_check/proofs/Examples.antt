@@ -13,8 +13,8 @@ use Rattle.cert_check.specs.declared.refusal.Verdict.TheVariants.{Yes, No}
 use Rattle.cert_check.specs.Reading.{bare, is_term, is_sum, is_line, terms_in, factors_of, factors_product, monomial_of, monomials_of}
 use Rattle.cert_check.specs.Reading.{are_known, ascends_from, are_ordered, left_fault, right_fault, line_fault, with_element, with_line}
 use Rattle.cert_check.specs.Reading.{Reading, read_on}
-use Rattle.cert_check.specs.Faults.{first_verdict, misses, is_one_in, greatest_of, is_comparable, is_below_last, has_no_lead}
-use Rattle.cert_check.specs.Faults.{is_out_of_order, is_divided, miscounts, basis_checks, reduced_checks, output_checks}
+use Rattle.cert_check.specs.Faults.{first_verdict, misses, is_one_in, greatest_of, is_comparable, is_below_last}
+use Rattle.cert_check.specs.Faults.{is_divided, miscounts, basis_checks, reduced_checks, output_checks}
 
 abbrev line : List ℕ → List ℕ
 line text = text ++ codes "\n"
@@ -58,6 +58,6 @@ verdicts : (verdict (output (given (1 ∷ []) 1) (given (2 ∷ 1 ∷ []) 2 ∷ [
     × (verdict (output (given (0 ∷ []) 1) (given (2 ∷ 1 ∷ []) 2 ∷ [])) ≡ No 1 Value)
     × (verdict (output (given (1 ∷ []) 1) (given (2 ∷ []) 2 ∷ [])) ≡ No 2 NotZero)
     × (verdict (output (given (1 ∷ []) 1) (given (2 ∷ 1 ∷ []) 2 ∷ given (2 ∷ 1 ∷ []) 3 ∷ [])) ≡ No 3 Leads)
-unfolding first_verdict misses is_one_in greatest_of is_comparable is_below_last has_no_lead is_out_of_order is_divided miscounts
+unfolding first_verdict misses is_one_in greatest_of is_comparable is_below_last is_divided miscounts
     basis_checks reduced_checks output_checks value divides has family_where numbers_below
 verdicts = (refl, refl, refl, refl, refl, refl)

@@ -1,17 +1,117 @@
--- The lines of an answer, read one after the other.
-use Rattle.std.proofs.Common.{◌≡◌, ℕ, ◌+◌, ◌<◌, ◌≤◌, Bool, true, false, cond, eqb, ltb, List, [], ◌∷◌, length, None, Ok, Err, refl}
-use Rattle.std.proofs.Common.{sym, ap, ◌∙◌, arith}
-use Rattle.std.proofs.lemmas.Bool.{lt-ltb, le-ltb, ne_eqb}
+-- The form of a line, the lines of an answer in turn, and that what they give fits the description.
+use Rattle.std.proofs.Common.{◌≡◌, ℕ, Bool, true, false, ◌||◌, eqb, List, [], ◌∷◌, ◌++◌, length, codes, Some, None, refl, sym, ap, ◌∙◌}
+use Rattle.std.proofs.Common.{⊎_elim, arith, ◌+◌, ◌<◌, ◌≤◌, cond, ltb, Ok, Err, zero, suc, ◌^◌, map, reverse, Option, Result, subst, IfOk}
+use Rattle.std.specs.Str.{bytes_eq}
+use Rattle.std.specs.Option.{option_or, option_map_or}
+use Rattle.std.specs.List.{join_with_byte, All}
+use Rattle.std.specs.List.Sorted.{IsStrictlyIncreasing}
+use Rattle.std.proofs.lemmas.Bool.{cases_Bool, lt-ltb, le-ltb, ne_eqb, false≢true, ltb-false, not-false}
+use Rattle.std.proofs.Math.Bool.{and-false}
+use Rattle.std.proofs.lemmas.List.{append-nil, length_push}
+use Rattle.std.proofs.lemmas.Slice.Eq.{bytes_eq-Decides}
+use Rattle.std.proofs.lemmas.List.Splits.{join_with_byte-slice_split, length-slice_split}
+use Rattle.std.proofs.lemmas.List.Elements.{All-nil, All-cons, All-push, All-head, All-tail}
 use Rattle.lattice.specs.Cofactors.{is_empty}
+use Rattle.lattice.specs.Family.{has, IsFamily}
+use Rattle.lattice.proofs.Polynomials.{has_none, has_cases, ascends-nil, is_family}
+use Rattle.pla_reader.specs.declared.refusal.LineRefusal.{LineRefusal}
+use Rattle.pla_reader.specs.Parts.{Stops}
 use Rattle.pla_reader.specs.Lines.{lines_of}
+use Rattle.pla_reader.specs.Grammar.{first_failed}
+use Rattle.pla_reader.specs.declared.pla.Pla.{Pla}
+use Rattle.cert_check.specs.declared.answer.Given.{Given}
 use Rattle.cert_check.specs.declared.answer.GivenOutput.{GivenOutput}
 use Rattle.cert_check.specs.declared.refusal.AnswerWhy.{AnswerWhy}
-use Rattle.cert_check.specs.declared.refusal.AnswerWhy.TheVariants.{MissingOutput}
-use Rattle.pla_reader.specs.declared.refusal.LineRefusal.{LineRefusal}
-use Rattle.pla_reader.specs.declared.refusal.LineRefusal.TheVariants as line_refusal
-use Rattle.pla_reader.specs.Parts.{Stops}
+use Rattle.cert_check.specs.declared.refusal.AnswerWhy.TheVariants.{BadLine, MissingOutput}
+use Rattle.cert_check.specs.Reading.{words, is_sum, is_right, is_left, is_line, is_element, monomials_of, left_fault, right_fault}
+use Rattle.cert_check.specs.Reading.{line_fault, with_element, with_line, bare, Reading, read_on, GivesAnswer, is_next, left_of, right_of}
+use Rattle.cert_check.specs.Reading.{terms_in, monomial_of, are_ordered}
 use Rattle.cert_check.specs.Parts.{answer_refusal}
-use Rattle.cert_check.specs.Reading.{bare, words, line_fault, with_line, Reading, unless, read_on, GivesAnswer}
+use Rattle.cert_check.specs.Right.{polynomial, IsOutputOver, IsAnswerFor}
+use Rattle.cert_check.specs.declared.refusal.AnswerRefusal.{AnswerRefusal}
+use Rattle.cert_check.proofs.Reversed.{has-reverse, ascends_below}
+use Rattle.pla_reader.specs.declared.refusal.LineRefusal.TheVariants as line_refusal
+
+-- a right side is 0 alone, or a sum
+zero_from : (right : List ℕ) (ws : List (List ℕ)) → words right ≡ ws → is_right ws ≡ (bytes_eq right (codes "0") || is_sum ws)
+zero_from [] [] cut = cc
+zero_from (b ∷ right) [] cut = absurd (omega (arith, length-slice_split (λ x. eqb x 32) (b ∷ right), ap length cut))
+zero_from right (w ∷ []) cut =
+    let back : w ≡ right = sym (ap (join_with_byte 32) cut) ∙ join_with_byte-slice_split 32 right in
+    ap (λ (t : List ℕ). bytes_eq t (codes "0") || is_sum (w ∷ [])) back
+zero_from right (w ∷ v ∷ ws) cut = ⊎_elim (λ (same : bytes_eq right (codes "0") ≡ true).
+    let is : right ≡ codes "0" = (bytes_eq-Decides right (codes "0")).0 same in
+    let two : codes "0" ∷ [] ≡ w ∷ v ∷ ws = sym (ap words is) ∙ cut in
+    cc) (λ (other : bytes_eq right (codes "0") ≡ false). rw other refl)
+    (cases_Bool (bytes_eq right (codes "0")))
+
+pub right_by_sum : (right : List ℕ) (sum : Bool) → bytes_eq right (codes "0") ≡ false → sum ≡ is_sum (words right) →
+    sum ≡ is_right (words right)
+right_by_sum right sum other is = rw (zero_from right (words right) refl, other) is
+
+-- a line of two words has no right side
+pub two_words : (line left rest last : List ℕ) → words line ≡ left ∷ words rest → words rest ≡ last ∷ [] → is_line (words line) ≡ false
+unfolding is_line is_sum
+two_words line left rest last cut ends = rw (cut, ends, and-false (bytes_eq last (codes "=")), and-false (is_left left)) refl
+
+-- ---- faults of a line
+
+module _ (ins outs : List (List ℕ)) (before : ℕ) (line : List (List ℕ)) where
+  pub bad_line : is_line line ≡ false → line_fault ins outs before line ≡ Some BadLine
+  unfolding line_fault
+  bad_line bad = rw bad refl
+
+  module _ (left right : List ℕ) (good : is_line line ≡ true) (cut : line ≡ left ∷ codes "=" ∷ words right) where
+    line_fault-sides : line_fault ins outs before line ≡ option_or (left_fault outs before left) (right_fault ins (words right))
+    unfolding line_fault
+    line_fault-sides = rw good (rw cut refl)
+
+    pub left_stops : (why : AnswerWhy) → left_fault outs before left ≡ Some why → line_fault ins outs before line ≡ Some why
+    left_stops why fault = rw (line_fault-sides, fault) refl
+
+    pub right_stops : (e : LineRefusal AnswerWhy) → left_fault outs before left ≡ None → Stops e (right_fault ins (words right))
+        → Stops e (line_fault ins outs before line)
+    right_stops e fine stops = rw (line_fault-sides, fine) stops
+
+    pub no_fault : left_fault outs before left ≡ None → right_fault ins (words right) ≡ None → line_fault ins outs before line ≡ None
+    no_fault fine well = rw (line_fault-sides, fine) well
+
+    pub adds_element : (read new : List GivenOutput) (number : ℕ) (terms : List ℕ) → is_element left ≡ true → terms ≡
+        monomials_of ins (words right) → new ≡ with_element read (record { terms = terms; line = number }) → new ≡
+        with_line ins read number line
+    unfolding with_line
+    adds_element read new number terms element is new_is = rw cut (rw element (rw (← is) new_is))
+
+    pub adds_output : (read new : List GivenOutput) (number : ℕ) (terms : List ℕ) (none : List Given) → is_element
+        left ≡ false → terms ≡ monomials_of ins (words right) → none ≡ [] → new ≡ read ++ record
+        { poly = record { terms = terms; line = number }; basis = none } ∷ [] → new ≡ with_line ins read number line
+    unfolding with_line
+    adds_output read new number terms none other is none_is new_is = rw cut (rw other (rw (← is, ← none_is) new_is))
+
+-- ---- one more element
+
+pub with_element-push : (read : List GivenOutput) (output : GivenOutput) (element : Given) → with_element
+    (read ++ output ∷ []) element ≡ read ++ record { poly = output.poly; basis = output.basis ++ element ∷ [] } ∷ []
+unfolding with_element
+with_element-push [] output element = refl
+with_element-push (o ∷ []) output element = refl
+with_element-push (o ∷ p ∷ read) output element = ap (λ (os : List GivenOutput). o ∷ os) (with_element-push (p ∷ read) output element)
+
+pub with_element-none : (read : List GivenOutput) (element : Given) → read ≡ [] → [] ≡ with_element read element
+unfolding with_element
+with_element-none read element none = rw none refl
+
+pub element_added : (old rest new : List GivenOutput) (last : GivenOutput) (basis : List Given) (element : Given) →
+    old ≡ rest ++ last ∷ [] → basis ≡ last.basis ++ element ∷ [] → new ≡ rest ++ record
+    { poly = last.poly; basis = basis } ∷ [] → new ≡ with_element old element
+element_added old rest new last basis element old_is basis_is new_is =
+    rw (old_is, with_element-push rest last element, ← basis_is) new_is
+
+pub element_alone : (old new : List GivenOutput) (element : Given) → old ≡ new ++ [] → length old ≡ 0 → new ≡ with_element old element
+element_alone [] new element is none = sym (append-nil new) ∙ (sym is ∙ with_element-none [] element refl)
+element_alone (o ∷ old) new element is none = absurd (omega arith)
+
+-- ==== The lines of an answer, read one after the other
 
 -- so many lines were read, and the rest of the text goes on from what they gave
 pub record ReadsLines (ins outs : List (List ℕ)) (text rest : List ℕ) (count : ℕ) (read : List GivenOutput) : Type 0
@@ -27,7 +127,8 @@ module _ (ins outs : List (List ℕ)) (text rest : List ℕ) (count : ℕ) (read
   module _ (line after : List ℕ) (cut : lines_of rest ≡ line ∷ lines_of after) (some : 0 < length line)
       (all : length line + length after ≡ length rest) where
     next_line : (b : Bool) → is_empty (bare line) ≡ b → read_on ins outs 0 [] (lines_of text) ≡ cond b
-        (read_on ins outs (count + 1) read (lines_of after)) (unless (line_fault ins outs (length read) (words (bare line))) (count + 1)
+        (read_on ins outs (count + 1) read (lines_of after))
+        (option_map_or (λ why. Err (count + 1, why)) (line_fault ins outs (length read) (words (bare line)))
         (read_on ins outs (count + 1) (with_line ins read (count + 1) (words (bare line))) (lines_of after)))
     unfolding read_on
     next_line b is = rw (so_far.goes_on, cut, is) refl
@@ -63,3 +164,145 @@ module _ (ins outs : List (List ℕ)) (text rest : List ℕ) (count : ℕ) (read
 pub empty_is : (xs : List ℕ) (b : Bool) → b ≡ eqb (length xs) 0 → is_empty xs ≡ b
 empty_is [] b is = sym is
 empty_is (x ∷ xs) b is = sym (is ∙ ne_eqb (length (x ∷ xs)) 0 (λ e. omega (arith, e)))
+
+-- ==== What is read without a fault is an answer by polynomials over the inputs
+
+-- ---- terms in order are a polynomial
+
+module _ (names : List (List ℕ)) where
+  ordered-parts : (limit : ℕ) (term : List ℕ) (terms : List (List ℕ)) → are_ordered names limit (term ∷ terms) ≡ true
+      → (monomial_of names term < limit) × (are_ordered names (monomial_of names term) terms ≡ true)
+  unfolding are_ordered
+  ordered-parts limit term terms ordered = grind (arith, ordered)
+
+  ordered_below : (limit : ℕ) (terms : List (List ℕ)) → are_ordered names limit terms ≡ true → (x : ℕ) → has
+      (map (monomial_of names) terms) x ≡ true → x < limit
+  ordered_below limit [] ordered x h = has_none x h
+  ordered_below limit (term ∷ terms) ordered x h =
+      let cases = has_cases (monomial_of names term) (map (monomial_of names) terms) x h in
+      grind (arith, cases, ordered-parts limit term terms ordered, ordered_below (monomial_of names term) terms)
+
+  ordered_ascends : (limit : ℕ) (terms : List (List ℕ)) → are_ordered names limit terms ≡ true → IsStrictlyIncreasing
+      (reverse (map (monomial_of names) terms))
+  ordered_ascends limit [] ordered = ascends-nil
+  ordered_ascends limit (term ∷ terms) ordered =
+      let parts = ordered-parts limit term terms ordered in
+      ascends_below (monomial_of names term) (map (monomial_of names) terms) (ordered_ascends (monomial_of names term) terms parts.1)
+      (ordered_below (monomial_of names term) terms parts.1)
+
+  ordered_family : (n : ℕ) (right : List (List ℕ)) → are_ordered names (2 ^ n) (terms_in right) ≡ true → IsFamily n
+      (reverse (monomials_of names right))
+  unfolding monomials_of
+  ordered_family n right ordered =
+      is_family n (reverse (map (monomial_of names) (terms_in right))) (ordered_ascends (2 ^ n) (terms_in right) ordered)
+      (λ x h. ordered_below (2 ^ n) (terms_in right) ordered x (sym (has-reverse (map (monomial_of names) (terms_in right)) x) ∙ h))
+
+-- ---- a line without a fault
+
+two_fine : (a b : Bool) (x y : AnswerWhy) → first_failed ((a, x) ∷ (b, y) ∷ []) ≡ None → b ≡ false
+two_fine a b x y none = grind (arith, none)
+
+both_fine : (left right : Option AnswerWhy) → option_or left right ≡ None → (left ≡ None) × (right ≡ None)
+both_fine left right none = grind (arith, none)
+
+module _ (ins outs : List (List ℕ)) (before : ℕ) (line : List (List ℕ)) (fine : line_fault ins outs before line ≡ None) where
+  sides_fine : (left_fault outs before (left_of line) ≡ None) × (right_fault ins (right_of line) ≡ None)
+  unfolding line_fault
+  sides_fine = grind (arith, fine, both_fine (left_fault outs before (left_of line)) (right_fault ins (right_of line)))
+
+  terms_fine : are_ordered ins (2 ^ length ins) (terms_in (right_of line)) ≡ true
+  unfolding right_fault
+  terms_fine = not-false (are_ordered ins (2 ^ length ins) (terms_in (right_of line))) (two_fine _ _ _ _ sides_fine.1)
+
+  next_fine : is_element (left_of line) ≡ false → is_next outs before (left_of line) ≡ true
+  unfolding left_fault
+  next_fine other = not-false (is_next outs before (left_of line)) (two_fine _ _ _ _ (rw other at sides_fine.0))
+
+next_within : (outs : List (List ℕ)) (before : ℕ) (name : List ℕ) → is_next outs before name ≡ true → before < length outs
+next_within [] before name next = absurd (false≢true next)
+next_within (o ∷ outs) zero name next = omega arith
+next_within (o ∷ outs) (suc before) name next = let within : before < length outs = next_within outs before name next
+    in omega arith
+
+-- ---- one more line
+
+with_element-over : (n : ℕ) (read : List GivenOutput) (element : Given) → All (IsOutputOver n) read → IsFamily n
+    (polynomial element) → All (IsOutputOver n) (with_element read element)
+unfolding with_element
+with_element-over n [] element all family = all
+with_element-over n (o ∷ []) element all family =
+    let over = All-head (IsOutputOver n) o [] all in
+    All-cons (IsOutputOver n) _ [] (record {
+      poly = over.poly;
+      basis = All-push (λ (e : Given). IsFamily n (polynomial e)) o.basis element over.basis family;
+    }) (All-nil (IsOutputOver n))
+with_element-over n (o ∷ p ∷ read) element all family =
+    All-cons (IsOutputOver n) o _ (All-head (IsOutputOver n) o (p ∷ read) all)
+    (with_element-over n (p ∷ read) element (All-tail (IsOutputOver n) o (p ∷ read) all) family)
+
+length-with_element : (read : List GivenOutput) (element : Given) → length (with_element read element) ≡ length read
+unfolding with_element
+length-with_element [] element = refl
+length-with_element (o ∷ []) element = refl
+length-with_element (o ∷ p ∷ read) element = ap suc (length-with_element (p ∷ read) element)
+
+fine_unless : (fault : Option AnswerWhy) (number : ℕ) (reading : Reading) (answer : List GivenOutput)
+    → option_map_or (λ why. Err (number, why)) fault reading ≡ Ok answer → (fault ≡ None) × (reading ≡ Ok answer)
+fine_unless None number reading answer is = (refl, is)
+fine_unless (Some why) number reading answer is = absurd cc
+
+-- so many outputs at most, all of them over the inputs
+pub record FitsOutputs (n count : ℕ) (read : List GivenOutput) : Type 0 where
+  pub over : All (IsOutputOver n) read
+  pub few : length read ≤ count
+
+module _ (ins outs : List (List ℕ)) where
+  fits_line : (read : List GivenOutput) (number : ℕ) (line : List (List ℕ)) → FitsOutputs (length ins) (length outs)
+      read → line_fault ins outs (length read) line ≡ None → FitsOutputs (length ins) (length outs) (with_line ins read number line)
+  unfolding with_line
+  fits_line read number line fits fine =
+      let given : Given = record { terms = monomials_of ins (right_of line); line = number } in
+      let output : GivenOutput = record { poly = given; basis = [] } in
+      let family : IsFamily (length ins) (polynomial given) = ordered_family ins (length ins) (right_of line)
+      (terms_fine ins outs (length read) line fine) in
+      ⊎_elim (λ (element : is_element (left_of line) ≡ true). rw element (record {
+        over = with_element-over (length ins) read given fits.over family;
+        few = let f = fits.few in omega (arith, f, length-with_element read given);
+      }))
+      (λ (other : is_element (left_of line) ≡ false).
+      let within = next_within outs (length read) (left_of line) (next_fine ins outs (length read) line fine other) in
+      rw other (record {
+        over = All-push (IsOutputOver (length ins)) read output fits.over
+            (record { poly = family; basis = All-nil (λ (e : Given). IsFamily (length ins) (polynomial e)) });
+        few = omega (arith, within, length_push read output);
+      }))
+      (cases_Bool (is_element (left_of line)))
+
+  read_fits : (count : ℕ) (read : List GivenOutput) (lines : List (List ℕ)) (answer : List GivenOutput) → FitsOutputs
+      (length ins) (length outs) read → read_on ins outs count read lines ≡ Ok answer → All (IsOutputOver (length ins))
+      answer × (length answer ≡ length outs)
+  unfolding read_on
+  read_fits count read [] answer fits is = ⊎_elim (λ (few : ltb (length read) (length outs) ≡ true). let wrong = rw few at is in absurd cc)
+      (λ (enough : ltb (length read) (length outs) ≡ false).
+      let whole = rw enough at is in
+      let same : read ≡ answer = cc in
+      let most = fits.few in
+      let least = ltb-false (length read) (length outs) enough in
+      rw (← same) (fits.over, omega arith)) (cases_Bool (ltb (length read) (length outs)))
+  read_fits count read (line ∷ lines) answer fits is = ⊎_elim
+      (λ (empty : is_empty (bare line) ≡ true). read_fits (count + 1) read lines answer fits (rw empty at is))
+      (λ (filled : is_empty (bare line) ≡ false).
+      let parts = fine_unless (line_fault ins outs (length read) (words (bare line))) (count + 1)
+      (read_on ins outs (count + 1) (with_line ins read (count + 1) (words (bare line))) lines) answer (rw filled at is) in
+      read_fits (count + 1) (with_line ins read (count + 1) (words (bare line))) lines answer
+      (fits_line read (count + 1) (words (bare line)) fits parts.0) parts.1) (cases_Bool (is_empty (bare line)))
+
+-- what is answered fits the description
+pub answer_fits : (ins outs : List (List ℕ)) (p : Pla) (text : List ℕ)
+    (result : Result (List GivenOutput) AnswerRefusal) → length ins ≡ p.inputs → length outs ≡ p.outputs → GivesAnswer
+    result (read_on ins outs 0 [] (lines_of text)) → IfOk result (IsAnswerFor p)
+answer_fits ins outs p text (Ok answer) in_count out_count is =
+    let fits = read_fits ins outs 0 [] (lines_of text) answer
+    (record { over = All-nil (IsOutputOver (length ins)); few = omega arith }) is in
+    record { count = fits.1 ∙ out_count; polynomials = subst (λ (n : ℕ). All (IsOutputOver n) answer) in_count fits.0 }
+answer_fits ins outs p text (Err e) in_count out_count is = tt

@@ -1,23 +1,24 @@
--- The marks of points: what one more row adds, and the points with a value.
+-- The marks of points: what one more row adds, the points with a value, and the care points as a table.
 use Rattle.std.proofs.Common.{◌≡◌, ℕ, zero, suc, ◌+◌, ◌-◌, ◌*◌, ◌^◌, ◌<◌, ◌≤◌, Bool, true, false, ◌&&◌, ◌||◌, ◌==◌, List, [], ◌∷◌, ◌++◌}
 use Rattle.std.proofs.Common.{length, take, get_or, filter, max, bit_and, bit_or, Some, refl, sym, ◌∙◌, ap, subst, ⊎_elim, arith}
-use Rattle.std.proofs.Common.{length-append, eq-eqb, ne_eqb}
-use Rattle.std.specs.Prelude.{slice_get}
+use Rattle.std.proofs.Common.{length-append, eq-eqb, ne_eqb, map, Vec, Global, slice_get, Result, Ok, Err, IfOk, ◌⊎◌, inl, inr}
 use Rattle.std.specs.Int.{bit_at}
 use Rattle.std.specs.List.{list_any}
 use Rattle.std.proofs.lemmas.Nat.Bits.{and_pow, bit_at_or, bit_at-lt, bit_at-zero}
 use Rattle.std.proofs.lemmas.Nat.{and_comm, pow_pos}
-use Rattle.std.proofs.Math.Bool.{and-true, and-false, or-false}
+use Rattle.std.proofs.Math.Bool.{or-false}
 use Rattle.std.proofs.lemmas.List.Folds.{list_any-append}
-use Rattle.std.proofs.lemmas.List.{take_more}
-use Rattle.lattice.specs.Family.{divides, has}
-use Rattle.lattice.specs.Rows.{in_cube, cover, rows_with, on_set, off_set, dc_set}
+use Rattle.std.proofs.lemmas.List.{take_more, length-map}
+use Rattle.std.proofs.lemmas.Option.{slice_get_within}
+use Rattle.lattice.specs.Family.{divides, has, IsFamily}
+use Rattle.lattice.specs.Rows.{in_cube, cover, rows_with, on_set, off_set, dc_set, points_where, care_zeros, care_ones, is_zero, is_one}
 use Rattle.lattice.specs.declared.row.Row.{Row}
 use Rattle.lattice.specs.declared.kind.Kind.{Kind}
-use Rattle.lattice.proofs.Polynomials.{has-family_where_below}
+use Rattle.lattice.proofs.Polynomials.{has-family_where_below, IsFamily-family_where}
+use Rattle.lattice.proofs.Diagrams.{get_map}
 use Rattle.pla_reader.specs.declared.row.Marks.{Marks}
-use Rattle.cert_check.proofs.Elements.{get_cases}
-use Rattle.cert_check.specs.Marks.{IsMark, MarksPoint, has_value, is_care}
+use Rattle.cert_check.specs.Marks.{IsMark, MarksPoint, has_value, is_care, MarksAll, MarksCare, care_by}
+use Rattle.cert_check.specs.declared.care.Care.{Care}
 
 -- a power of two divides a number where the number has its bit
 weight_bit : (j b : ℕ) → b < 2 → (b * 2 ^ j == 2 ^ j) ≡ (b == 1)
@@ -62,22 +63,6 @@ marks_none a = record {
   dc = λ j small. divides-zero j;
 }
 
-pub marks_inside : (rows : List Row) (r : Row) (a : ℕ) (m n : Marks) → in_cube r a ≡ true → MarksPoint rows a m → n.on
-    ≡ bit_or m.on r.on → n.off ≡ bit_or m.off r.off → n.dc ≡ bit_or m.dc r.dc → MarksPoint (rows ++ r ∷ []) a n
-marks_inside rows r a m n inside before on off dc = record {
-  on = subst (IsMark (λ s. s.on) (rows ++ r ∷ []) a) (sym on) (mark_inside (λ s. s.on) rows r a m.on inside before.on);
-  off = subst (IsMark (λ s. s.off) (rows ++ r ∷ []) a) (sym off) (mark_inside (λ s. s.off) rows r a m.off inside before.off);
-  dc = subst (IsMark (λ s. s.dc) (rows ++ r ∷ []) a) (sym dc) (mark_inside (λ s. s.dc) rows r a m.dc inside before.dc);
-}
-
-pub marks_outside : (rows : List Row) (r : Row) (a : ℕ) (m : Marks) → in_cube r a ≡ false → MarksPoint rows a m →
-    MarksPoint (rows ++ r ∷ []) a m
-marks_outside rows r a m outside before = record {
-  on = mark_outside (λ s. s.on) rows r a m.on outside before.on;
-  off = mark_outside (λ s. s.off) rows r a m.off outside before.off;
-  dc = mark_outside (λ s. s.dc) rows r a m.dc outside before.dc;
-}
-
 -- ---- the points with a value
 
 -- a point is covered by the rows that have an output's bit where its mark has the bit
@@ -101,6 +86,13 @@ is_care_of n output a kind value rows m first last below at =
     let dc = covered (λ r. r.dc) n output a m.dc rows first last below at.dc in rw (on, off, dc) refl
 
 -- ---- the table of marks
+
+get_cases : {X : Type 0} (xs : List X) (y : X) (k : ℕ) (x : X) → slice_get (xs ++ y ∷ []) k ≡ Some x →
+    (slice_get xs k ≡ Some x) ⊎ ((k ≡ length xs) × (y ≡ x))
+get_cases [] y zero x e = inr (refl, cc)
+get_cases [] y (suc k) x e = cc
+get_cases (z ∷ xs) y zero x e = inl e
+get_cases (z ∷ xs) y (suc k) x e = ⊎_elim inl (λ h. inr (ap suc h.0, h.1)) (get_cases xs y k x e)
 
 -- the marks of the points below size
 pub record MarksBelow (size : ℕ) (rows : List Row) (marks : List Marks) : Type 0 where
@@ -126,8 +118,12 @@ pub marks_next_inside : (rows : List Row) (i : ℕ) (d : Row) (a : ℕ) (m n : M
 unfolding in_cube
 marks_next_inside rows i d a m n within inside before is =
     let r = get_or rows i d in
-    rw (take_more rows i d within) (marks_inside (take i rows) r a m n (eq-eqb (bit_and a r.care) r.value inside)
-    before (ap (λ (x : Marks). x.on) is) (ap (λ (x : Marks). x.off) is) (ap (λ (x : Marks). x.dc) is))
+    let here : in_cube r a ≡ true = eq-eqb (bit_and a r.care) r.value inside in
+    rw (take_more rows i d within, is) (record {
+      on = mark_inside (λ s. s.on) (take i rows) r a m.on here before.on;
+      off = mark_inside (λ s. s.off) (take i rows) r a m.off here before.off;
+      dc = mark_inside (λ s. s.dc) (take i rows) r a m.dc here before.dc;
+    })
 
 pub marks_next_outside : (rows : List Row) (i : ℕ) (d : Row) (a : ℕ) (m n : Marks) → i < length rows →
     (bit_and a (get_or rows i d).care ≡ (get_or rows i d).value → ⊥) → MarksPoint (take i rows) a m
@@ -135,5 +131,46 @@ pub marks_next_outside : (rows : List Row) (i : ℕ) (d : Row) (a : ℕ) (m n : 
 unfolding in_cube
 marks_next_outside rows i d a m n within outside before is =
     let r = get_or rows i d in
-    rw (take_more rows i d within) (subst (MarksPoint (take i rows ++ r ∷ []) a) (sym is)
-    (marks_outside (take i rows) r a m (ne_eqb (bit_and a r.care) r.value outside) before))
+    let there : in_cube r a ≡ false = ne_eqb (bit_and a r.care) r.value outside in
+    rw (take_more rows i d within, is) (record {
+      on = mark_outside (λ s. s.on) (take i rows) r a m.on there before.on;
+      off = mark_outside (λ s. s.off) (take i rows) r a m.off there before.off;
+      dc = mark_outside (λ s. s.dc) (take i rows) r a m.dc there before.dc;
+    })
+
+-- ==== The care points of an output, as a table over all points
+
+points_at : (test : Bool → Bool → Bool → Bool) (n : ℕ) (rows : List Row) (output a : ℕ) → a < 2 ^ n → has
+    (points_where test n rows output) a ≡ test (has (on_set n rows output) a) (has (off_set n rows output) a) (has (dc_set n rows output) a)
+unfolding points_where
+points_at test n rows output a below = has-family_where_below n
+    (λ x. test (has (on_set n rows output) x) (has (off_set n rows output) x) (has (dc_set n rows output) x)) a below
+
+-- care points are a family
+pub points_family : (test : Bool → Bool → Bool → Bool) (n : ℕ) (rows : List Row) (output : ℕ) → IsFamily n (points_where test n rows output)
+unfolding points_where
+points_family test n rows output = IsFamily-family_where n _
+
+pub care_table : (kind : Kind) (output n : ℕ) (rows : List Row) (marks : List Marks) → 1 ≤ output → output ≤ 64 →
+    MarksAll n rows marks → MarksCare n (care_zeros n kind rows output) (care_ones n kind rows output) (map (care_by kind output) marks)
+care_table kind output n rows marks first last all = record {
+  size = length-map marks (care_by kind output) ∙ all.size;
+  each = λ a c e.
+      let from = get_map (care_by kind output) marks a c e in
+      let below : a < 2 ^ n = omega (arith, slice_get_within marks a from.0 from.1, all.size) in
+      let at = all.each a from.0 from.1 in (
+        ap (λ (x : Care). x.zero) from.2 ∙ sym (points_at (is_zero kind) n rows output a below ∙ is_care_of n output a
+            kind false rows from.0 first last below at),
+        ap (λ (x : Care). x.one) from.2 ∙ sym (points_at (is_one kind) n rows output a below ∙ is_care_of n output a
+            kind true rows from.0 first last below at),
+      );
+  zeros_below = points_family (is_zero kind) n rows output;
+  ones_below = points_family (is_one kind) n rows output;
+}
+
+pub care_tables : (kind : Kind) (output : ℕ) (marks : List Marks) {E : Type 0} (r : Result (Vec Care Global) E) → 1 ≤
+    output → output ≤ 64 → IfOk r (λ care. care.items ≡ map (care_by kind output) marks)
+    → IfOk r (λ care. (n : ℕ) (rows : List Row) → MarksAll n rows marks → MarksCare n (care_zeros n kind rows output)
+    (care_ones n kind rows output) care.items)
+care_tables kind output marks (Ok care) first last items = λ n rows all. rw items (care_table kind output n rows marks first last all)
+care_tables kind output marks (Err e) first last items = tt

@@ -1,7 +1,6 @@
 -- Tests and counts over all points, by tables over them.
-use Rattle.std.proofs.Common.{◌≡◌, ◌⊎◌, ℕ, zero, suc, ◌+◌, ◌^◌, ◌%◌, ◌<◌, ◌≤◌, Bool, true, false, not, ◌&&◌, ◌||◌, ◌==◌, eqb, cond, ltb}
-use Rattle.std.proofs.Common.{List, [], ◌∷◌, length, ◌++◌, get_or, take, map, filter, count_by, refl, sym, ap, ap₂, ◌∙◌, ⊎_elim, arith}
-use Rattle.std.proofs.Common.{add-one}
+use Rattle.std.proofs.Common.{◌≡◌, ℕ, zero, suc, ◌+◌, ◌^◌, ◌%◌, ◌<◌, ◌≤◌, Bool, true, false, not, ◌&&◌, ◌||◌, ◌==◌, eqb, cond, ltb, List}
+use Rattle.std.proofs.Common.{[], ◌∷◌, length, ◌++◌, get_or, take, map, filter, count_by, refl, sym, ap, ap₂, ◌∙◌, ⊎_elim, arith, add-one}
 use Rattle.std.specs.List.{All, list_any, zip}
 use Rattle.std.proofs.lemmas.Bool.{false≢true, or_cases, and_parts, ltb-true}
 use Rattle.std.proofs.lemmas.List.{take_all, take_more, map-append}
@@ -10,12 +9,11 @@ use Rattle.std.proofs.lemmas.Slice.Zip.{length-zip, get_or-zip}
 use Rattle.lattice.specs.Family.{Family, divides, has, IsFamily, numbers_below, family_where, combine, union_of}
 use Rattle.lattice.specs.Polynomial.{value}
 use Rattle.lattice.proofs.Polynomials.{has_none, has_head, has_tail, has_cases, All-has, has-numbers_below, has-family_where}
-use Rattle.lattice.proofs.Polynomials.{has-family_where_below, family_where_has, value_cases, divides_le}
+use Rattle.lattice.proofs.Polynomials.{has-family_where_below, family_where_has, value_cases, divides_le, length_where}
 use Rattle.cert_check.specs.declared.care.Care.{Care}
 use Rattle.cert_check.specs.Marks.{MarksCare, CountsDivisors}
 use Rattle.cert_check.specs.Faults.{misses, is_one_in, is_divided, miscounts}
 use Rattle.std.proofs.lemmas.Option.{slice_get-get_or}
-use Rattle.lattice.proofs.Polynomials.{length_where}
 
 -- ---- lists, by their places
 
@@ -183,11 +181,8 @@ module _ (n : ℕ) (tops : List ℕ) (counts : List ℕ) (counted : CountsDiviso
     pub reducible_by_table : (terms : List ℕ) → All (λ m. m < length counts) terms → list_any
         (λ m. not (get_or counts m 0 == 0)) terms ≡ list_any (is_divided tops) terms
     reducible_by_table terms below = any-agree (λ m. not (get_or counts m 0 == 0)) (is_divided tops) terms
-        (λ m h. let small = All-has (λ x. x < length counts) terms m below h in ap not
-        (free_at m (omega (arith, counted.size))) ∙ not_not (is_divided tops m))
-      where
-        not_not : (b : Bool) → not (not b) ≡ b
-        not_not b = grind arith
+        (λ m h. let small = All-has (λ x. x < length counts) terms m below h in
+        let free = free_at m (omega (arith, counted.size)) in grind (arith, free))
 
 pub miscounts_by_table : (n : ℕ) (points : Family) (tops : List ℕ) (free care : ℕ) → free ≡ length
     (family_where n (λ m. not (is_divided tops m))) → care ≡ length points → not (eqb free care) ≡ miscounts n points tops

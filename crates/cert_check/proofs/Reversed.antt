@@ -1,12 +1,11 @@
 -- Terms that go from the greatest monomial to the least, and the polynomial that they make.
-use Rattle.std.proofs.Common.{◌≡◌, ℕ, ◌%◌, ◌<◌, true, List, [], ◌∷◌, ◌++◌, reverse, refl, sym, ap, ◌∙◌, subst}
-use Rattle.std.proofs.Common.{⊎_elim, arith}
+use Rattle.std.proofs.Common.{◌≡◌, ℕ, ◌%◌, ◌<◌, true, List, [], ◌∷◌, ◌++◌, reverse, refl, sym, ap, ◌∙◌, subst, ⊎_elim, arith}
 use Rattle.std.specs.List.Sorted.{IsStrictlyIncreasing}
 use Rattle.std.proofs.lemmas.List.{reverse-append}
 use Rattle.lattice.specs.Family.{has}
 use Rattle.lattice.specs.Polynomial.{value}
-use Rattle.lattice.proofs.Polynomials.{has-nil, has-cons, has_none, has_cases, has-append, ascends-nil, ascends-cons}
-use Rattle.lattice.proofs.Polynomials.{ascends-append, count, count-append, value-count}
+use Rattle.lattice.proofs.Polynomials.{has-nil, has-cons, has_none, has_cases, has-append, ascends-nil, ascends-cons, ascends-append, count}
+use Rattle.lattice.proofs.Polynomials.{count-append, value-count}
 
 pub reverse_cons : (x : ℕ) (xs : List ℕ) → reverse (x ∷ xs) ≡ reverse xs ++ x ∷ []
 reverse_cons x xs = reverse-append (x ∷ []) xs

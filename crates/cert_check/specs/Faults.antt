@@ -1,7 +1,8 @@
 -- The faults of an answer, in the order in which they are looked for. Terms go from the greatest monomial to the least.
-use Rattle.std.specs.Prelude.{ℕ, ◌+◌, Bool, true, false, not, ◌||◌, ◌==◌, nat_lt, List, [], ◌∷◌, ◌++◌, length}
-use Rattle.std.specs.Prelude.{map, take, drop, if◌then◌else◌}
-use Rattle.std.specs.List.{list_any, flat_map}
+use Rattle.std.specs.Prelude.{ℕ, Bool, true, false, not, ◌||◌, ◌==◌, nat_lt, List, [], ◌∷◌, ◌++◌, length}
+use Rattle.std.specs.Prelude.{map, take, drop, None, slice_get, if◌then◌else◌}
+use Rattle.std.specs.List.{enumerate_from, flat_map, last_or, list_any}
+use Rattle.std.specs.Option.{option_map_or}
 use Rattle.lattice.specs.Family.{Family, divides, family_where}
 use Rattle.lattice.specs.Polynomial.{value}
 use Rattle.lattice.specs.Rows.{care_zeros, care_ones}
@@ -41,19 +42,7 @@ is_comparable others m = list_any (λ t. divides t m || divides m t) others
 
 -- whether a monomial is less than the last of the others
 unfoldable pub is_below_last : (others : List ℕ) → ℕ → Bool
-is_below_last [] m = false
-is_below_last (t ∷ []) m = nat_lt m t
-is_below_last (t ∷ u ∷ others) m = is_below_last (u ∷ others) m
-
--- whether an element is zero, or its greatest monomial is_comparable one of the earlier elements
-unfoldable pub has_no_lead : (earlier : List ℕ) → (terms : List ℕ) → Bool
-has_no_lead earlier [] = true
-has_no_lead earlier (top ∷ tail) = is_comparable earlier top
-
--- whether the greatest monomial of an element is less than that of the element before it
-unfoldable pub is_out_of_order : (earlier : List ℕ) → (terms : List ℕ) → Bool
-is_out_of_order earlier [] = false
-is_out_of_order earlier (top ∷ tail) = is_below_last earlier top
+is_below_last others m = option_map_or (nat_lt m) (last_or None others) false
 
 -- whether one of the greatest monomials divides the monomial
 unfoldable pub is_divided : (tops : List ℕ) → ℕ → Bool
@@ -63,15 +52,14 @@ is_divided tops m = list_any (λ t. divides t m) tops
 unfoldable pub miscounts : ℕ → (points : Family) → (tops : List ℕ) → Bool
 miscounts n points tops = not (length (family_where n (λ m. not (is_divided tops m))) == length points)
 
-abbrev pub is_reducible : (tops : List ℕ) → (terms : List ℕ) → Bool
-is_reducible tops terms = list_any (is_divided tops) terms
-
--- of an element, behind those with these greatest monomials
+-- of an element, behind those with these greatest monomials: that it vanishes; that it is not zero, and its greatest monomial
+-- compares with none of them; that this is not less than the last of them
 abbrev pub element_checks : (points : Family) → (earlier : List ℕ) → Given → List Check
 element_checks points earlier element =
+    let top = slice_get element.terms 0 in
     (is_one_in points element.terms, element.line, NotZero)
-    ∷ (has_no_lead earlier element.terms, element.line, Leads)
-    ∷ (is_out_of_order earlier element.terms, element.line, Order) ∷ []
+    ∷ (option_map_or (is_comparable earlier) top true, element.line, Leads)
+    ∷ (option_map_or (is_below_last earlier) top false, element.line, Order) ∷ []
 
 -- of each element in turn
 unfoldable pub basis_checks : (points : Family) → (earlier : List ℕ) → List Given → List Check
@@ -82,8 +70,8 @@ basis_checks points earlier (element ∷ elements) =
 -- that nothing can be reduced: of the polynomial, and of each element in turn but for its greatest monomial
 unfoldable pub reduced_checks : (tops : List ℕ) → GivenOutput → List Check
 reduced_checks tops given =
-    (is_reducible tops given.poly.terms, given.poly.line, Reducible)
-    ∷ map (λ element. (is_reducible tops (drop 1 element.terms), element.line, Reducible)) given.basis
+    (list_any (is_divided tops) given.poly.terms, given.poly.line, Reducible)
+    ∷ map (λ element. (list_any (is_divided tops) (drop 1 element.terms), element.line, Reducible)) given.basis
 
 -- of an output with these care points
 unfoldable pub output_checks : ℕ → (zeros ones points : Family) → GivenOutput → List Check
@@ -93,12 +81,9 @@ output_checks n zeros ones points given =
     ∷ (basis_checks points [] given.basis ++ (miscounts n points tops, given.poly.line, Count) ∷ reduced_checks tops given)
 
 -- of the outputs in turn, the first of them with this number
-unfoldable pub checks_from : Pla → (output : ℕ) → List GivenOutput → List Check
-checks_from p output [] = []
-checks_from p output (given ∷ answer) =
-    output_checks p.inputs (care_zeros p.inputs p.kind p.rows output) (care_ones p.inputs p.kind p.rows output)
-    (care_set p.inputs p.kind p.rows output) given
-    ++ checks_from p (output + 1) answer
+unfoldable pub checks_from : Pla → (first : ℕ) → List GivenOutput → List Check
+checks_from p first answer = flat_map (λ o. output_checks p.inputs (care_zeros p.inputs p.kind p.rows o.0)
+    (care_ones p.inputs p.kind p.rows o.0) (care_set p.inputs p.kind p.rows o.0) o.1) (enumerate_from first answer)
 
 -- the verdict on an answer: the first fault, if there is one
 abbrev pub verdict_on : Pla → List GivenOutput → Verdict

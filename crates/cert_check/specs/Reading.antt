@@ -1,8 +1,9 @@
 -- What a text answers, or why it is refused, line by line. What stands on a line has no line feed, and no carriage return
 -- before it.
 use Rattle.std.specs.Prelude.{◌≡◌, ℕ, ◌+◌, ◌-◌, ◌^◌, Bool, true, false, not, ◌&&◌, ◌||◌, ◌==◌, nat_lt, nat_le, List, [], ◌∷◌, ◌++◌, length}
-use Rattle.std.specs.Prelude.{map, drop, slice_index_or, sum_by, codes, Option, Some, None, Result, Ok, Err, if◌then◌else◌}
+use Rattle.std.specs.Prelude.{map, drop, slice_index_or, sum_by, codes, Option, Some, Result, Ok, Err, if◌then◌else◌}
 use Rattle.std.specs.List.{filter, list_all, slice_split, slice_get, position_or_len}
+use Rattle.std.specs.Bool.{then_some}
 use Rattle.std.specs.Option.{option_map_or, option_or}
 use Rattle.std.specs.Str.{bytes_eq}
 use Rattle.lattice.specs.Family.{includes}
@@ -113,12 +114,11 @@ are_ordered names limit (term ∷ terms) =
 abbrev pub is_next : (outs : List (List ℕ)) → (before : ℕ) → (name : List ℕ) → Bool
 is_next outs before name = option_map_or (λ next. bytes_eq next name) (slice_get outs before) false
 
--- what is wrong with a left side, after the lines of so many outputs
+-- what is wrong with a left side, after the lines of so many outputs: an element before the first, another name than the next
 unfoldable pub left_fault : (outs : List (List ℕ)) → (before : ℕ) → (left : List ℕ) → Option AnswerWhy
-left_fault outs before left = first_failed (
-    (is_element left && before == 0, MissingOutput)
-    ∷ (not (is_element left) && (includes outs left && not (is_next outs before left)), MissingOutput)
-    ∷ (not (is_element left) && not (includes outs left), UnknownName) ∷ [])
+left_fault outs before left =
+    if is_element left then then_some (before == 0) MissingOutput
+    else first_failed ((not (includes outs left), UnknownName) ∷ (not (is_next outs before left), MissingOutput) ∷ [])
 
 -- what is wrong with a right side
 unfoldable pub right_fault : (ins : List (List ℕ)) → (right : List (List ℕ)) → Option AnswerWhy
@@ -149,17 +149,12 @@ with_line ins read number line =
 abbrev pub Reading : Type 0
 Reading = Result (List GivenOutput) (ℕ × AnswerWhy)
 
--- the reading that goes on, unless there is a fault
-abbrev pub unless : Option AnswerWhy → (number : ℕ) → Reading → Reading
-unless None number reading = reading
-unless (Some why) number reading = Err (number, why)
-
 -- what the lines add to what was read, after so many other lines
 unfoldable pub read_on : (ins outs : List (List ℕ)) → (count : ℕ) → List GivenOutput → List (List ℕ) → Reading
 read_on ins outs count read [] = if nat_lt (length read) (length outs) then Err (count, MissingOutput) else Ok read
 read_on ins outs count read (line ∷ lines) =
     if is_empty (bare line) then read_on ins outs (count + 1) read lines
-    else unless (line_fault ins outs (length read) (words (bare line))) (count + 1)
+    else option_map_or (λ why. Err (count + 1, why)) (line_fault ins outs (length read) (words (bare line)))
     (read_on ins outs (count + 1) (with_line ins read (count + 1) (words (bare line))) lines)
 
 -- what the text answers for a description, or why it is refused

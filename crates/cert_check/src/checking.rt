@@ -7,7 +7,7 @@ ghost use Rattle.lattice.specs.Rows.{care_zeros, care_ones};
 ghost use Rattle.lattice.specs.WorkingLists.{care_set};
 ghost use Rattle.cert_check.specs.Marks.{MarksAll, MarksCare, CountsDivisors};
 ghost use Rattle.cert_check.specs.Right.{polynomial, IsOutputOver, IsAnswerFor, IsRight};
-ghost use Rattle.cert_check.specs.Faults.{first_verdict, misses, is_one_in, greatest_of, is_comparable, is_below_last, is_divided, miscounts, is_reducible, element_checks, basis_checks, reduced_checks, output_checks, checks_from, verdict_on};
+ghost use Rattle.cert_check.specs.Faults.{first_verdict, misses, is_one_in, greatest_of, is_comparable, is_below_last, is_divided, miscounts, element_checks, basis_checks, reduced_checks, output_checks, checks_from, verdict_on};
 ghost use Rattle.cert_check.specs.Parts.{Judges};
 
 use crate::answer::{Given, GivenAnswer, GivenOutput};
@@ -65,7 +65,7 @@ fn miscounts(care: &[Care], counts: &[u16]) -> bool
 /// Whether one of the terms is divided, by the counts of what divides each.
 fn is_reducible(counts: &[u16], terms: &[Mono]) -> bool
     requires { All (λ m. m < length counts.now) terms.now }
-    ensures { (n : ℕ) (tops : List ℕ) → CountsDivisors n (family_where n (has tops)) counts.now → result ≡ is_reducible tops terms.now }
+    ensures { (n : ℕ) (tops : List ℕ) → CountsDivisors n (family_where n (has tops)) counts.now → result ≡ list_any (is_divided tops) terms.now }
 {
     terms.iter().any(|m| counts[m.0 as usize] != 0)
 }

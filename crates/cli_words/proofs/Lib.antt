@@ -1,6 +1,4 @@
 mod EachFound
-mod Found
 mod NamesMoved
-mod ParsersChanged
 mod Taken
 mod Worked

@@ -1,5 +1,5 @@
 -- The declared command, and what its matches say.
-use Rattle.std.specs.Prelude.{◌≡◌, ◌∷◌, [], ◌≤◌, Any, Contains, List, ℕ, map, true, Option, Some, option_map, codes}
+use Rattle.std.specs.Prelude.{◌≡◌, ◌∷◌, [], ◌≤◌, Any, Contains, List, ℕ, map, true, Option, Some, option_map, codes, fold}
 use Rattle.std.specs.Borrow.{Bor}
 use Rattle.std.specs.Str.Parse.{digits_value, without_leading_plus}
 use Rattle.clap.specs.Words.{App, IsUnsignedIn, Row, Rule, Text, first_of, first_value, new_app, new_rule, one_of, one_text, with_rule}
@@ -46,23 +46,17 @@ option_rule name values default = record (new_rule name) {
   defaults = default ∷ [];
 }
 
-abbrev pub workers_rule : Rule
-workers_rule = option_rule (codes "workers") (parser.Unsigned 1 16) (codes "1")
-
-abbrev pub nodes_rule : Rule
-nodes_rule = option_rule (codes "nodes") (parser.Unsigned MIN_BITS MAX_BITS) (codes "19")
-
-abbrev pub terms_rule : Rule
-terms_rule = option_rule (codes "terms") (parser.Unsigned 1 1000000) (codes "1000000")
-
-abbrev pub seed_rule : Rule
-seed_rule = option_rule (codes "seed") (parser.Unsigned 0 18446744073709551615) (codes "0")
+-- the options in their order
+abbrev pub options : List Rule
+options =
+    option_rule (codes "workers") (parser.Unsigned 1 16) (codes "1")
+    ∷ option_rule (codes "nodes") (parser.Unsigned MIN_BITS MAX_BITS) (codes "19")
+    ∷ option_rule (codes "terms") (parser.Unsigned 1 1000000) (codes "1000000")
+    ∷ option_rule (codes "seed") (parser.Unsigned 0 18446744073709551615) (codes "0") ∷ []
 
 -- `interp MODE [--workers N] [--nodes B] [--terms T] [--seed S]`, with the names at an address
 abbrev pub interp_command_at : NameList → App
-interp_command_at list =
-    with_rule (with_rule (with_rule (with_rule (with_rule (new_app (codes "interp"))
-    (mode_rule list)) workers_rule) nodes_rule) terms_rule) seed_rule
+interp_command_at list = fold with_rule (new_app (codes "interp")) (mode_rule list ∷ options)
 
 abbrev pub at_zero : {X : Type 0} → X → Bor X
 at_zero x = record { ref_ptr = (0, 0); now = x }

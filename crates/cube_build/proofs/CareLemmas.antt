@@ -1,7 +1,6 @@
 -- The care points of an output, by the type of the description.
-use Rattle.std.proofs.Common.{◌≡◌, ℕ, Bool, true, false, not, ◌&&◌, ◌||◌, List, [], ◌∷◌, ◌++◌, Result, Ok, Err, IsErr, refl, ◌∙◌}
+use Rattle.std.proofs.Common.{◌≡◌, ℕ, Bool, true, false, not, ◌&&◌, ◌||◌, List, [], ◌∷◌, ◌++◌, Ok, refl, ◌∙◌}
 use Rattle.std.proofs.Common.{ap, ap₂, append-nil}
-use Rattle.std.proofs.lemmas.Bool.{false≢true}
 use Rattle.lattice.specs.Family.{Family, IsFamily, has, family_where, combine, power, first_only, union_of, minus_of, Covers}
 use Rattle.lattice.specs.Rows.{cover, in_cube, on_rows, off_rows, dc_rows, on_set, off_set, dc_set, points_where, care_zeros, care_ones}
 use Rattle.lattice.specs.WorkingLists.{cover_list, care_list}
@@ -11,12 +10,10 @@ use Rattle.lattice.specs.declared.kind.Kind.{Kind}
 use Rattle.lattice.specs.declared.kind.Kind.TheVariants.{F, Fd, Fr, Fdr}
 use Rattle.lattice.proofs.Diagrams.{has-power, covers_nil}
 use Rattle.lattice.proofs.Polynomials.{IsFamily-family_where, has-family_where_below, family_where_has, family_where-agree}
-use Rattle.node_store.specs.Stores.{State, Denotes, Reads, Gives}
+use Rattle.node_store.specs.Stores.{State, Denotes}
 use Rattle.node_store.specs.declared.store.Handle.{Handle}
-use Rattle.node_store.specs.declared.store.Full.{Full}
-use Rattle.node_store.proofs.StoreLaws.{failed_after, Grows-refl}
+use Rattle.node_store.proofs.StoreLaws.{Grows-refl}
 use Rattle.cube_build.specs.GivenCareSets.{care_needs, GivesCareSets}
-use Rattle.cube_build.specs.declared.care.CareSets.{CareSets}
 use Rattle.cube_build.proofs.CallsUnderway.{Underway, underway, rest_of}
 
 IsFamily-cover : (n : ℕ) (rows : List Row) → IsFamily n (cover n rows)
@@ -110,17 +107,4 @@ pub calls_end : (s t : State) (zeros ones : Handle) (kind : Kind) (rows : List R
 calls_end s t zeros ones kind rows output here z o =
     let all : Covers t.held (care_needs s.vars kind rows output) =
     rw (← calls_are s.vars rows output kind) (here.whole t (Grows-refl t) (covers_nil s.vars t.held)) in
-    record {
-      zeros = record { grows = here.reads.grows; ok = z; held = all; quiet = here.reads.quiet; full = tt };
-      ones = record { grows = here.reads.grows; ok = o; held = all; quiet = here.reads.quiet; full = tt };
-    }
-
--- a call after those that led from s to t failed
-pub calls_fail : {s t u : State} {r : Result CareSets Full} {e : Full} {f : Family} {needed : List Family} {n : ℕ} {kind : Kind}
-    {rows : List Row}
-    {output : ℕ} → IsErr r → Reads s t → Gives t u (Err e) f needed → GivesCareSets s u r n kind rows output
-calls_fail {r = Ok sets} err reads is = absurd (false≢true err)
-calls_fail {r = Err x} err reads is = record {
-  zeros = failed_after _ _ _ (Err x) _ _ _ _ _ err reads is;
-  ones = failed_after _ _ _ (Err x) _ _ _ _ _ err reads is;
-}
+    record { grows = here.reads.grows; zeros = z; ones = o; held = all; quiet = here.reads.quiet; full = tt }

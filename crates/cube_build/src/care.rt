@@ -12,14 +12,7 @@ use crate::covers::{PointSet, cover};
 use lattice::{Kind, Row};
 use node_store::{Full, Handle, Store};
 use pla_reader::Pla;
-use set_algebra::{minus, power, union};
-
-/// The care points of an output: those of value 0, and those of value 1.
-#[derive(Clone, Copy, PartialEq, Eq, Debug)]
-pub struct CareSets {
-    pub zeros: Handle,
-    pub ones: Handle,
-}
+use set_algebra::{ValuedPoints, minus, power, union};
 
 /// All points that are not in `a`.
 fn outside<S: Store>(store: &mut S, a: Handle) -> Result<Handle, Full>
@@ -32,7 +25,7 @@ fn outside<S: Store>(store: &mut S, a: Handle) -> Result<Handle, Full>
 }
 
 /// In a description of type f the points that its rows do not list have value 0.
-fn sets_of_f<S: Store>(store: &mut S, rows: &[Row], output: u32) -> Result<CareSets, Full>
+fn sets_of_f<S: Store>(store: &mut S, rows: &[Row], output: u32) -> Result<ValuedPoints, Full>
     requires rows { All (IsRowOver (S.state store.old).vars) rows.now }
     requires output { (1 ≤ output) × (output ≤ 64) }
     requires planned { let s = S.state store.old in Covers s.plan (care_needs s.vars Kind.F rows.now output) }
@@ -40,12 +33,12 @@ fn sets_of_f<S: Store>(store: &mut S, rows: &[Row], output: u32) -> Result<CareS
 {
     let ones = cover(store, rows, PointSet::On, output)?;
     let zeros = outside(store, ones)?;
-    Ok(CareSets { zeros, ones })
+    Ok(ValuedPoints { zeros, ones })
 }
 
 /// In a description of type fd the points that its rows do not list have value 0, and those that they leave open are no care
 /// points.
-fn sets_of_fd<S: Store>(store: &mut S, rows: &[Row], output: u32) -> Result<CareSets, Full>
+fn sets_of_fd<S: Store>(store: &mut S, rows: &[Row], output: u32) -> Result<ValuedPoints, Full>
     requires rows { All (IsRowOver (S.state store.old).vars) rows.now }
     requires output { (1 ≤ output) × (output ≤ 64) }
     requires planned { let s = S.state store.old in Covers s.plan (care_needs s.vars Kind.Fd rows.now output) }
@@ -56,11 +49,11 @@ fn sets_of_fd<S: Store>(store: &mut S, rows: &[Row], output: u32) -> Result<Care
     let ones = minus(store, on, dc)?;
     let listed = union(store, on, dc)?;
     let zeros = outside(store, listed)?;
-    Ok(CareSets { zeros, ones })
+    Ok(ValuedPoints { zeros, ones })
 }
 
 /// In a description of type fr the points that its rows do not list are no care points.
-fn sets_of_fr<S: Store>(store: &mut S, rows: &[Row], output: u32) -> Result<CareSets, Full>
+fn sets_of_fr<S: Store>(store: &mut S, rows: &[Row], output: u32) -> Result<ValuedPoints, Full>
     requires rows { All (IsRowOver (S.state store.old).vars) rows.now }
     requires output { (1 ≤ output) × (output ≤ 64) }
     requires planned { let s = S.state store.old in Covers s.plan (care_needs s.vars Kind.Fr rows.now output) }
@@ -68,11 +61,11 @@ fn sets_of_fr<S: Store>(store: &mut S, rows: &[Row], output: u32) -> Result<Care
 {
     let ones = cover(store, rows, PointSet::On, output)?;
     let zeros = cover(store, rows, PointSet::Off, output)?;
-    Ok(CareSets { zeros, ones })
+    Ok(ValuedPoints { zeros, ones })
 }
 
 /// In a description of type fdr the points that its rows do not list or leave open are no care points.
-fn sets_of_fdr<S: Store>(store: &mut S, rows: &[Row], output: u32) -> Result<CareSets, Full>
+fn sets_of_fdr<S: Store>(store: &mut S, rows: &[Row], output: u32) -> Result<ValuedPoints, Full>
     requires rows { All (IsRowOver (S.state store.old).vars) rows.now }
     requires output { (1 ≤ output) × (output ≤ 64) }
     requires planned { let s = S.state store.old in Covers s.plan (care_needs s.vars Kind.Fdr rows.now output) }
@@ -83,12 +76,12 @@ fn sets_of_fdr<S: Store>(store: &mut S, rows: &[Row], output: u32) -> Result<Car
     let dc = cover(store, rows, PointSet::Dc, output)?;
     let ones = minus(store, on, dc)?;
     let zeros = minus(store, off, dc)?;
-    Ok(CareSets { zeros, ones })
+    Ok(ValuedPoints { zeros, ones })
 }
 
 /// The care points of the output, whose numbers begin with 1, in a store with a variable for each input. It is Full only where
 /// the plan has more families than the store has slots.
-pub fn care_sets<S: Store>(store: &mut S, p: &Pla, output: u32) -> Result<CareSets, Full>
+pub fn care_sets<S: Store>(store: &mut S, p: &Pla, output: u32) -> Result<ValuedPoints, Full>
     requires output { (1 ≤ output) × (output ≤ p.now.outputs) }
     requires vars { (S.state store.old).vars ≡ p.now.inputs }
     requires planned { Covers (S.state store.old).plan (care_needs p.now.inputs p.now.kind p.now.rows output) }

@@ -5,7 +5,7 @@ mod care;
 mod covers;
 mod cubes;
 
-pub use crate::care::{CareSets, care_sets, ones, zeros};
+pub use crate::care::{care_sets, ones, zeros};
 pub use crate::cubes::cube;
 
 #[cfg(test)]

@@ -91,8 +91,8 @@ module _ (n outputs : ℕ) (rows : List Row) where
 
   none_of_consistent : IsConsistent n outputs rows → (c : Clash) → IsClash n outputs rows rows c → ⊥
   none_of_consistent consistent c clash =
-      (consistent_by_rows n outputs rows).0 consistent c.output clash.shared.point clash.on_row clash.off_row clash.first clash.last
-      clash.shared.below clash.on clash.off clash.shared.in_first clash.shared.in_second
+      (consistent_by_rows n outputs rows).0 consistent c.output clash.shared.0 clash.on_row clash.off_row clash.first clash.last
+      clash.shared.1 clash.on clash.off clash.shared.2 clash.shared.3
 
   consistent_from_none : ((c : Clash) → IsClash n outputs rows rows c → ⊥) → IsConsistent n outputs rows
   consistent_from_none none = (consistent_by_rows n outputs rows).1
@@ -105,7 +105,7 @@ module _ (n outputs : ℕ) (rows : List Row) where
         off = off;
         on_line = refl;
         off_line = refl;
-        shared = record { point = a; below = below; in_first = in_r; in_second = in_s };
+        shared = (a, below, in_r, in_s);
       }))
 
   pub none_where_consistent : (answer : Option Clash) → Answers (IsClash n outputs rows rows) answer

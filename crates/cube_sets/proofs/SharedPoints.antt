@@ -47,8 +47,8 @@ agree_where_shared n a b shared = same_from_bits (bit_and a.value b.care) (bit_a
   where
     each : (i : ℕ) → bit_at (bit_and a.value b.care) i ≡ bit_at (bit_and b.value a.care) i
     each i =
-        let va = bit_within shared.point a.care a.value i (eqb-true (bit_and shared.point a.care) a.value shared.in_first) in
-        let vb = bit_within shared.point b.care b.value i (eqb-true (bit_and shared.point b.care) b.value shared.in_second) in
+        let va = bit_within shared.0 a.care a.value i (eqb-true (bit_and shared.0 a.care) a.value shared.2) in
+        let vb = bit_within shared.0 b.care b.value i (eqb-true (bit_and shared.0 b.care) b.value shared.3) in
         let left = bit_at_and a.value b.care i in
         let right = bit_at_and b.value a.care i in
         omega arith
@@ -57,12 +57,11 @@ pub shared_where_same : (n : ℕ) (a b : Row) (r : Bool) → divides a.value a.c
     → r ≡ (bit_and a.value b.care == bit_and b.value a.care) → a.care < 2 ^ n → b.care < 2 ^ n → (r ≡ true) ↔ SharePoint n a b
 shared_where_same n a b r first second is a_below b_below = (
   λ yes.
-      let agree : Agree a b = eqb-true (bit_and a.value b.care) (bit_and b.value a.care) (sym is ∙ yes) in
-      record {
-        point = bit_or a.value b.value;
-        below = or_lt n a.value b.value (value_below n a first a_below) (value_below n b second b_below);
-        in_first = together a b first second agree;
-        in_second = subst (λ p. in_cube b p ≡ true) (or_comm b.value a.value) (together b a second first (sym agree));
-      },
+      let agree : Agree a b = eqb-true (bit_and a.value b.care) (bit_and b.value a.care) (sym is ∙ yes) in (
+        bit_or a.value b.value,
+        or_lt n a.value b.value (value_below n a first a_below) (value_below n b second b_below),
+        together a b first second agree,
+        subst (λ p. in_cube b p ≡ true) (or_comm b.value a.value) (together b a second first (sym agree)),
+      ),
   λ shared. is ∙ eq-eqb (bit_and a.value b.care) (bit_and b.value a.care) (agree_where_shared n a b shared),
 )

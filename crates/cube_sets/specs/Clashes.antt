@@ -7,11 +7,8 @@ use Rattle.lattice.specs.declared.row.Row.{Row}
 use Rattle.cube_sets.specs.declared.clash.Clash.{Clash}
 
 -- a point below 2 ^ n is in both cubes
-pub record SharePoint (n : ℕ) (r s : Row) : Type 0 where
-  pub point : ℕ
-  pub below : point < 2 ^ n
-  pub in_first : in_cube r point ≡ true
-  pub in_second : in_cube s point ≡ true
+abbrev pub SharePoint : (n : ℕ) → (r s : Row) → Type 0
+SharePoint n r s = (point : ℕ) × (point < 2 ^ n) × (in_cube r point ≡ true) × (in_cube s point ≡ true)
 
 -- at an output, the row `a` says 1 and the row `b` says 0, and they share a point
 pub record IsClashOf (n : ℕ) (a b : Row) (c : Clash) : Type 0 where

@@ -19,8 +19,9 @@ use Rattle.node_store.proofs.StoreLaws.{known_after, zero_family}
 use Rattle.set_algebra.proofs.Levels.{top_after}
 use Rattle.set_algebra.specs.Pairs.{AreCofactors}
 use Rattle.set_algebra.specs.declared.pairs.Cofactors.{Cofactors}
-use Rattle.interp_lex.specs.Parts.{common_of, upper_list, lower_of, lower_list, AreKnown, GivesPoints}
-use Rattle.interp_lex.specs.declared.parts.Points.{Points}
+use Rattle.interp_lex.specs.Parts.{common_of, upper_list, lower_of, lower_list, AreKnown}
+use Rattle.set_algebra.specs.GivenPoints.{GivesPoints}
+use Rattle.set_algebra.specs.declared.points.ValuedPoints.{ValuedPoints}
 use Rattle.interp_lex.proofs.PointSteps.{AreKnown-later, points_found_after}
 use Rattle.interp_lex.proofs.Recursion.{hz, ho, h, gz, go, g, upper_needs, lower_needs, part_needs, Split, upper_fits, upper_apart, h_fits}
 use Rattle.interp_lex.proofs.Recursion.{lower_fits, lower_apart, g_fits, result_is, list_is}
@@ -234,7 +235,7 @@ module _ {s t : State} {zeros ones : Handle} {c : Cofactors} (k : Cut s t zeros 
     }) grows
 
   -- the call for the points p of one of the two parts, with the zeros A and the ones B
-  module _ {u : State} {p : Points} {A B : Family} (reads : Reads s u) (za : Denotes u p.zeros A) (ob : Denotes u p.ones B) where
+  module _ {u : State} {p : ValuedPoints} {A B : Family} (reads : Reads s u) (za : Denotes u p.zeros A) (ob : Denotes u p.ones B) where
     pub next_needs : needs_of u Least p.zeros p.ones.0 ≡ working_set n (interpolation_list n A B)
     next_needs = needs_least u p.zeros p.ones ∙ rw (reads.grows.vars, Denotes-family u p.zeros A za, Denotes-family u p.ones B ob) refl
 
@@ -279,7 +280,7 @@ module _ {s t : State} {zeros ones : Handle} {c : Cofactors} (k : Cut s t zeros 
       (λ f i. search (Has-append_left, Has-append_right) depth 8))
 
   -- u is the state after the points p of the upper part were found
-  module _ {u : State} {p : Points}
+  module _ {u : State} {p : ValuedPoints}
       (two : GivesPoints t u (Ok p) (common_of t.vars (family t c.a_low) (family t c.a_high) (family t c.b_low) (family t c.b_high))
       (common_of t.vars (family t c.a_low) (family t c.b_high) (family t c.b_low) (family t c.a_high)) (working_set t.vars UpperList))
     where
@@ -334,7 +335,7 @@ module _ {s t : State} {zeros ones : Handle} {c : Cofactors} (k : Cut s t zeros 
             (λ f i. search (Has-append_left, Has-append_right) depth 8))
 
         -- w is the state after the points q of the lower part were found
-        module _ {w : State} {q : Points}
+        module _ {w : State} {q : ValuedPoints}
             (four : GivesPoints v w (Ok q) (lower_of v.vars (family v r) (family v c.a_low) (family v c.a_high) (family v c.b_high))
             (lower_of v.vars (family v r) (family v c.b_low) (family v c.b_high) (family v c.a_high)) (working_set v.vars LowerList))
           where

@@ -1,41 +1,27 @@
 -- The steps of finding points: the union of two results, and the points of the upper and the lower part.
-use Rattle.std.proofs.Common.{◌≡◌, ℕ, Bool, Result, Ok, Err, IsErr, Some, List, [], ◌∷◌, ◌++◌, refl, sym, ◌∙◌, ap, subst}
-use Rattle.std.proofs.lemmas.Bool.{false≢true}
+use Rattle.std.proofs.Common.{◌≡◌, ℕ, Bool, Result, Ok, Some, List, [], ◌∷◌, ◌++◌, refl, sym, ◌∙◌, ap, subst}
 use Rattle.lattice.specs.Family.{Family, Covers, combine, union_of, minus_of}
 use Rattle.lattice.specs.Polynomial.{ones_of}
-use Rattle.lattice.specs.WorkingLists.{working_set, ones_list, operation_list, needs}
+use Rattle.lattice.specs.WorkingLists.{working_set, ones_list}
 use Rattle.lattice.specs.declared.op.Op.TheVariants.{Ones}
 use Rattle.lattice.proofs.Diagrams.{Has-head, Has-tail, Has-append_left, Has-append_right, covers_family, covers_part, covers_head}
 use Rattle.lattice.proofs.Diagrams.{covers_left, covers_right, covers_nothing, covers_more, covers_lists}
 use Rattle.node_store.specs.Stores.{State, Knows, Denotes, family, IsSound, IsPlanned, Grows, Reads, Gives, Builds, needs_of}
 use Rattle.node_store.specs.declared.store.Handle.{Handle}
 use Rattle.node_store.specs.declared.store.Full.{Full}
-use Rattle.node_store.proofs.StoreLaws.{Found, builds_gives, failed_after, found_after, found_gives, found_part, found_result, found_start}
-use Rattle.node_store.proofs.StoreLaws.{found_built, found_call, Denotes-family, Denotes-knows, Gives-after, Grows-family, Grows-knows}
+use Rattle.node_store.proofs.StoreLaws.{Found, builds_gives, found_after, found_gives, found_part, found_result, found_start}
+use Rattle.node_store.proofs.StoreLaws.{found_built, found_call, Denotes-family, Denotes-knows, Grows-family, Grows-knows}
 use Rattle.set_algebra.proofs.Levels.{combine_later}
+use Rattle.set_algebra.specs.GivenPoints.{GivesPoints}
+use Rattle.set_algebra.specs.declared.points.ValuedPoints.{ValuedPoints}
 use Rattle.set_algebra.specs.declared.pairs.Cofactors.{Cofactors}
+use Rattle.bool_poly.proofs.OnesLemmas.{needs_ones}
 use Rattle.interp_lex.specs.Parts.{common_of, common_list, replaced_of, replaced_list, upper_list, lower_of, lower_list, AreKnown}
-use Rattle.interp_lex.specs.Parts.{GivesPoints}
-use Rattle.interp_lex.specs.declared.parts.Points.{Points}
 
 -- ---- calls that give points
 
--- one that fails in place of points
-pub points_failed : {s t u : State} {r : Result Points Full} {e : Full} {f p q : Family} {needed more : List Family} → IsErr r → Reads s t
-    → Gives t u (Err e) f needed → GivesPoints s u r p q more
-points_failed {r = Ok x} err one two = absurd (false≢true err)
-points_failed {s = s} {t = t} {u = u} {r = Err x} {e = e} {f = f} {needed = needed} err one two =
-    let both : Gives s u (Err e) f needed = Gives-after s t u (Err e) f needed one two in
-    record { grows = both.grows; zeros = tt; ones = tt; held = tt; quiet = tt; full = both.full }
-
--- points that fail in place of a result
-pub failed_points : {s t u : State} {r : Result Handle Full} {e : Full} {p q f : Family} {needed more : List Family} → IsErr r → Reads s t
-    → GivesPoints t u (Err e) p q needed → Gives s u r f more
-failed_points {s = s} {t = t} {u = u} {r = r} {e = e} {f = f} {needed = needed} {more = more} err one two =
-    failed_after s t u r e f f needed more err one (record { grows = two.grows; ok = tt; held = tt; quiet = tt; full = two.full })
-
 -- one more call
-pub points_found_after : {s t u : State} {p : Points} {z o : Family} {needed xs : List Family} (ys : List Family) → Found s t xs
+pub points_found_after : {s t u : State} {p : ValuedPoints} {z o : Family} {needed xs : List Family} (ys : List Family) → Found s t xs
     → needed ≡ working_set s.vars ys → GivesPoints t u (Ok p) z o needed → Found s u (xs ++ ys)
 points_found_after {p = p} {z = z} ys one e two =
     found_call {h = p.zeros} {f = z} ys one e (record { grows = two.grows; ok = two.zeros; held = two.held; quiet = two.quiet; full = tt })
@@ -206,10 +192,6 @@ module _ {s : State} {c : Cofactors} (k : Upper s c) where
         refl))
 
 -- ---- the points of the lower part
-
-pub needs_ones : (m : ℕ) (f g : Family) (x : ℕ) → needs Ones m f g x ≡ working_set m (ones_list m f g)
-unfolding needs operation_list
-needs_ones m f g x = refl
 
 module _ (xs ys : List Family) (a b c d e f g h : Family) where
   abbrev lower_families : List Family

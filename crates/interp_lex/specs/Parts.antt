@@ -1,13 +1,11 @@
 -- The points over one variable fewer, by the cofactors of the zeros and of the ones, over n variables: z0 and o0 are the points
 -- without the variable, z1 and o1 those with it.
-use Rattle.std.specs.Prelude.{◌≡◌, ℕ, Result, IfOk, OnOk, OnErr, List, [], ◌∷◌, ◌++◌}
-use Rattle.lattice.specs.Family.{Family, Covers, union_of, inter_of, minus_of}
+use Rattle.std.specs.Prelude.{ℕ, List, [], ◌∷◌, ◌++◌}
+use Rattle.lattice.specs.Family.{Family, union_of, inter_of, minus_of}
 use Rattle.lattice.specs.Polynomial.{ones_of}
 use Rattle.lattice.specs.WorkingLists.{ones_list}
-use Rattle.node_store.specs.Stores.{State, Knows, Denotes, Grows, IsFull}
-use Rattle.node_store.specs.declared.store.Full.{Full}
+use Rattle.node_store.specs.Stores.{State, Knows}
 use Rattle.set_algebra.specs.declared.pairs.Cofactors.{Cofactors}
-use Rattle.interp_lex.specs.declared.parts.Points.{Points}
 
 -- the members of both f and g, and those of both p and q
 abbrev pub common_of : ℕ → Family → Family → Family → Family → Family
@@ -48,12 +46,3 @@ pub record AreKnown (s : State) (c : Cofactors) : Type 0 where
   pub a_high : Knows s c.a_high
   pub b_low : Knows s c.b_low
   pub b_high : Knows s c.b_high
-
--- a call that gives the handles of two families of points and then holds the families that it needed, or finds the store full
-pub record GivesPoints (before after : State) (result : Result Points Full) (z o : Family) (needed : List Family) : Type 0 where
-  pub grows : Grows before after
-  pub zeros : IfOk result (λ p. Denotes after p.zeros z)
-  pub ones : IfOk result (λ p. Denotes after p.ones o)
-  pub held : OnOk result (Covers after.held needed)
-  pub quiet : OnOk result (after.refusals ≡ before.refusals)
-  pub full : OnErr result (IsFull before after)

@@ -2,18 +2,12 @@
 ghost use Rattle.lattice.specs.Family.{Covers};
 ghost use Rattle.lattice.specs.WorkingLists.{working_set};
 ghost use Rattle.node_store.specs.Stores.{Knows, family, Gives};
-ghost use Rattle.interp_lex.specs.Parts.{common_of, common_list, replaced_of, replaced_list, upper_list, lower_list, lower_of, AreKnown, GivesPoints};
+ghost use Rattle.interp_lex.specs.Parts.{common_of, common_list, replaced_of, replaced_list, upper_list, lower_list, lower_of, AreKnown};
+ghost use Rattle.set_algebra.specs.GivenPoints.{GivesPoints};
 
 use bool_poly::SetOps;
 use node_store::{Full, Handle, Store};
-use set_algebra::Cofactors;
-
-/// Where a polynomial is to be 0 and where it is to be 1.
-#[derive(Clone, Copy)]
-pub struct Points {
-    pub zeros: Handle,
-    pub ones: Handle,
-}
+use set_algebra::{Cofactors, ValuedPoints};
 
 /// The members of both `a` and `b`, and those of both `c` and `d`.
 fn common<S: Store, O: SetOps<S>>(
@@ -63,7 +57,7 @@ pub fn upper_part<S: Store, O: SetOps<S>>(
     store: &mut S,
     ops: &mut O,
     c: Cofactors,
-) -> Result<Points, Full>
+) -> Result<ValuedPoints, Full>
     requires known { AreKnown (S.state store.old) c }
     requires planned { let s = S.state store.old in Covers s.plan (working_set s.vars (upper_list s.vars (family s c.a_low) (family s c.a_high) (family s c.b_low) (family s c.b_high))) }
     requires ready { O.ready ops.old }
@@ -72,7 +66,7 @@ pub fn upper_part<S: Store, O: SetOps<S>>(
 {
     let zeros = common(store, ops, c.a_low, c.a_high, c.b_low, c.b_high)?;
     let ones = common(store, ops, c.a_low, c.b_high, c.b_low, c.a_high)?;
-    Ok(Points { zeros, ones })
+    Ok(ValuedPoints { zeros, ones })
 }
 
 /// The points at which the part without the variable is fixed, for the part `h` with it.
@@ -81,7 +75,7 @@ pub fn lower_part<S: Store, O: SetOps<S>>(
     ops: &mut O,
     c: Cofactors,
     h: Handle,
-) -> Result<Points, Full>
+) -> Result<ValuedPoints, Full>
     requires known { AreKnown (S.state store.old) c }
     requires h { Knows (S.state store.old) h }
     requires planned { let s = S.state store.old in Covers s.plan (working_set s.vars (lower_list s.vars (family s h) (family s c.a_low) (family s c.a_high) (family s c.b_low) (family s c.b_high))) }
@@ -93,5 +87,5 @@ pub fn lower_part<S: Store, O: SetOps<S>>(
     let ones_at_one = ops.ones_of(store, h, c.b_high)?;
     let zeros = replaced(store, ops, c.a_low, ones_at_one, c.a_high, zeros_at_one)?;
     let ones = replaced(store, ops, c.b_low, zeros_at_one, c.b_high, ones_at_one)?;
-    Ok(Points { zeros, ones })
+    Ok(ValuedPoints { zeros, ones })
 }

@@ -1,4 +1,6 @@
 -- How a run ends, from the file that its bytes have and from what its steps found, and what its status says then.
+use Rattle.interp_run.specs.declared.describe.TheConstants.{MOST_BYTES}
+use Rattle.cert_check.specs.declared.checking.TheConstants.{MOST_INPUTS}
 use Rattle.std.proofs.Common.{◌≡◌, ◌∙◌, ap, subst, ℕ, ◌+◌, ◌<◌, ◌≤◌, List, length, length-take, min, take, take_all, drop, refl, sym, inl}
 use Rattle.std.proofs.Common.{inr, ◌⊎◌, ⊎_elim, arith, [], Option, Some, None, ◌≢◌, ◌∷◌, append-nil, true}
 use Rattle.std.specs.Prelude.{Ok, Err, Result, IfErr, OnOk}
@@ -10,9 +12,9 @@ use Rattle.cert_check.specs.Reading.{answer_reading, GivesAnswer}
 use Rattle.cert_check.specs.declared.answer.GivenOutput.{GivenOutput}
 use Rattle.cert_check.specs.declared.refusal.AnswerWhy.{AnswerWhy}
 use Rattle.cli_words.specs.declared.job.Job.{Job}
-use Rattle.interp_run.specs.Due.{Due, IsDue, IsExhausted, checking, file_of, given_of, most_bytes, most_checked_inputs, no_file, solving}
+use Rattle.interp_run.specs.Due.{Due, IsDue, IsExhausted, checking, file_of, given_of, no_file, solving}
 use Rattle.interp_run.specs.Due.{IsDueChecking, contradicted, contradiction, contradiction_behind, judged, no_answer, silent, verdict}
-use Rattle.interp_run.specs.Due.{HasText, judged_outcome, verdict_text}
+use Rattle.interp_run.specs.Due.{HasText}
 use Rattle.lattice.specs.Rows.{IsConsistent}
 use Rattle.lattice.specs.declared.kind.Mode.TheVariants.{Anf, Basis, Check}
 use Rattle.cert_check.specs.Faults.{verdict_on}
@@ -39,38 +41,38 @@ use Rattle.interp_run.specs.declared.outcome.Outcome.TheVariants as ends
 -- ==== the file of a run and the answer that is judged, from what was read of its bytes
 
 module _ (job : Job) (bytes : List ℕ) where
-  pub file_too_long : most_bytes < length bytes → file_of job bytes ≡ Err ends.TooLong
-  file_too_long long = rw (lt-ltb most_bytes (length bytes) long) refl
+  pub file_too_long : MOST_BYTES < length bytes → file_of job bytes ≡ Err ends.TooLong
+  file_too_long long = rw (lt-ltb MOST_BYTES (length bytes) long) refl
 
-  pub file_read : (d : Description) → length bytes ≤ most_bytes → reading_of bytes ≡ Ok d → file_of job bytes ≡ Ok d
-  file_read d few read = rw (le-ltb most_bytes (length bytes) few, read) refl
+  pub file_read : (d : Description) → length bytes ≤ MOST_BYTES → reading_of bytes ≡ Ok d → file_of job bytes ≡ Ok d
+  file_read d few read = rw (le-ltb MOST_BYTES (length bytes) few, read) refl
 
-  pub file_refused : (r : Refusal) → length bytes ≤ most_bytes → reading_of bytes ≡ Err r → file_of job bytes ≡ Err (ends.Text r.line r.why)
-  file_refused r few bad = rw (le-ltb most_bytes (length bytes) few, bad) refl
+  pub file_refused : (r : Refusal) → length bytes ≤ MOST_BYTES → reading_of bytes ≡ Err r → file_of job bytes ≡ Err (ends.Text r.line r.why)
+  file_refused r few bad = rw (le-ltb MOST_BYTES (length bytes) few, bad) refl
 
 module _ (p : Pla) (text : List ℕ) where
-  pub given_too_wide : most_checked_inputs < p.inputs → given_of p text ≡ Err ends.TooWide
-  given_too_wide wide = rw (lt-ltb most_checked_inputs p.inputs wide) refl
+  pub given_too_wide : MOST_INPUTS < p.inputs → given_of p text ≡ Err ends.TooWide
+  given_too_wide wide = rw (lt-ltb MOST_INPUTS p.inputs wide) refl
 
-  pub given_read : (answer : List GivenOutput) → p.inputs ≤ most_checked_inputs → answer_reading p text ≡ Ok answer
+  pub given_read : (answer : List GivenOutput) → p.inputs ≤ MOST_INPUTS → answer_reading p text ≡ Ok answer
       → given_of p text ≡ Ok answer
-  given_read answer few read = rw (le-ltb most_checked_inputs p.inputs few, read) refl
+  given_read answer few read = rw (le-ltb MOST_INPUTS p.inputs few, read) refl
 
-  pub given_refused : (line : ℕ) (why : AnswerWhy) → p.inputs ≤ most_checked_inputs → answer_reading p text ≡ Err (line, why)
+  pub given_refused : (line : ℕ) (why : AnswerWhy) → p.inputs ≤ MOST_INPUTS → answer_reading p text ≡ Err (line, why)
       → given_of p text ≡ Err (ends.AnswerText line why)
-  given_refused line why few bad = rw (le-ltb most_checked_inputs p.inputs few, bad) refl
+  given_refused line why few bad = rw (le-ltb MOST_INPUTS p.inputs few, bad) refl
 
 -- ---- what was read is all bytes, or they are too many
 
-module _ (job : Job) (bytes read : List ℕ) (is : read ≡ take (most_bytes + 1) bytes) where
-  read_whole : (read ≡ bytes) ⊎ ((most_bytes < length read) × (most_bytes < length bytes))
+module _ (job : Job) (bytes read : List ℕ) (is : read ≡ take (MOST_BYTES + 1) bytes) where
+  read_whole : (read ≡ bytes) ⊎ ((MOST_BYTES < length read) × (MOST_BYTES < length bytes))
   read_whole =
-      let size : length (take (most_bytes + 1) bytes) ≡ min (most_bytes + 1) (length bytes) = length-take (most_bytes + 1) bytes in
-      let same : length read ≡ length (take (most_bytes + 1) bytes) = ap length is in
-      ⊎_elim (λ long. inr (omega (arith, size, same, long), long)) (λ few. inl (is ∙ take_all (most_bytes + 1) bytes (omega (arith, few))))
-      (cases_lt most_bytes (length bytes))
+      let size : length (take (MOST_BYTES + 1) bytes) ≡ min (MOST_BYTES + 1) (length bytes) = length-take (MOST_BYTES + 1) bytes in
+      let same : length read ≡ length (take (MOST_BYTES + 1) bytes) = ap length is in
+      ⊎_elim (λ long. inr (omega (arith, size, same, long), long)) (λ few. inl (is ∙ take_all (MOST_BYTES + 1) bytes (omega (arith, few))))
+      (cases_lt MOST_BYTES (length bytes))
 
-  too_long : {due : Due} → most_bytes < length read → most_bytes < length bytes → IsDue job read due → IsDue job bytes due
+  too_long : {due : Due} → MOST_BYTES < length read → MOST_BYTES < length bytes → IsDue job read due → IsDue job bytes due
   too_long a b (no_file o e) = no_file o (file_too_long job bytes b ∙ (sym (file_too_long job read a) ∙ e))
   too_long a b (solving d due e mode h) = let bad = sym (file_too_long job read a) ∙ e in cc
   too_long a b (checking p due e mode h) = let bad = sym (file_too_long job read a) ∙ e in cc
@@ -103,16 +105,16 @@ module _ (job : Job) (bytes : List ℕ) (p : Pla) (file : file_of job bytes ≡ 
   behind : {due : Due} → IsDueChecking p text due → IsDue job bytes due
   behind {due = due} h = checking p due file checks (subst (λ (t : List ℕ). IsDueChecking p t due) is h)
 
-  pub wide_ends : most_checked_inputs < p.inputs → EndsWithout job bytes ends.TooWide
+  pub wide_ends : MOST_INPUTS < p.inputs → EndsWithout job bytes ends.TooWide
   wide_ends wide = due_without ends.TooWide (behind (no_answer ends.TooWide (given_too_wide p text wide)))
 
-  pub refused_ends : (refusal : AnswerRefusal) → p.inputs ≤ most_checked_inputs → GivesAnswer (Err refusal) (answer_reading p text)
+  pub refused_ends : (refusal : AnswerRefusal) → p.inputs ≤ MOST_INPUTS → GivesAnswer (Err refusal) (answer_reading p text)
       → EndsWithout job bytes (refused_outcome refusal)
   refused_ends (Bad line why) few e = due_without (ends.AnswerText line why)
       (behind (no_answer (ends.AnswerText line why) (given_refused p text line why few e)))
   refused_ends Memory few e = no_memory
 
-  module _ (answer : List GivenOutput) (few : p.inputs ≤ most_checked_inputs) (read : answer_reading p text ≡ Ok answer) where
+  module _ (answer : List GivenOutput) (few : p.inputs ≤ MOST_INPUTS) (read : answer_reading p text ≡ Ok answer) where
     pub clash_ends : {o : Outcome} → IsContradiction (description p) o → EndsWithout job bytes o
     clash_ends h =
         subst (EndsWithout job bytes) (sym h.outcome_is)
@@ -134,11 +136,11 @@ unfolding told_or
 told_is None read all e = cc
 told_is (Some xs) read all e = cc
 
-read_is : (left : Option (List ℕ)) (read : List ℕ) → ((xs : List ℕ) → left ≡ Some xs → read ≡ take (most_bytes + 1) xs)
-    → length read ≤ most_bytes + 1
-    → read ≡ take (most_bytes + 1) (told_or left read)
+read_is : (left : Option (List ℕ)) (read : List ℕ) → ((xs : List ℕ) → left ≡ Some xs → read ≡ take (MOST_BYTES + 1) xs)
+    → length read ≤ MOST_BYTES + 1
+    → read ≡ take (MOST_BYTES + 1) (told_or left read)
 unfolding told_or
-read_is None read told few = sym (take_all (most_bytes + 1) read few)
+read_is None read told few = sym (take_all (MOST_BYTES + 1) read few)
 read_is (Some xs) read told few = told xs refl
 
 module _ (words : List (List ℕ)) (left old new : Option (List ℕ)) (before after : List WatcherState) (o : Outcome) where
@@ -147,8 +149,8 @@ module _ (words : List (List ℕ)) (left old new : Option (List ℕ)) (before af
   ran_short ends = record { bytes = told_or left []; told = told_is left []; ended = ends (told_or left []) }
 
   -- a run that read its source
-  pub ran_read : (read : List ℕ) → ((xs : List ℕ) → left ≡ Some xs → read ≡ take (most_bytes + 1) xs) → length read ≤ most_bytes + 1
-      → ((bytes : List ℕ) → read ≡ take (most_bytes + 1) bytes → Ends words bytes old new before after o)
+  pub ran_read : (read : List ℕ) → ((xs : List ℕ) → left ≡ Some xs → read ≡ take (MOST_BYTES + 1) xs) → length read ≤ MOST_BYTES + 1
+      → ((bytes : List ℕ) → read ≡ take (MOST_BYTES + 1) bytes → Ends words bytes old new before after o)
       → Ran words left old new before after o
   ran_read read told few ends = record
       { bytes = told_or left read; told = told_is left read; ended = ends (told_or left read) (read_is left read told few) }
@@ -167,10 +169,8 @@ keeps_nothing (Some xs) (Some ys) a = a ∙ append-nil xs
 -- a line is gained whole, or the count rose
 pub gains_line : {T E : Type 0} (old new : Option (List ℕ)) (text : List ℕ) (before now : ℕ) (r : Result T E)
     → OnOk r (Appends old new text) → GainsFront old new text → HasCause before now r → GainsUnlessRose old new text before now
-gains_line old new text before now (Ok x) whole front cause = record
-    { part = text; front = take_all (length text) text (omega arith); gained = whole; whole = inl refl }
-gains_line old new text before now (Err e) whole front cause = record
-    { part = front.part; front = front.front; gained = front.gained; whole = inr cause.rose }
+gains_line old new text before now (Ok x) whole front cause = (front, inl whole)
+gains_line old new text before now (Err e) whole front cause = (front, inr cause.rose)
 
 pub if_err : {T E : Type 0} (r : Result T E) (x : E) (P : E → Type 0) → IsErrAnd r (λ e. e ≡ x) → P x → IfErr r P
 if_err (Ok t) x P same p = tt
@@ -178,7 +178,19 @@ if_err (Err e) x P same p = subst P (sym same) p
 
 -- ---- from what the steps found
 
-module _ (words : List (List ℕ)) (bytes read : List ℕ) (job : Job) (asked : IsAsked words job) (is : read ≡ take (most_bytes + 1) bytes)
+-- what is due with one page, and the verdict that is due so
+abbrev paged : Outcome → List ℕ → Due
+paged o text = record { outcome = o; pages = text ∷ []; notes = [] }
+
+pub judged_is : (v : Verdict) (text : List ℕ) → (judged v).pages ≡ text ∷ [] → judged v ≡ paged (judged v).outcome text
+judged_is Yes text is = λ i. record { outcome = ends.Done; pages = is i; notes = [] }
+judged_is (No line why) text is = λ i. record { outcome = ends.No line why; pages = is i; notes = [] }
+
+pub has_text : (v : Verdict) → HasText (judged v).outcome
+has_text Yes = tt
+has_text (No line why) = tt
+
+module _ (words : List (List ℕ)) (bytes read : List ℕ) (job : Job) (asked : IsAsked words job) (is : read ≡ take (MOST_BYTES + 1) bytes)
   where
     -- without an answer
     pub ends_without : {o : Outcome} (held : Option (List ℕ)) (states : List WatcherState) → EndsWithout job read o
@@ -188,28 +200,22 @@ module _ (words : List (List ℕ)) (bytes read : List ℕ) (job : Job) (asked : 
     ends_without held states (exhausted_without h) = exhausted job asked (exhausted_of_read job bytes read is h) (keeps_same held) refl
     ends_without held states no_memory = memory (keeps_same held) refl
 
-    whole_text : (v : Verdict) → verdict_text v ≡ concat (verdict_text v ∷ [])
-    whole_text v = sym (append-nil (verdict_text v))
-
-    -- with a verdict
-    pub ends_judged : (old new : Option (List ℕ)) (states : List WatcherState) (v : Verdict) → IsDue job read (judged v)
-        → Appends old new (verdict_text v)
-        → Ends words bytes old new states states (judged_outcome v)
-    ends_judged old new states v due gained =
-        as_due job (judged v) asked (due_of_read job bytes read is due) (subst (Appends old new) (whole_text v) gained)
+    -- with a page, which is written whole
+    pub ends_judged : (old new : Option (List ℕ)) (states : List WatcherState) (o : Outcome) (text : List ℕ) → IsDue job read (paged o text)
+        → Appends old new text
+        → Ends words bytes old new states states o
+    ends_judged old new states o text due gained =
+        as_due job (paged o text) asked (due_of_read job bytes read is due) (subst (Appends old new) (sym (append-nil text)) gained)
         (sym (left_after_all-nil states))
 
-    has_text : (v : Verdict) → HasText (judged_outcome v)
-    has_text Yes = tt
-    has_text (No line why) = tt
-
     -- with a part of it
-    pub ends_unjudged : (old new : Option (List ℕ)) (states : List WatcherState) (v : Verdict) → IsDue job read (judged v)
-        → GainsFront old new (verdict_text v)
-        → GainsLess old new (verdict_text v) → Ends words bytes old new states states ends.WriteFault
-    ends_unjudged old new states v due front less =
-        write_fault job (judged v) asked (due_of_read job bytes read is due) (has_text v) (subst (GainsFront old new) (whole_text v) front)
-        (stopped_at old old new (verdict_text v ∷ []) [] 0 (verdict_text v) states states (omega arith) refl (appends_nothing old) less
+    pub ends_unjudged : (old new : Option (List ℕ)) (states : List WatcherState) (o : Outcome) (text : List ℕ)
+        → IsDue job read (paged o text) → HasText o → GainsFront old new text → GainsLess old new text
+        → Ends words bytes old new states states ends.WriteFault
+    ends_unjudged old new states o text due has front less =
+        write_fault job (paged o text) asked (due_of_read job bytes read is due) has
+        (subst (GainsFront old new) (sym (append-nil text)) front)
+        (stopped_at old old new (paged o text) 0 text states states (omega arith) refl (appends_nothing old) less
         (sym (left_after_all-nil states)))
 
 -- ---- what the status says

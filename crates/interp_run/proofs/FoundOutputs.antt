@@ -1,9 +1,10 @@
 -- What phase 1 finds of an output: its care sets, its least polynomial, and the leads of its care points. It stays found.
+use Rattle.std.specs.List.{flat_map}
 use Rattle.std.proofs.Common.{◌≡◌, ◌⊎◌, inl, inr, ℕ, zero, suc, ◌+◌, ◌<◌, List, [], ◌∷◌, ◌++◌, Some, slice_get, cond}
 use Rattle.std.proofs.Common.{refl, sym, ◌∙◌, ap, subst, ◌≤◌, true, false, Ok}
 use Rattle.std.proofs.lemmas.List.{append-nil}
 use Rattle.lattice.specs.Family.{Family, Has, Covers, numbers_below, AreDisjoint, union_of}
-use Rattle.lattice.specs.WorkingLists.{all_of, first_phase, is_basis, output_leads_list, output_list, output_numbers, working_set, care_set}
+use Rattle.lattice.specs.WorkingLists.{first_phase, is_basis, output_leads_list, output_list, output_numbers, working_set, care_set}
 use Rattle.lattice.specs.WorkingLists.{care_list, interpolation_list}
 use Rattle.lattice.specs.declared.kind.Mode.{Mode}
 use Rattle.lattice.proofs.Diagrams.{Has-append_left, Has-append_right, covers_part, covers_append, covers_left, covers_right}
@@ -22,18 +23,18 @@ use Rattle.lattice.specs.declared.op.Op.TheVariants.{Least}
 use Rattle.lattice.proofs.Polynomials.{care_points_disjoint}
 use Rattle.node_store.specs.declared.store.Handle.{Handle}
 use Rattle.cube_build.specs.GivenCareSets.{GivesCareSets, care_needs}
-use Rattle.cube_build.specs.declared.care.CareSets.{CareSets}
+use Rattle.set_algebra.specs.declared.points.ValuedPoints.{ValuedPoints}
 use Rattle.interp_lex.proofs.InterpolationNeeds.{needs_least}
 
 -- ==== what is found of one output after the other stays found, and the families that each needs are in the plan
 
 -- the list of an element is a part of the whole
 pub all_of_part : {X : Type 0} (list : X → List Family) (xs : List X) (k : ℕ) (x : X) → slice_get xs k ≡ Some x
-    → Covers (all_of list xs) (list x)
+    → Covers (flat_map list xs) (list x)
 all_of_part list [] k x e f h = cc
 all_of_part list (y ∷ ys) zero x e f h = let same : y ≡ x = cc in
-    Has-append_left (list y) (all_of list ys) f (subst (λ z. Has (list z) f) (sym same) h)
-all_of_part list (y ∷ ys) (suc k) x e f h = Has-append_right (list y) (all_of list ys) f (all_of_part list ys k x e f h)
+    Has-append_left (list y) (flat_map list ys) f (subst (λ z. Has (list z) f) (sym same) h)
+all_of_part list (y ∷ ys) (suc k) x e f h = Has-append_right (list y) (flat_map list ys) f (all_of_part list ys k x e f h)
 
 -- ---- the plan
 
@@ -44,7 +45,7 @@ unfolding first_phase
 found_planned d mode fs before less planned =
     let list : ℕ → List Family = λ j. output_list d.inputs d.kind d.rows j ++ cond (is_basis mode)
     (output_leads_list d.inputs d.kind d.rows j) [] in
-    covers_part d.inputs fs (all_of list (output_numbers d.outputs)) (found_list d mode (before + 1)) planned
+    covers_part d.inputs fs (flat_map list (output_numbers d.outputs)) (found_list d mode (before + 1)) planned
     (all_of_part list (output_numbers d.outputs) before (before + 1) (get_output d.outputs before less))
 
 -- ---- what was found
@@ -123,15 +124,15 @@ module _ (s : State) (d : Description) (mode : Mode) (output : ℕ) (vars_are : 
   cares_planned planned = covers_left n s.plan cares least_list (first_planned planned)
 
   -- t is the state after the care sets
-  module _ (t : State) (sets : CareSets) (one : GivesCareSets s t (Ok sets) n d.kind d.rows output) where
+  module _ (t : State) (sets : ValuedPoints) (one : GivesCareSets s t (Ok sets) n d.kind d.rows output) where
     t_vars : t.vars ≡ n
-    t_vars = one.zeros.grows.vars ∙ vars_are
+    t_vars = one.grows.vars ∙ vars_are
 
     zeros_is : family t sets.zeros ≡ Z
-    zeros_is = Denotes-family t sets.zeros Z one.zeros.ok
+    zeros_is = Denotes-family t sets.zeros Z one.zeros
 
     ones_is : family t sets.ones ≡ O
-    ones_is = Denotes-family t sets.ones O one.ones.ok
+    ones_is = Denotes-family t sets.ones O one.ones
 
     pub apart : IsConsistent n d.outputs d.rows → 1 ≤ output → output ≤ d.outputs → AreDisjoint (family t sets.zeros) (family t sets.ones)
     apart ok first last = rw (zeros_is, ones_is) (care_points_disjoint n d.outputs d.kind d.rows output ok first last)
@@ -140,14 +141,14 @@ module _ (s : State) (d : Description) (mode : Mode) (output : ℕ) (vars_are : 
     needs_are = needs_least t sets.zeros sets.ones ∙ rw (t_vars, zeros_is, ones_is) refl
 
     pub least_planned : Planned → Covers t.plan (needs_of t Least sets.zeros sets.ones.0)
-    least_planned planned = rw (needs_are, one.zeros.grows.plan) (covers_right n s.plan cares least_list (first_planned planned))
+    least_planned planned = rw (needs_are, one.grows.plan) (covers_right n s.plan cares least_list (first_planned planned))
 
     -- u is the state after the polynomial
     module _ (u : State) (p : Handle)
         (two : Gives t u (Ok p) (interpolate t.vars (family t sets.zeros) (family t sets.ones)) (needs_of t Least sets.zeros sets.ones.0))
       where
         to_u : Grows s u
-        to_u = Grows-trans s t u one.zeros.grows two.grows
+        to_u = Grows-trans s t u one.grows two.grows
 
         u_vars : u.vars ≡ n
         u_vars = to_u.vars ∙ vars_are
@@ -158,15 +159,15 @@ module _ (s : State) (d : Description) (mode : Mode) (output : ℕ) (vars_are : 
         first_held : Covers u.held (working_set n (output_list n d.kind d.rows output))
         first_held =
             rw list_is
-            (covers_append n u.held cares least_list (λ f i. two.grows.held f (one.zeros.held f i)) (rw needs_are at two.held))
+            (covers_append n u.held cares least_list (λ f i. two.grows.held f (one.held f i)) (rw needs_are at two.held))
 
         points_are : union_of u.vars (family u sets.zeros) (family u sets.ones) ≡ P
         points_are =
             rw (
               u_vars,
-              Denotes-family u sets.zeros Z (two.grows.known sets.zeros.0 Z one.zeros.ok),
+              Denotes-family u sets.zeros Z (two.grows.known sets.zeros.0 Z one.zeros),
               Denotes-family u sets.ones O
-                  (two.grows.known sets.ones.0 O one.ones.ok),
+                  (two.grows.known sets.ones.0 O one.ones),
             ) refl
 
         points_list_is : points_list u.vars (union_of u.vars (family u sets.zeros) (family u sets.ones)) ≡ output_leads_list n d.kind d.rows

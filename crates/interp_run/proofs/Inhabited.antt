@@ -1,5 +1,7 @@
 -- What is due for a worked file of two points over two inputs, in modes anf, basis and check: the premises of the headline
 -- are met.
+use Rattle.interp_run.specs.declared.describe.TheConstants.{MOST_BYTES}
+use Rattle.cert_check.specs.declared.checking.TheConstants.{MOST_INPUTS}
 use Rattle.std.proofs.Common.{◌≡◌, subst, sym, refl, ℕ, ◌≤◌, ◌^◌, ◌⊎◌, List, [], ◌∷◌, ◌++◌, codes, Ok, length, drop, zero, suc}
 use Rattle.std.proofs.Common.{inl, inr, lit<, lit≤, arith}
 use Rattle.std.specs.List.Sorted.{IsStrictlyIncreasing}
@@ -28,8 +30,8 @@ use Rattle.pla_reader.specs.declared.pla.Pla.{Pla}
 use Rattle.pla_reader.specs.Reading.{Description, input_mask, output_mask, row_of, rows_of, up_to_end, first_fault, description}
 use Rattle.pla_reader.specs.Reading.{description_of, reading_of, bytes_taken}
 use Rattle.anf_printer.specs.Text.{numbered, printed_names, variables_of, monomial_text, sum_text, line, basis_lines, output_text, texts_of}
-use Rattle.cert_check.specs.Faults.{first_verdict, misses, is_one_in, greatest_of, is_comparable, is_below_last, has_no_lead}
-use Rattle.cert_check.specs.Faults.{is_out_of_order, is_divided, miscounts, basis_checks, reduced_checks, output_checks, checks_from}
+use Rattle.cert_check.specs.Faults.{first_verdict, misses, is_one_in, greatest_of, is_comparable, is_below_last}
+use Rattle.cert_check.specs.Faults.{is_divided, miscounts, basis_checks, reduced_checks, output_checks, checks_from}
 use Rattle.cert_check.specs.Faults.{verdict_on}
 use Rattle.cert_check.specs.Reading.{answer_reading, bare, is_term, is_sum, is_line, terms_in, factors_of, factors_product, monomial_of}
 use Rattle.cert_check.specs.Reading.{monomials_of, are_known, ascends_from, are_ordered, left_fault, right_fault, line_fault, with_element}
@@ -39,7 +41,7 @@ use Rattle.cert_check.specs.declared.refusal.Verdict.{Verdict}
 use Rattle.cert_check.specs.declared.refusal.Verdict.TheVariants.{Yes}
 use Rattle.watch.specs.declared.note.Note.{Note}
 use Rattle.interp_run.specs.Answers.{first_count, second_count, last_nodes, texts, notes_from}
-use Rattle.interp_run.specs.Due.{IsDue, IsDueChecking, IsDueSolving, checking, done, judged, most_bytes, most_checked_inputs, solving}
+use Rattle.interp_run.specs.Due.{IsDue, IsDueChecking, IsDueSolving, checking, done, judged, solving}
 use Rattle.interp_run.specs.Due.{verdict}
 use Rattle.interp_run.specs.Laws.{two_points, usual_job}
 use Rattle.interp_run.specs.declared.outcome.Outcome.TheVariants as ends
@@ -131,7 +133,7 @@ unfolding p
 consistent output first last = let e : 1 ≡ output = omega (arith, first, last) in
     subst (λ (k : ℕ). AreDisjoint (on_set 2 rows k) (off_set 2 rows k)) e consistent_at
 
-short : length two_points ≤ most_bytes
+short : length two_points ≤ MOST_BYTES
 short = lit≤ tt
 
 -- ---- modes anf and basis
@@ -194,16 +196,16 @@ unfolding bytes_taken up_to_end content words_of arguments_on
 text_is = refl
 
 verdict_is : verdict_on p answer ≡ Yes
-unfolding p answer rows first_verdict misses is_one_in greatest_of is_comparable is_below_last has_no_lead is_out_of_order is_divided
+unfolding p answer rows first_verdict misses is_one_in greatest_of is_comparable is_below_last is_divided
     miscounts basis_checks reduced_checks output_checks checks_from value divides numbers_below family_where has combine cover rows_with
     points_where in_cube
 verdict_is = refl
 
-few : p.inputs ≤ most_checked_inputs
+few : p.inputs ≤ MOST_INPUTS
 unfolding p
 few = lit≤ tt
 
-short_too : length (two_points ++ text) ≤ most_bytes
+short_too : length (two_points ++ text) ≤ MOST_BYTES
 short_too = lit≤ tt
 
 pub due_in_check : IsDue (usual_job Check) (two_points ++ text) (judged Yes)

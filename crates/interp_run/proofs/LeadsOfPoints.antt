@@ -5,7 +5,7 @@ use Rattle.std.proofs.lemmas.Bool.{false≢true}
 use Rattle.lattice.specs.Family.{Family, Covers, union_of}
 use Rattle.lattice.specs.Basis.{leads_of, standard_of, IsLead, basis_element_of}
 use Rattle.lattice.specs.Operations.{IsClosed}
-use Rattle.lattice.specs.WorkingLists.{leads_list, standard_list, working_set, all_of, basis_element_list}
+use Rattle.lattice.specs.WorkingLists.{leads_list, standard_list, working_set, basis_element_list}
 use Rattle.lattice.specs.declared.op.Op.TheVariants.{Standard, Leads}
 use Rattle.node_store.specs.Stores.{State, Denotes, family, IsFull, IsPlanned, IsSound, Grows, Gives, Builds, needs_of, Knows}
 use Rattle.node_store.specs.declared.store.Handle.{Handle}
@@ -17,7 +17,7 @@ use Rattle.std_monomials.proofs.MonomialNeeds.{standard_closed, needs-standard, 
 use Rattle.interp_run.specs.Phases.{GivesLeads, points_list, AreElements, HasLeads, IsSolved, basis_list}
 use Rattle.std.proofs.lemmas.List.{take_more, append-nil, reverse-append, reverse-reverse, map-append}
 use Rattle.std.proofs.lemmas.List.Elements.{All-get_or, All-head, All-tail}
-use Rattle.std.specs.List.{All, AllZip}
+use Rattle.std.specs.List.{All, AllZip, flat_map}
 use Rattle.interp_run.specs.declared.phases.Found.{Found}
 use Rattle.interp_run.specs.declared.phases.Solved.{Solved}
 use Rattle.interp_run.proofs.FoundOutputs.{all_of_part}
@@ -129,9 +129,9 @@ All_at P [] k x all e = cc
 All_at P (y ∷ ys) zero x all e = let same : y ≡ x = cc in subst P same (All-head P y ys all)
 All_at P (y ∷ ys) (suc k) x all e = All_at P ys k x (All-tail P y ys all) e
 
-all_of_end : {X : Type 0} (list : X → List Family) (xs : List X) (x : X) → all_of list (xs ++ x ∷ []) ≡ all_of list xs ++ list x
+all_of_end : {X : Type 0} (list : X → List Family) (xs : List X) (x : X) → flat_map list (xs ++ x ∷ []) ≡ flat_map list xs ++ list x
 all_of_end list [] x = append-nil (list x)
-all_of_end list (y ∷ ys) x = ap (λ rest. list y ++ rest) (all_of_end list ys x) ∙ sym (append_assoc (list y) (all_of list ys) (list x))
+all_of_end list (y ∷ ys) x = ap (λ rest. list y ++ rest) (all_of_end list ys x) ∙ sym (append_assoc (list y) (flat_map list ys) (list x))
 
 -- what denotes families still does in a later state
 zip_later : (t u : State) (hs : List Handle) (fs : List Family) → Grows t u → AllZip (Denotes t) hs fs → AllZip (Denotes u) hs fs
@@ -151,7 +151,7 @@ pub record ElementsBefore (s t : State) (f : Found) (rest : List ℕ) (elements 
   pub split : family s f.leads ≡ done ++ reverse rest
   pub grows : Grows s t
   pub each : AllZip (Denotes t) elements (map (element_in s f) done)
-  pub held : Covers t.held (working_set s.vars (all_of (needed_in s f) done))
+  pub held : Covers t.held (working_set s.vars (flat_map (needed_in s f) done))
 
 pub elements_none : (s t : State) (f : Found) (rest : List ℕ) (elements : List Handle) → Grows s t → elements ≡ []
     → rest ≡ reverse (family s f.leads) → ElementsBefore s t f rest elements
@@ -208,7 +208,7 @@ module _ (s t : State) (f : Found) (rest left : List ℕ) (m : ℕ) (elements : 
             (zip_more (Denotes u) elements (map (element_in s f) before.done) h (element_in s f m)
             (zip_later t u elements (map (element_in s f) before.done) gives.grows before.each) one);
         held = rw (all_of_end (needed_in s f) before.done m)
-            (covers_append s.vars u.held (all_of (needed_in s f) before.done) (needed_in s f m)
+            (covers_append s.vars u.held (flat_map (needed_in s f) before.done) (needed_in s f m)
             (λ g i. gives.grows.held g (before.held g i)) held);
       }
 

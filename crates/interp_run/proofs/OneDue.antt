@@ -1,8 +1,11 @@
 -- Words ask for one job at most. Exactly one thing is due for a job and bytes that have a file; it is no fault of the run.
+use Rattle.interp_run.specs.declared.describe.TheConstants.{MOST_BYTES}
+use Rattle.cert_check.specs.declared.checking.TheConstants.{MOST_INPUTS}
 use Rattle.std.proofs.Common.{◌≡◌, ◌≢◌, ◌∙◌, ap, ℕ, zero, suc, ◌<◌, length, List, [], ◌∷◌, Option, Some, refl, sym, inl, inr, ◌⊎◌, ⊎_elim}
 use Rattle.std.proofs.Common.{arith, subst, Bool, true, false, ap₂, ◌+◌, ◌^◌, ◌≤◌, cond, ◌++◌, get_or, codes, None, drop}
 use Rattle.std.specs.Prelude.{Contains, Result, Ok, Err, if◌then◌else◌, nat_lt, length, ◌↔◌, IsNone, IfSome}
 use Rattle.std.specs.List.{slice_index_or}
+use Rattle.std.specs.Result.{result_map_both}
 use Rattle.lattice.specs.declared.kind.Mode.{Mode}
 use Rattle.lattice.specs.declared.kind.Mode.TheVariants.{Anf, Basis, Check, Gen}
 use Rattle.cli_words.specs.CommandLine.{mode_name, modes}
@@ -16,8 +19,8 @@ use Rattle.cert_check.specs.Reading.{answer_reading, read_on}
 use Rattle.cert_check.specs.declared.refusal.Verdict.{Verdict}
 use Rattle.cert_check.specs.declared.refusal.Verdict.TheVariants.{Yes, No}
 use Rattle.interp_run.specs.Due.{Due, HasText, IsDue, IsDueChecking, IsDueSolving, checking, contradiction, contradiction_behind, done}
-use Rattle.interp_run.specs.Due.{first_nodes_over, first_terms_over, judged, judged_outcome, last_nodes_over, last_terms_over, most_bytes}
-use Rattle.interp_run.specs.Due.{most_checked_inputs, no_answer, no_file, or_ends, silent, solving, verdict, IsExhausted, contradicted}
+use Rattle.interp_run.specs.Due.{first_nodes_over, first_terms_over, judged, last_nodes_over, last_terms_over}
+use Rattle.interp_run.specs.Due.{no_answer, no_file, silent, solving, verdict, IsExhausted, contradicted}
 use Rattle.interp_run.specs.Due.{file_of, given_of, solved}
 use Rattle.interp_run.specs.Parts.{EndsWithout, due_without, exhausted_without, no_memory}
 use Rattle.interp_run.specs.declared.outcome.Outcome.{Outcome}
@@ -93,7 +96,7 @@ is_owed _ = true
 
 error_owed : {T E : Type 0} (test : Bool) (first o : Outcome) (end : E → Outcome) (r : Result T E) → is_owed first ≡ true
     → ((e : E) → is_owed (end e) ≡ true)
-    → (if test then Err first else or_ends end r) ≡ Err o → is_owed o ≡ true
+    → (if test then Err first else result_map_both (λ x. x) end r) ≡ Err o → is_owed o ≡ true
 error_owed true first o end r a b e = let same : first ≡ o = cc in ap is_owed (sym same) ∙ a
 error_owed false first o end (Ok x) a b e = cc
 error_owed false first o end (Err y) a b e = let same : end y ≡ o = cc in ap is_owed (sym same) ∙ b y
@@ -114,6 +117,10 @@ judged_shape : (v : Verdict) → Shape (judged v)
 judged_shape Yes = (refl, inl tt, inr refl)
 judged_shape (No line why) = (refl, inl tt, inr refl)
 
+judged_notes : (v : Verdict) → (judged v).notes ≡ []
+judged_notes Yes = refl
+judged_notes (No line why) = refl
+
 module _ (job : Job) where
   solving_shape : (d : Description) {due : Due} → IsDueSolving job d due → Shape due
   solving_shape d (done answers are few fits all) = (refl, inl tt, inl refl)
@@ -121,13 +128,13 @@ module _ (job : Job) where
 
   checking_shape : (p : Pla) (text : List ℕ) {due : Due} → IsDueChecking p text due → Shape due × (due.notes ≡ [])
   checking_shape p text (no_answer o e) =
-      (silent_shape o (error_owed (nat_lt most_checked_inputs p.inputs) ends.TooWide o _ (answer_reading p text) refl (λ r. refl) e), refl)
+      (silent_shape o (error_owed (nat_lt MOST_INPUTS p.inputs) ends.TooWide o _ (answer_reading p text) refl (λ r. refl) e), refl)
   checking_shape p text (contradiction_behind answer c e least) = (silent_shape _ refl, refl)
-  checking_shape p text (verdict answer e ok) = (judged_shape (verdict_on p answer), refl)
+  checking_shape p text (verdict answer e ok) = (judged_shape (verdict_on p answer), judged_notes (verdict_on p answer))
 
   pub shape : (bytes : List ℕ) {due : Due} → IsDue job bytes due → Shape due
   shape bytes (no_file o e) = silent_shape o
-      (error_owed (nat_lt most_bytes (length bytes)) ends.TooLong o _ (reading_of bytes) refl (λ r. refl) e)
+      (error_owed (nat_lt MOST_BYTES (length bytes)) ends.TooLong o _ (reading_of bytes) refl (λ r. refl) e)
   shape bytes (solving d due e mode is) = solving_shape d is
   shape bytes (checking p due e mode is) = (checking_shape p _ is).0
 
@@ -154,8 +161,8 @@ pub unjudged_owed : (bytes : List ℕ) {o : Outcome} → ((job : Job) → job.mo
 unfolding checking_job
 unjudged_owed bytes h = without_owed checking_job bytes (h checking_job refl)
 
-pub checked_owed : (v : Verdict) → (judged_outcome v ≢ ends.Usage) × (judged_outcome v ≢ ends.ReadFault)
-    × (judged_outcome v ≢ ends.WriteFault)
+pub checked_owed : (v : Verdict) → ((judged v).outcome ≢ ends.Usage) × ((judged v).outcome ≢ ends.ReadFault)
+    × ((judged v).outcome ≢ ends.WriteFault)
 checked_owed Yes = (λ e. cc, λ e. cc, λ e. cc)
 checked_owed (No line why) = (λ e. cc, λ e. cc, λ e. cc)
 
@@ -193,8 +200,8 @@ same_answers d mode xs ys a b = same_lists xs ys (a.count ∙ sym b.count) (λ k
 -- ---- one contradiction
 
 no_clash : (n outputs : ℕ) (rows : List Row) (c : Clash) → IsConsistent n outputs rows → IsClash n outputs rows rows c → ⊥
-no_clash n outputs rows c consistent clash = (consistent_by_rows n outputs rows).0 consistent c.output clash.shared.point clash.on_row
-    clash.off_row clash.first clash.last clash.shared.below clash.on clash.off clash.shared.in_first clash.shared.in_second
+no_clash n outputs rows c consistent clash = (consistent_by_rows n outputs rows).0 consistent c.output clash.shared.0 clash.on_row
+    clash.off_row clash.first clash.last clash.shared.1 clash.on clash.off clash.shared.2 clash.shared.3
 
 neither_after : (c e : Clash) → IsNotAfter c e → IsNotAfter e c → c ≡ e
 neither_after c e (inr (o, inr (l, a))) (inr (p, inr (m, b))) = let f : c.off_line ≡ e.off_line = omega (arith, a, b) in
@@ -277,7 +284,7 @@ module _ (job : Job) (d : Description) where
 module _ (p q : Pla) (e : description p ≡ description q) (text : List ℕ) where
   same_given : given_of p text ≡ given_of q text
   same_given =
-      ap (λ (d : Description). if nat_lt most_checked_inputs d.inputs then Err ends.TooWide else or_ends
+      ap (λ (d : Description). if nat_lt MOST_INPUTS d.inputs then Err ends.TooWide else result_map_both (λ answer. answer)
       (λ (r : _). ends.AnswerText r.0 r.1)
       (read_on (printed_names (codes "x") d.inputs d.in_names) (printed_names (codes "f") d.outputs d.out_names) 0 [] (lines_of text))) e
 

@@ -2,13 +2,13 @@
 use Rattle.std.proofs.Common.{◌≡◌, ℕ, zero, suc, ◌+◌, ◌<◌, List, [], ◌∷◌, ◌++◌, length, map, Some, slice_get, refl, sym, ap}
 use Rattle.std.proofs.Common.{ap₂, subst, ◌∙◌, ◌⊎◌, ⊎_elim, arith}
 use Rattle.std.specs.Prelude.{option_map}
-use Rattle.std.specs.List.{All, AllZip, sum_by}
+use Rattle.std.specs.List.{All, AllZip, sum_by, flat_map}
 use Rattle.std.proofs.lemmas.List.{length-map, map-append}
 use Rattle.std.proofs.lemmas.List.Sums.{sum_by-cons}
 use Rattle.std.proofs.lemmas.List.Elements.{All-nil, All-cons}
 use Rattle.std.proofs.lemmas.Option.{same_Some, slice_get-map, slice_get_within}
 use Rattle.lattice.specs.Family.{Family, Covers, numbers_below}
-use Rattle.lattice.specs.WorkingLists.{all_of, output_numbers, working_set}
+use Rattle.lattice.specs.WorkingLists.{output_numbers, working_set}
 use Rattle.lattice.proofs.Diagrams.{covers_append, covers_nil, covers_left, covers_right}
 use Rattle.lattice.proofs.Polynomials.{length-numbers_below}
 
@@ -100,13 +100,13 @@ zip_through R S T f (x ∷ xs) (y ∷ ys) [] a b = absurd b
 
 pub set_all : {X Y : Type 0} (R : X → Y → Type 0) (n : ℕ) (fs : List Family) (list : Y → List Family)
     → ((x : X) (y : Y) → R x y → Covers fs (working_set n (list y)))
-    → (xs : List X) (ys : List Y) → AllZip R xs ys → Covers fs (working_set n (all_of list ys))
-set_all R n fs list f = zip_fold R (λ xs ys. Covers fs (working_set n (all_of list ys))) (covers_nil n fs)
-    (λ x xs y ys r rest. covers_append n fs (list y) (all_of list ys) (f x y r) rest)
+    → (xs : List X) (ys : List Y) → AllZip R xs ys → Covers fs (working_set n (flat_map list ys))
+set_all R n fs list f = zip_fold R (λ xs ys. Covers fs (working_set n (flat_map list ys))) (covers_nil n fs)
+    (λ x xs y ys r rest. covers_append n fs (list y) (flat_map list ys) (f x y r) rest)
 
 pub set_each : {X Y : Type 0} (R : X → Y → Type 0) (P : X → Type 0) (n : ℕ) (fs : List Family) (list : Y → List Family)
     → ((x : X) (y : Y) → R x y → Covers fs (working_set n (list y)) → P x)
-    → (xs : List X) (ys : List Y) → AllZip R xs ys → Covers fs (working_set n (all_of list ys)) → All P xs
-set_each R P n fs list f = zip_fold R (λ xs ys. Covers fs (working_set n (all_of list ys)) → All P xs) (λ all. All-nil P)
-    (λ x xs y ys r rest all. All-cons P x xs (f x y r (covers_left n fs (list y) (all_of list ys) all))
-    (rest (covers_right n fs (list y) (all_of list ys) all)))
+    → (xs : List X) (ys : List Y) → AllZip R xs ys → Covers fs (working_set n (flat_map list ys)) → All P xs
+set_each R P n fs list f = zip_fold R (λ xs ys. Covers fs (working_set n (flat_map list ys)) → All P xs) (λ all. All-nil P)
+    (λ x xs y ys r rest all. All-cons P x xs (f x y r (covers_left n fs (list y) (flat_map list ys) all))
+    (rest (covers_right n fs (list y) (flat_map list ys) all)))

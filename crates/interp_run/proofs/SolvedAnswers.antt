@@ -2,7 +2,7 @@
 use Rattle.std.proofs.Common.{◌≡◌, ℕ, ◌+◌, ◌<◌, ◌≤◌, Bool, true, false, cond, List, [], ◌∷◌, ◌++◌, length, map, Option, Some}
 use Rattle.std.proofs.Common.{None, ◌&&◌, not, is_some, IfNone, IfSome, refl, sym, ap, ap₂, subst, ◌∙◌, inl, inr}
 use Rattle.std.proofs.Common.{arith}
-use Rattle.std.specs.List.{All, AllZip, sum_by}
+use Rattle.std.specs.List.{All, AllZip, sum_by, flat_map}
 use Rattle.std.proofs.lemmas.List.Sums.{sum_by-cons, get_or-le-sum_by}
 use Rattle.std.proofs.lemmas.Bool.{cases_Bool, and_parts, true≢false, false≢true}
 use Rattle.std.proofs.lemmas.List.{length-map, map-id}
@@ -12,7 +12,7 @@ use Rattle.lattice.specs.Family.{Family, IsFamily, Covers, includes, is_distinct
 use Rattle.lattice.specs.Interpolation.{interpolate}
 use Rattle.lattice.specs.Basis.{IsLead, basis_element_of, leads_of, standard_of, reduced_basis_of}
 use Rattle.lattice.specs.Rows.{IsConsistent, points_where, care_ones, care_zeros, is_one, is_zero}
-use Rattle.lattice.specs.WorkingLists.{all_of, basis_element_list, care_set, is_basis, first_phase, second_phase, output_basis_list}
+use Rattle.lattice.specs.WorkingLists.{basis_element_list, care_set, is_basis, first_phase, second_phase, output_basis_list}
 use Rattle.lattice.specs.WorkingLists.{output_numbers, working_set}
 use Rattle.lattice.specs.declared.kind.Mode.{Mode}
 use Rattle.lattice.proofs.Diagrams.{covered_length, covers_append, covers_left, covers_right, working_set_is_node_list, get_map}
@@ -121,25 +121,25 @@ first_list d mode = first_phase d.inputs d.outputs d.kind d.rows mode
 abbrev pub last_list : Description → Mode → List Family
 last_list d mode = second_phase d.inputs d.outputs d.kind d.rows mode
 
-pub first_list_is : (d : Description) (mode : Mode) → first_list d mode ≡ all_of (found_list d mode) (output_numbers d.outputs)
+pub first_list_is : (d : Description) (mode : Mode) → first_list d mode ≡ flat_map (found_list d mode) (output_numbers d.outputs)
 unfolding first_phase
 first_list_is d mode = refl
 
 -- all that phase 2 adds
 abbrev pub added_list : Description → Mode → List Family
-added_list d mode = cond (is_basis mode) (all_of (output_basis_list d.inputs d.kind d.rows) (output_numbers d.outputs)) []
+added_list d mode = cond (is_basis mode) (flat_map (output_basis_list d.inputs d.kind d.rows) (output_numbers d.outputs)) []
 
 pub last_list_is : (d : Description) (mode : Mode) → last_list d mode ≡ first_list d mode ++ added_list d mode
 unfolding second_phase
 last_list_is d mode = refl
 
 all_of_cond : {X : Type 0} (b : Bool) (list : X → List Family) (xs : List X)
-    → cond b (all_of list xs) [] ≡ all_of (λ x. cond b (list x) []) xs
+    → cond b (flat_map list xs) [] ≡ flat_map (λ x. cond b (list x) []) xs
 all_of_cond true list xs = refl
 all_of_cond false list [] = refl
 all_of_cond false list (x ∷ xs) = all_of_cond false list xs
 
-added_is : (d : Description) (mode : Mode) → added_list d mode ≡ all_of (basis_part d mode) (output_numbers d.outputs)
+added_is : (d : Description) (mode : Mode) → added_list d mode ≡ flat_map (basis_part d mode) (output_numbers d.outputs)
 added_is d mode = all_of_cond (is_basis mode) (output_basis_list d.inputs d.kind d.rows) (output_numbers d.outputs)
 
 -- the plan of a run has what phase 1 needs
@@ -162,7 +162,7 @@ sum_by_map f h (x ∷ xs) = omega (arith, sum_by-cons f (h x) (map h xs), sum_by
 
 -- the families of basis elements, by the number of variables, the points and the leads
 abbrev pub elements_list : ℕ → Family → Family → List Family
-elements_list n points leads = all_of (λ m. basis_element_list n m points) leads
+elements_list n points leads = flat_map (λ m. basis_element_list n m points) leads
 
 abbrev pub elements_of : ℕ → Family → Family → List Family
 elements_of n points leads = map (λ m. basis_element_of n m points) leads
@@ -365,12 +365,12 @@ module _ (d : Description) (mode : Mode) where
 
     held_all : (part : ℕ → List Family)
         → ((o : Solved) (output : ℕ) → IsAnswered d mode t o output → Covers t.held (working_set d.inputs (part output)))
-        → Covers t.held (working_set d.inputs (all_of part all_numbers))
+        → Covers t.held (working_set d.inputs (flat_map part all_numbers))
     held_all part each = set_all (IsAnswered d mode t) d.inputs t.held part each solved all_numbers are
 
     pub last_fits : IsSound t → last_nodes d mode ≤ t.capacity
     last_fits ok = fits t d.inputs (last_list d mode) ok (rw (last_list_is d mode, first_list_is d mode, added_is d mode)
-        (covers_append d.inputs t.held (all_of (found_list d mode) all_numbers) (all_of (basis_part d mode) all_numbers)
+        (covers_append d.inputs t.held (flat_map (found_list d mode) all_numbers) (flat_map (basis_part d mode) all_numbers)
         (held_all (found_list d mode) (λ o output is. is.first)) (held_all (basis_part d mode) (λ o output is. is.added))))
 
 -- ---- the counts

@@ -17,6 +17,7 @@ use Rattle.anf_printer.specs.Text.{Answer, IsAnswerOver as IsAnswer, answer_of, 
 use Rattle.anf_printer.specs.declared.answer.Shown.{Shown}
 use Rattle.anf_printer.proofs.PrintedLists.{count_printed}
 use Rattle.watch.specs.declared.note.Note.{Note}
+use Rattle.interp_run.specs.Due.{Due}
 use Rattle.interp_run.specs.Answers.{AreAnswers, IsAnswerOf, notes_from, texts}
 use Rattle.std.specs.Io.KnownBytes.{Appends}
 use Rattle.std.proofs.lemmas.List.Folds.{concat-append}
@@ -108,21 +109,20 @@ pub page_begun : (old middle new : Option (List ℕ)) (pages : List (List ℕ)) 
     → Appends old middle (concat (take i pages)) → GainsFront middle new page → GainsFront old new (concat pages)
 page_begun old middle new pages i d page within is before here =
     let start : List ℕ = concat (take i pages) in
-    let part : List ℕ = here.part in
+    let part : List ℕ = here.0 in
     let rest : List ℕ = drop (length part) page ++ concat (drop (i + 1) pages) in
     let page_is : page ≡ part ++ drop (length part) page = sym (take-append-drop (length part) page)
-    ∙ ap (λ (l : List ℕ). l ++ drop (length part) page) here.front in
+    ∙ ap (λ (l : List ℕ). l ++ drop (length part) page) here.1 in
     let split : pages ≡ take (i + 1) pages ++ drop (i + 1) pages = sym (take-append-drop (i + 1) pages) in
     let whole : concat pages ≡ (start ++ part) ++ rest =
     ap concat split ∙ (concat-append (take (i + 1) pages) (drop (i + 1) pages)
     ∙ (ap (λ (l : List ℕ). l ++ concat (drop (i + 1) pages)) (page_more pages i d within
     ∙ ap (λ (l : List ℕ). start ++ l) (sym is ∙ page_is))
-    ∙ regroup start part (drop (length part) page) (concat (drop (i + 1) pages)))) in
-    record {
-      part = start ++ part;
-      front = ap (take (length (start ++ part))) whole ∙ take-append_seam (start ++ part) rest;
-      gained = appends_both old middle new start part before here.gained;
-    }
+    ∙ regroup start part (drop (length part) page) (concat (drop (i + 1) pages)))) in (
+      start ++ part,
+      ap (take (length (start ++ part))) whole ∙ take-append_seam (start ++ part) rest,
+      appends_both old middle new start part before here.2,
+    )
   where
     regroup : (a b c e : List ℕ) → (a ++ (b ++ c)) ++ e ≡ (a ++ b) ++ (c ++ e)
     regroup a b c e = simp append_assoc
@@ -201,15 +201,15 @@ gained_is (Some xs) (Some ms) (Some ys) start part bytes gained h k a b =
     cancel bytes gained (start ++ part) (sym end
     ∙ (k ∙ (ap (λ (l : List ℕ). l ++ part) (h ∙ ap (λ (l : List ℕ). l ++ start) at) ∙ append_assoc bytes start part)))
 
-pub stopped_at : (old middle new : Option (List ℕ)) (pages : List (List ℕ)) (notes : List Note) (i : ℕ) (page : List ℕ)
-    (before after : List WatcherState) → i < length pages → page ≡ get_or pages i page
-    → Appends old middle (concat (take i pages)) → GainsLess middle new page → after ≡ left_after_all (take i notes) before
-    → TellsFirst old new pages notes before after
-stopped_at old middle new pages notes i page before after within is sofar here left = record {
+pub stopped_at : (old middle new : Option (List ℕ)) (due : Due) (i : ℕ) (page : List ℕ) (before after : List WatcherState)
+    → i < length due.pages → page ≡ get_or due.pages i page
+    → Appends old middle (concat (take i due.pages)) → GainsLess middle new page → after ≡ left_after_all (take i due.notes) before
+    → TellsFirst old new due before after
+stopped_at old middle new due i page before after within is sofar here left = record {
   count = i;
   left = left;
-  holds = λ bytes gained a b. holds_first pages i page here.part gained within is here.less
-      (gained_is old middle new (concat (take i pages)) here.part bytes gained sofar here.gained a b);
+  holds = λ bytes gained a b. holds_first due.pages i page here.part gained within is here.less
+      (gained_is old middle new (concat (take i due.pages)) here.part bytes gained sofar here.gained a b);
 }
 
 pub on_err : {T E : Type 0} (r : Result T E) (P : Type 0) → IsErr r → P → OnErr r P

@@ -1,5 +1,6 @@
 -- The answers that a consistent description is due, and what counts their terms.
-use Rattle.std.specs.Prelude.{◌≡◌, ℕ, ◌+◌, List, [], ◌∷◌, true, false, Some, length, slice_get, sum_by, codes}
+use Rattle.std.specs.Prelude.{◌≡◌, ℕ, ◌+◌, List, [], true, false, Some, length, map, slice_get, sum_by, codes}
+use Rattle.std.specs.List.{enumerate_from}
 use Rattle.lattice.specs.Interpolation.{IsLeast}
 use Rattle.lattice.specs.Basis.{IsReducedBasis}
 use Rattle.lattice.specs.Rows.{IsConsistent, care_zeros, care_ones}
@@ -38,11 +39,9 @@ last_nodes d mode = length (working_set d.inputs (second_phase d.inputs d.output
 
 -- the texts of the outputs
 abbrev pub texts : Description → Mode → List Answer → List (List ℕ)
-texts d mode answers = texts_of mode (printed_names (codes "x") d.inputs d.in_names) (printed_names (codes "f") d.outputs d.out_names)
-    answers
+texts d mode = texts_of mode (printed_names (codes "x") d.inputs d.in_names) (printed_names (codes "f") d.outputs d.out_names)
 
 -- what the watchers are told of the outputs from the given number on
 unfoldable pub notes_from : ℕ → List Answer → List Note
-notes_from output [] = []
-notes_from output (a ∷ answers) = record { output = output; terms = length a.polynomial; basis = length a.basis } ∷ notes_from (output + 1)
-    answers
+notes_from first answers = map (λ o. record { output = o.0; terms = length o.1.polynomial; basis = length o.1.basis })
+    (enumerate_from first answers)

@@ -1,6 +1,7 @@
 -- What is due for a job and the bytes of a source: how the run ends, what out gains, and what the watchers are told.
 use Rattle.std.specs.Prelude.{◌≡◌, ◌⊎◌, ℕ, ◌^◌, ◌<◌, ◌≤◌, nat_lt, List, [], ◌∷◌, ◌++◌, length, drop, codes, decimal, Result, Ok, Err}
 use Rattle.std.specs.Prelude.{if◌then◌else◌}
+use Rattle.std.specs.Result.{result_map_both}
 use Rattle.lattice.specs.Rows.{IsConsistent}
 use Rattle.lattice.specs.declared.kind.Mode.TheVariants.{Anf, Basis, Check}
 use Rattle.pla_reader.specs.Reading.{Description, bytes_taken, description, reading_of}
@@ -12,37 +13,27 @@ use Rattle.cert_check.specs.Faults.{verdict_on}
 use Rattle.cert_check.specs.Reading.{answer_reading}
 use Rattle.cert_check.specs.declared.answer.GivenOutput.{GivenOutput}
 use Rattle.cert_check.specs.Causes.{fault_name}
+use Rattle.cert_check.specs.declared.checking.TheConstants.{MOST_INPUTS}
 use Rattle.cert_check.specs.declared.refusal.Verdict.{Verdict}
 use Rattle.cert_check.specs.declared.refusal.Verdict.TheVariants.{Yes, No}
 use Rattle.cli_words.specs.declared.job.Job.{Job}
 use Rattle.watch.specs.declared.note.Note.{Note}
 use Rattle.interp_run.specs.Answers.{AreAnswers, first_count, second_count, first_nodes, last_nodes, texts, notes_from}
+use Rattle.interp_run.specs.declared.describe.TheConstants.{MOST_BYTES}
 use Rattle.interp_run.specs.declared.outcome.Outcome.{Outcome}
 use Rattle.interp_run.specs.declared.outcome.Outcome.TheVariants as ends
-
--- a source may give so many bytes, and an answer is judged for so many inputs
-abbrev pub most_bytes : ℕ
-most_bytes = 4194304
-
-abbrev pub most_checked_inputs : ℕ
-most_checked_inputs = 14
-
--- a result, whose error is how a run ends
-abbrev pub or_ends : {T E : Type 0} → (E → Outcome) → Result T E → Result T Outcome
-or_ends end (Ok x) = Ok x
-or_ends end (Err e) = Err (end e)
 
 -- the file that a run is about, or how the run ends that has none
 abbrev pub file_of : Job → List ℕ → Result Description Outcome
 file_of job bytes =
-    if nat_lt most_bytes (length bytes) then Err ends.TooLong else or_ends (λ refusal. ends.Text refusal.line refusal.why)
-    (reading_of bytes)
+    if nat_lt MOST_BYTES (length bytes) then Err ends.TooLong
+    else result_map_both (λ d. d) (λ refusal. ends.Text refusal.line refusal.why) (reading_of bytes)
 
 -- the answer that is judged, or how the run ends that has none
 abbrev pub given_of : Pla → List ℕ → Result (List GivenOutput) Outcome
 given_of p text =
-    if nat_lt most_checked_inputs p.inputs then Err ends.TooWide else or_ends (λ refusal. ends.AnswerText refusal.0 refusal.1)
-    (answer_reading p text)
+    if nat_lt MOST_INPUTS p.inputs then Err ends.TooWide
+    else result_map_both (λ answer. answer) (λ refusal. ends.AnswerText refusal.0 refusal.1) (answer_reading p text)
 
 -- ---- how a run ends, the texts that out gains, and what the watchers are told of each
 
@@ -64,16 +55,11 @@ abbrev pub solved : Job → Description → List Answer → Due
 solved job d answers = record { outcome = ends.Done; pages = texts d job.mode answers; notes = notes_from 1 answers }
 
 -- of one that has this verdict
-abbrev pub verdict_text : Verdict → List ℕ
-verdict_text Yes = codes "yes\n"
-verdict_text (No line why) = codes "no " ++ decimal line ++ codes " " ++ fault_name why ++ codes "\n"
-
-abbrev pub judged_outcome : Verdict → Outcome
-judged_outcome Yes = ends.Done
-judged_outcome (No line why) = ends.No line why
-
 abbrev pub judged : Verdict → Due
-judged v = record { outcome = judged_outcome v; pages = verdict_text v ∷ []; notes = [] }
+judged Yes = record { outcome = ends.Done; pages = codes "yes\n" ∷ []; notes = [] }
+judged (No line why) =
+    let page = codes "no " ++ decimal line ++ codes " " ++ fault_name why ++ codes "\n" in
+    record { outcome = ends.No line why; pages = page ∷ []; notes = [] }
 
 -- ---- what is due where nothing fails and memory suffices, a constructor for each cause, the first cause first
 

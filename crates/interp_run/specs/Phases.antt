@@ -1,11 +1,11 @@
 -- What the two phases of a run find on a store.
 use Rattle.std.specs.Prelude.{◌≡◌, ℕ, ◌+◌, ◌∷◌, ◌++◌, List, [], true, Result, IfOk, OnOk, OnErr, cond, length, map, sum_by}
-use Rattle.std.specs.List.{All, AllZip}
+use Rattle.std.specs.List.{All, AllZip, flat_map}
 use Rattle.lattice.specs.Family.{Family, Covers}
 use Rattle.lattice.specs.Interpolation.{interpolate}
 use Rattle.lattice.specs.Basis.{IsLead, basis_element_of, leads_of, standard_of}
 use Rattle.lattice.specs.Rows.{care_ones, care_zeros}
-use Rattle.lattice.specs.WorkingLists.{all_of, basis_element_list, care_set, is_basis, leads_list, output_leads_list, output_list}
+use Rattle.lattice.specs.WorkingLists.{basis_element_list, care_set, is_basis, leads_list, output_leads_list, output_list}
 use Rattle.lattice.specs.WorkingLists.{output_numbers, standard_list, working_set}
 use Rattle.lattice.specs.declared.kind.Mode.{Mode}
 use Rattle.node_store.specs.Stores.{Denotes, Grows, IsFull, Knows, State, family}
@@ -53,7 +53,7 @@ FindsFirst s d mode count found = AllZip (λ f output. IsFound s d mode output f
 
 -- the families that phase 2 needs for an output
 abbrev pub basis_list : State → Found → List Family
-basis_list s f = all_of (λ m. basis_element_list s.vars m (family s f.points)) (family s f.leads)
+basis_list s f = flat_map (λ m. basis_element_list s.vars m (family s f.points)) (family s f.leads)
 
 -- what was found of an output is leads of points, and the families of their basis elements are in the plan
 pub record HasLeads (s : State) (f : Found) : Type 0 where

@@ -10,7 +10,6 @@ use Rattle.clap.specs.Words.{fault_of, matches_of}
 use Rattle.cli_words.specs.CommandLine.{IsJob, interp_command}
 use Rattle.cli_words.specs.declared.job.Job.{Job}
 use Rattle.watch.specs.Notes.{WatcherState, left_after_all}
-use Rattle.watch.specs.declared.note.Note.{Note}
 use Rattle.interp_run.specs.Due.{Due, HasText, IsDue, IsExhausted}
 use Rattle.interp_run.specs.declared.outcome.Outcome.{Outcome}
 use Rattle.interp_run.specs.declared.outcome.Outcome.TheVariants as ends
@@ -66,11 +65,10 @@ pub record HoldsFirst (pages : List (List ℕ)) (gained : List ℕ) (count : ℕ
   pub greatest : (more : ℕ) → more ≤ length pages → StartsWith gained (concat (take more pages)) → more ≤ count
 
 -- the watchers were told of so many outputs, as many as out gained whole, where it tells its bytes
-pub record TellsFirst (old new : Option (List ℕ)) (pages : List (List ℕ)) (notes : List Note) (before after : List WatcherState) : Type 0
-  where
-    pub count : ℕ
-    pub left : after ≡ left_after_all (take count notes) before
-    pub holds : (bytes gained : List ℕ) → old ≡ Some bytes → new ≡ Some (bytes ++ gained) → HoldsFirst pages gained count
+pub record TellsFirst (old new : Option (List ℕ)) (due : Due) (before after : List WatcherState) : Type 0 where
+  pub count : ℕ
+  pub left : after ≡ left_after_all (take count due.notes) before
+  pub holds : (bytes gained : List ℕ) → old ≡ Some bytes → new ≡ Some (bytes ++ gained) → HoldsFirst due.pages gained count
 
 -- a run with these words on these bytes ends with an outcome: with the one that is due, or for a fault, for want of memory, or
 -- because it needs more nodes than there are slots. The rest says what out gained, and who of the watchers is left.
@@ -80,8 +78,8 @@ pub data Ends (words : List (List ℕ)) (bytes : List ℕ) (old new : Option (Li
   as_due : (job : Job) (due : Due) → IsAsked words job → IsDue job bytes due → Appends old new (concat due.pages)
       → after ≡ left_after_all due.notes before → Ends words bytes old new before after due.outcome
   write_fault : (job : Job) (due : Due) → IsAsked words job → IsDue job bytes due → HasText due.outcome
-      → GainsFront old new (concat due.pages)
-      → TellsFirst old new due.pages due.notes before after → Ends words bytes old new before after ends.WriteFault
+      → GainsFront old new (concat due.pages) → TellsFirst old new due before after
+      → Ends words bytes old new before after ends.WriteFault
   exhausted : (job : Job) → IsAsked words job → IsExhausted job bytes → Keeps old new → after ≡ before
       → Ends words bytes old new before after (ends.Exhausted (2 ^ job.nodes))
   read_fault : (job : Job) → IsAsked words job → Keeps old new → after ≡ before → Ends words bytes old new before after ends.ReadFault

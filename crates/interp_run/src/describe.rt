@@ -3,7 +3,7 @@ ghost use Rattle.std.specs.Prelude.{◌≡◌, ◌≤◌, IfOk, IfErr, IfSome, I
 ghost use Rattle.lattice.specs.Rows.{IsConsistent};
 ghost use Rattle.cli_words.specs.declared.job.Job.{Job};
 ghost use Rattle.pla_reader.specs.Reading.{bytes_taken, description};
-ghost use Rattle.interp_run.specs.Due.{file_of, most_bytes};
+ghost use Rattle.interp_run.specs.Due.{file_of};
 ghost use Rattle.interp_run.specs.Parts.{EndsWithout, IsContradiction};
 
 use crate::Outcome;
@@ -17,7 +17,7 @@ pub(crate) const MOST_BYTES: usize = 4_194_304;
 /// The description of the bytes and the number of bytes that it takes, or how the run ends without it.
 pub(crate) fn description_of(alloc: Global, bytes: &[u8]) -> Result<(Pla, usize), Outcome>
     ensures ok { IfOk result (λ found. (job : Job) → file_of job bytes.now ≡ Ok (description found.0)) }
-    ensures few { OnOk result (length bytes.now ≤ most_bytes) }
+    ensures few { OnOk result (length bytes.now ≤ MOST_BYTES) }
     ensures taken { IfOk result (λ found. found.1 ≡ bytes_taken bytes.now) }
     ensures err { IfErr result (λ o. (job : Job) → EndsWithout job bytes.now o) }
 {

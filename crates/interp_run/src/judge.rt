@@ -1,8 +1,8 @@
 //! Mode check: an answer that stands after its description is judged.
-ghost use Rattle.std.specs.Prelude.{◌≡◌, drop, IfErr, IfOk};
+ghost use Rattle.std.specs.Prelude.{◌≡◌, ◌∷◌, [], drop, IfErr, IfOk};
 ghost use Rattle.cli_words.specs.declared.job.Job.{Job};
 ghost use Rattle.lattice.specs.declared.kind.Mode.TheVariants.{Check};
-ghost use Rattle.interp_run.specs.Due.{IsDue, judged, judged_outcome, verdict_text};
+ghost use Rattle.interp_run.specs.Due.{IsDue, judged};
 ghost use Rattle.interp_run.specs.Parts.{EndsWithout, refused_outcome};
 
 use crate::Outcome;
@@ -57,7 +57,7 @@ pub(crate) fn verdict_of(alloc: Global, bytes: &[u8]) -> Result<Verdict, Outcome
 
 /// What is written for a verdict, which takes no memory.
 pub(crate) fn text_of(verdict: Verdict) -> ArrayString<LONGEST_VERDICT>
-    ensures { result.bytes ≡ verdict_text verdict }
+    ensures { (judged verdict).pages ≡ result.bytes ∷ [] }
 {
     let mut text = ArrayString::new();
     match verdict {
@@ -76,7 +76,7 @@ pub(crate) fn text_of(verdict: Verdict) -> ArrayString<LONGEST_VERDICT>
 
 /// How a run ends whose verdict was written.
 pub(crate) fn outcome_after(verdict: Verdict) -> Outcome
-    ensures { result ≡ judged_outcome verdict }
+    ensures { result ≡ (judged verdict).outcome }
 {
     match verdict {
         Verdict::Yes => Outcome::Done,

@@ -8,13 +8,13 @@ ghost use Rattle.node_store.specs.Stores.{Grows, IsFull, Knows, family};
 ghost use Rattle.pla_reader.specs.Reading.{description};
 ghost use Rattle.interp_run.specs.Phases.{AreElements, FindsFirst, GivesLeads, HasLeads, IsFound, IsSolved, found_list, points_list};
 
-use bool_poly::Serial;
-use cube_build::{CareSets, care_sets};
+use bool_poly::SetOps;
+use cube_build::care_sets;
 use interp_lex::least;
 use lattice::{Memory, Mode};
 use node_store::{Full, Handle, Store};
 use pla_reader::Pla;
-use set_algebra::{WalkRefusal, union, walk_upto};
+use set_algebra::{ValuedPoints, WalkRefusal, walk_upto};
 use std::alloc::{AllocFailed, Global};
 use std_monomials::{leads, standard};
 use vanish_basis::basis_element;
@@ -77,20 +77,33 @@ pub(crate) struct Solved {
 }
 
 // The care points, and their leads.
-fn points_and_leads<S: Store>(store: &mut S, care: CareSets) -> Result<(Handle, Handle), Full>
+fn points_and_leads<S: Store, O: SetOps<S>>(
+    store: &mut S,
+    ops: &mut O,
+    care: ValuedPoints,
+) -> Result<(Handle, Handle), Full>
+    requires ready { O.ready ops.old }
     requires zeros { Knows (S.state store.old) care.zeros }
     requires ones { Knows (S.state store.old) care.ones }
     requires planned { let s = S.state store.old in Covers s.plan (working_set s.vars (points_list s.vars (union_of s.vars (family s care.zeros) (family s care.ones)))) }
-    ensures { let s = S.state store.old in GivesLeads s (S.state store.new) result (union_of s.vars (family s care.zeros) (family s care.ones)) }
+    ensures gives { let s = S.state store.old in GivesLeads s (S.state store.new) result (union_of s.vars (family s care.zeros) (family s care.ones)) }
+    ensures ready { O.ready ops.new }
 {
-    let points = union(store, care.zeros, care.ones)?;
+    let points = ops.union(store, care.zeros, care.ones)?;
     let monos = standard(store, points)?;
     let minimal = leads(store, monos, 1)?;
     Ok((points, minimal))
 }
 
 // What is found of an output.
-fn found_of<S: Store>(store: &mut S, pla: &Pla, mode: Mode, output: u32) -> Result<Found, Full>
+fn found_of<S: Store, O: SetOps<S>>(
+    store: &mut S,
+    ops: &mut O,
+    pla: &Pla,
+    mode: Mode,
+    output: u32,
+) -> Result<Found, Full>
+    requires ready { O.ready ops.old }
     requires output { (1 ≤ output) × (output ≤ pla.now.outputs) }
     requires vars { (S.state store.old).vars ≡ pla.now.inputs }
     requires consistent { IsConsistent pla.now.inputs pla.now.outputs pla.now.rows }
@@ -99,12 +112,13 @@ fn found_of<S: Store>(store: &mut S, pla: &Pla, mode: Mode, output: u32) -> Resu
     ensures found { IfOk result (IsFound (S.state store.new) (description pla.now) mode output) }
     ensures quiet { OnOk result ((S.state store.new).refusals ≡ (S.state store.old).refusals) }
     ensures full { OnErr result (IsFull (S.state store.old) (S.state store.new)) }
+    ensures ready { O.ready ops.new }
 {
     let care = care_sets(store, pla, output)?;
-    let polynomial = least(store, &mut Serial, care.zeros, care.ones)?;
+    let polynomial = least(store, ops, care.zeros, care.ones)?;
     match mode {
         Mode::Basis => {
-            let (points, leads) = points_and_leads(store, care)?;
+            let (points, leads) = points_and_leads(store, ops, care)?;
             Ok(Found {
                 polynomial,
                 points,
@@ -120,12 +134,14 @@ fn found_of<S: Store>(store: &mut S, pla: &Pla, mode: Mode, output: u32) -> Resu
 }
 
 /// Phase 1: what is found of each output.
-pub(crate) fn first_phase<S: Store>(
+pub(crate) fn first_phase<S: Store, O: SetOps<S>>(
     alloc: Global,
     store: &mut S,
+    ops: &mut O,
     pla: &Pla,
     mode: Mode,
 ) -> Result<Vec<Found>, Stop>
+    requires ready { O.ready ops.old }
     requires vars { (S.state store.old).vars ≡ pla.now.inputs }
     requires consistent { IsConsistent pla.now.inputs pla.now.outputs pla.now.rows }
     requires planned { Covers (S.state store.old).plan (working_set pla.now.inputs (first_phase pla.now.inputs pla.now.outputs pla.now.kind pla.now.rows mode)) }
@@ -133,27 +149,31 @@ pub(crate) fn first_phase<S: Store>(
     ensures found { IfOk result (λ found. FindsFirst (S.state store.new) (description pla.now) mode pla.now.outputs found.items) }
     ensures full { IsErrOf result Stop.Full → IsFull (S.state store.old) (S.state store.new) }
     ensures counted { ¬ IsErrOf result Stop.Terms }
+    ensures ready { O.ready ops.new }
 {
     let mut found = Vec::new(alloc);
     for before in 0..pla.outputs {
-        found.push(found_of(store, pla, mode, before + 1)?)?;
+        found.push(found_of(store, ops, pla, mode, before + 1)?)?;
     }
     Ok(found)
 }
 
 // The elements of the basis, of which there are at most `limit`.
-fn elements_of<S: Store>(
+fn elements_of<S: Store, O: SetOps<S>>(
     alloc: Global,
     store: &mut S,
+    ops: &mut O,
     found: &Found,
     limit: u64,
 ) -> Result<Vec<Handle>, Stop>
+    requires ready { O.ready ops.old }
     requires leads { HasLeads (S.state store.old) found.now }
     requires few { length (family (S.state store.old) found.now.leads) ≤ limit }
     ensures grows { Grows (S.state store.old) (S.state store.new) }
     ensures elements { IfOk result (λ elements. AreElements (S.state store.old) (S.state store.new) found.now elements.items) }
     ensures full { IsErrOf result Stop.Full → IsFull (S.state store.old) (S.state store.new) }
     ensures counted { ¬ IsErrOf result Stop.Terms }
+    ensures ready { O.ready ops.new }
 {
     let leads = match walk_upto(alloc, store, found.leads, limit) {
         Ok(leads) => leads,
@@ -162,30 +182,33 @@ fn elements_of<S: Store>(
     };
     let mut elements = Vec::new(alloc);
     for lead in leads.as_slice().iter().rev() {
-        elements.push(basis_element(store, &mut Serial, *lead, found.points)?)?;
+        elements.push(basis_element(store, ops, *lead, found.points)?)?;
     }
     Ok(elements)
 }
 
 /// Phase 2: the bases of all outputs, whose elements are at most `limit`.
-pub(crate) fn second_phase<S: Store>(
+pub(crate) fn second_phase<S: Store, O: SetOps<S>>(
     alloc: Global,
     store: &mut S,
+    ops: &mut O,
     found: &[Found],
     limit: u64,
 ) -> Result<Vec<Solved>, Stop>
+    requires ready { O.ready ops.old }
     requires leads { All (HasLeads (S.state store.old)) found.now }
     requires few { All (λ f. length (family (S.state store.old) f.leads) ≤ limit) found.now }
     ensures grows { Grows (S.state store.old) (S.state store.new) }
     ensures solved { IfOk result (λ solved. AllZip (IsSolved (S.state store.old) (S.state store.new)) found.now solved.items) }
     ensures full { IsErrOf result Stop.Full → IsFull (S.state store.old) (S.state store.new) }
     ensures counted { ¬ IsErrOf result Stop.Terms }
+    ensures ready { O.ready ops.new }
 {
     let mut solved = Vec::new(alloc);
     for output in found {
         solved.push(Solved {
             polynomial: output.polynomial,
-            basis: elements_of(alloc, store, output, limit)?,
+            basis: elements_of(alloc, store, ops, output, limit)?,
         })?;
     }
     Ok(solved)

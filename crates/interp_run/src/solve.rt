@@ -1,4 +1,4 @@
-//! A consistent description solved on a store of its own.
+//! A consistent description solved on a table of its own.
 ghost use Rattle.std.specs.Prelude.{◌≡◌, ◌⊎◌, ◌<◌, ◌≤◌, ◌^◌, IfOk, IfErr, IsErrOf, map};
 ghost use Rattle.std.specs.List.{All};
 ghost use Rattle.lattice.specs.declared.limits.TheConstants.{MIN_BITS, MAX_BITS};
@@ -20,19 +20,24 @@ use crate::phases::{Found, Solved, Stop, first_phase, second_phase};
 use crate::plan::run_plan;
 use crate::printed::shown_of;
 use anf_printer::Shown;
+use bool_poly::{Serial, SetOps};
 use cli_words::Job;
+use computed_cache::CachedPass;
 use lattice::Memory;
-use node_store::{PlainStore, Store};
+use node_store::Store;
 use pla_reader::Pla;
 use std::alloc::Global;
+use unique_table::Shared;
 
 // What phase 1 finds of each output, where its terms are within the limit.
-fn found_in<S: Store>(
+fn found_in<S: Store, O: SetOps<S>>(
     alloc: Global,
     store: &mut S,
+    ops: &mut O,
     pla: &Pla,
     job: &Job,
 ) -> Result<Vec<Found>, Stop>
+    requires ready { O.ready ops.old }
     requires vars { (S.state store.old).vars ≡ pla.now.inputs }
     requires plan { let p = pla.now in (S.state store.old).plan ≡ working_set p.inputs (second_phase p.inputs p.outputs p.kind p.rows job.now.mode) }
     requires capacity { (S.state store.old).capacity ≡ 2 ^ job.now.nodes }
@@ -41,8 +46,9 @@ fn found_in<S: Store>(
     ensures found { IfOk result (λ found. FindsFirst (S.state store.new) (description pla.now) job.now.mode pla.now.outputs found.items × (first_terms (S.state store.new) found.items ≤ job.now.terms)) }
     ensures full { IsErrOf result Stop.Full → 2 ^ job.now.nodes < last_nodes (description pla.now) job.now.mode }
     ensures terms { IsErrOf result Stop.Terms → IsDueSolving job.now (description pla.now) (silent (outcomes.Terms job.now.terms)) }
+    ensures ready { O.ready ops.new }
 {
-    let found = first_phase(alloc, store, pla, job.mode)?;
+    let found = first_phase(alloc, store, ops, pla, job.mode)?;
     if first_count(store, &found, job.terms).is_none() {
         return Err(Stop::Terms);
     }
@@ -68,12 +74,14 @@ fn shown_in<S: Store>(
 }
 
 // What is printed of each output, found in a store with the plan of the run.
-fn solve_in<S: Store>(
+fn solve_in<S: Store, O: SetOps<S>>(
     alloc: Global,
     store: &mut S,
+    ops: &mut O,
     pla: &Pla,
     job: &Job,
 ) -> Result<Vec<Shown>, Stop>
+    requires ready { O.ready ops.old }
     requires vars { (S.state store.old).vars ≡ pla.now.inputs }
     requires plan { let p = pla.now in (S.state store.old).plan ≡ working_set p.inputs (second_phase p.inputs p.outputs p.kind p.rows job.now.mode) }
     requires capacity { (S.state store.old).capacity ≡ 2 ^ job.now.nodes }
@@ -81,9 +89,10 @@ fn solve_in<S: Store>(
     ensures ok { IfOk result (λ shown. AreAnswers (description pla.now) job.now.mode (map answer_of shown.items) × IsDueSolving job.now (description pla.now) (solved job.now (description pla.now) (map answer_of shown.items))) }
     ensures full { IsErrOf result Stop.Full → 2 ^ job.now.nodes < last_nodes (description pla.now) job.now.mode }
     ensures terms { IsErrOf result Stop.Terms → IsDueSolving job.now (description pla.now) (silent (outcomes.Terms job.now.terms)) }
+    ensures ready { O.ready ops.new }
 {
-    let found = found_in(alloc, store, pla, job)?;
-    let solved = second_phase(alloc, store, &found, job.terms)?;
+    let found = found_in(alloc, store, ops, pla, job)?;
+    let solved = second_phase(alloc, store, ops, &found, job.terms)?;
     let shown = shown_in(alloc, store, &solved, job.terms)?;
     Ok(shown)
 }
@@ -96,11 +105,12 @@ pub(crate) fn solve(alloc: Global, pla: &Pla, job: &Job) -> Result<Vec<Shown>, O
     ensures ok { IfOk result (λ shown. AreAnswers (description pla.now) job.now.mode (map answer_of shown.items) × IsDueSolving job.now (description pla.now) (solved job.now (description pla.now) (map answer_of shown.items))) }
     ensures err { IfErr result (EndsUnsolved job.now (description pla.now)) }
 {
-    let Ok(mut store) = PlainStore::make(alloc, job.nodes, pla.inputs, run_plan(pla, job.mode))
+    let Ok((table, token)) = Shared::make(alloc, job.nodes, pla.inputs, run_plan(pla, job.mode))
     else {
         return Err(Outcome::Memory);
     };
-    match solve_in(alloc, &mut store, pla, job) {
+    let mut pass = CachedPass::new(table.pass(token));
+    match solve_in(alloc, &mut pass, &mut Serial, pla, job) {
         Ok(shown) => Ok(shown),
         Err(Stop::Full) => Err(Outcome::Exhausted {
             nodes: 1 << job.nodes,

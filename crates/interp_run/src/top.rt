@@ -10,7 +10,7 @@ ghost use Rattle.anf_printer.specs.Text.{answer_of};
 ghost use Rattle.cli_words.specs.declared.job.Job.{Job};
 ghost use Rattle.watch.specs.Notes.{WatcherState, left_after_all, states_by};
 ghost use Rattle.interp_run.specs.Answers.{notes_from};
-ghost use Rattle.interp_run.specs.Due.{Due, HasText, IsDue, most_bytes};
+ghost use Rattle.interp_run.specs.Due.{Due, HasText, IsDue};
 ghost use Rattle.interp_run.specs.Parts.{EndsWithout};
 ghost use Rattle.interp_run.specs.Run.{Ends, IsAsked, IsRefused, Ran, TellsFirst, line_of, status_of};
 ghost use Rattle.interp_run.specs.declared.outcome.Outcome.{Outcome};
@@ -86,7 +86,7 @@ fn write_pages<K: Sink>(
     ensures front { GainsFront (K.held out.old) (K.held out.new) (concat pages.now) }
     ensures cause { HasCause (K.faults out.old) (K.faults out.new) result }
     ensures told { OnOk result (states_by told patience watchers.new.items ≡ left_after_all notes.now (states_by told patience watchers.old.items)) }
-    ensures stopped { OnErr result (TellsFirst (K.held out.old) (K.held out.new) pages.now notes.now (states_by told patience watchers.old.items) (states_by told patience watchers.new.items)) }
+    ensures stopped { OnErr result (TellsFirst (K.held out.old) (K.held out.new) (record { outcome = outcomes.Done; pages = pages.now; notes = notes.now }) (states_by told patience watchers.old.items) (states_by told patience watchers.new.items)) }
 {
     for (page, note) in pages.iter().zip(notes) {
         write_whole(out, page.as_slice())?;
@@ -108,7 +108,7 @@ fn solved<K: Sink>(
     requires untold { All (λ s. s.told ≡ []) (states_by told patience watchers.old.items) }
     ensures read { (result ≢ outcomes.Usage) × (result ≢ outcomes.ReadFault) }
     ensures write { result ≡ outcomes.WriteFault → Rose (K.faults out.old) (K.faults out.new) }
-    ensures ends { (words : List (List ℕ)) (whole : List ℕ) → IsAsked words job.now → bytes.now ≡ take (most_bytes + 1) whole
+    ensures ends { (words : List (List ℕ)) (whole : List ℕ) → IsAsked words job.now → bytes.now ≡ take (MOST_BYTES + 1) whole
         → Ends words whole (K.held out.old) (K.held out.new) (states_by told patience watchers.old.items) (states_by told patience watchers.new.items) result }
 {
     let answer = match answer_to(alloc, job, bytes) {
@@ -125,7 +125,7 @@ fn solved<K: Sink>(
 fn judged<K: Sink>(alloc: Global, bytes: &[u8], out: &mut K) -> Outcome
     ensures read { (result ≢ outcomes.Usage) × (result ≢ outcomes.ReadFault) }
     ensures write { result ≡ outcomes.WriteFault → Rose (K.faults out.old) (K.faults out.new) }
-    ensures ends { (job : Job) (words : List (List ℕ)) (whole : List ℕ) (states : List WatcherState) → IsAsked words job → job.mode ≡ Check → bytes.now ≡ take (most_bytes + 1) whole
+    ensures ends { (job : Job) (words : List (List ℕ)) (whole : List ℕ) (states : List WatcherState) → IsAsked words job → job.mode ≡ Check → bytes.now ≡ take (MOST_BYTES + 1) whole
         → Ends words whole (K.held out.old) (K.held out.new) states states result }
 {
     let verdict = match verdict_of(alloc, bytes) {
@@ -150,7 +150,7 @@ fn outcome_of<S: Source, K: Sink>(
     ensures ran { Ran words.now (S.left source.old) (K.held out.old) (K.held out.new) (states_by told patience watchers.old.items) (states_by told patience watchers.new.items) result }
     ensures read { result ≡ outcomes.ReadFault → Rose (S.faults source.old) (S.faults source.new) }
     ensures write { result ≡ outcomes.WriteFault → Rose (K.faults out.old) (K.faults out.new) }
-    ensures few { LosesAtMost (S.left source.old) (S.left source.new) (most_bytes + 1) }
+    ensures few { LosesAtMost (S.left source.old) (S.left source.new) (MOST_BYTES + 1) }
     ensures untouched { result ≡ outcomes.Usage → (S.left source.new ≡ S.left source.old) × (S.faults source.new ≡ S.faults source.old) }
 {
     let job = match read_words(alloc, words) {
@@ -209,7 +209,7 @@ pub fn run<S: Source, K: Sink, E: Sink>(
     ensures nothing { result ≢ 0 → result ≢ 1 → result ≢ 9 → Keeps (K.held out.old) (K.held out.new) }
     ensures nobody { result ≢ 0 → result ≢ 9 → states_by told patience watchers.new.items ≡ states_by told patience watchers.old.items }
     ensures checks { (job : Job) → IsAsked words.now job → job.mode ≡ Check → states_by told patience watchers.new.items ≡ states_by told patience watchers.old.items }
-    ensures few { LosesAtMost (S.left source.old) (S.left source.new) (most_bytes + 1) }
+    ensures few { LosesAtMost (S.left source.old) (S.left source.new) (MOST_BYTES + 1) }
     ensures untouched { result ≡ 2 → (S.left source.new ≡ S.left source.old) × (S.faults source.new ≡ S.faults source.old) }
 {
     let outcome = outcome_of(alloc, words, source, out, watchers);

@@ -262,3 +262,21 @@ pub use Rattle.lattice.proofs.Subfamilies.{sub-join_cases}
 pub use Rattle.lattice.proofs.TrueWords.{stored_grows}
 -- A table of vacant places has no filled slot.
 pub use Rattle.lattice.proofs.Fills.{none_filled}
+-- The numbers of the operations are from 1 to 10.
+pub use Rattle.lattice.proofs.WordParts.{number_within}
+-- An operation's number tells it.
+pub use Rattle.lattice.proofs.WordParts.{same_number}
+-- A key is below 2 ^ 52.
+pub use Rattle.lattice.proofs.WordParts.{key_below}
+-- Two keys with one place and one quotient are one key.
+pub use Rattle.lattice.proofs.WordParts.{same_key}
+-- The place of a key is one of the cache.
+pub use Rattle.lattice.proofs.WordParts.{cache_place_below}
+-- The quotient of a key is small.
+pub use Rattle.lattice.proofs.WordParts.{quotient_below}
+-- The quotient in a cache word.
+pub use Rattle.lattice.proofs.WordParts.{quotient_of-word}
+-- The result in a cache word.
+pub use Rattle.lattice.proofs.WordParts.{result_of-word}
+-- A true cache word stays true where filled slots keep their words.
+pub use Rattle.lattice.proofs.TrueWords.{true_word_stays}

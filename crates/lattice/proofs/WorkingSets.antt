@@ -1,18 +1,19 @@
 -- Laws of working sets: what they have, and which lists cover them.
+use Rattle.std.specs.List.{flat_map}
 use Rattle.std.proofs.Common.{sym, ◌≡◌, ℕ, zero, suc, true, false, List, [], ◌∷◌, ◌++◌, refl, ◌∙◌, ap, subst, ⊎_elim, arith}
 use Rattle.std.proofs.lemmas.Bool.{cases_Bool}
 use Rattle.lattice.specs.Family.{Family, IsFamily, includes, Has, Covers, is_distinct, is_node_list}
 use Rattle.lattice.specs.Cofactors.{low_cofactor, high_cofactor, sub}
-use Rattle.lattice.specs.WorkingLists.{all_of, distinct, working_set}
+use Rattle.lattice.specs.WorkingLists.{distinct, working_set}
 use Rattle.lattice.proofs.FamilyLists.{Has-nil, Has-head, Has-tail, Has-cases, Has-append_left, Has-append_right, Has-append_cases, none_of}
 use Rattle.lattice.proofs.Subfamilies.{high_cofactor_none, sub-full, sub-empty, cases_empty, sub-zero}
 use Rattle.lattice.proofs.MoreVariables.{IsFamily_wider}
 use Rattle.lattice.proofs.Comprehension.{IsFamily-nil, IsFamily-unit}
 use Rattle.lattice.proofs.Pointwise.{includes-distinct}
 
-pub working_set_members : (n : ℕ) (list : List Family) (f : Family) → includes (working_set n list) f ≡ includes (all_of (sub n) list) f
+pub working_set_members : (n : ℕ) (list : List Family) (f : Family) → includes (working_set n list) f ≡ includes (flat_map (sub n) list) f
 unfolding working_set
-working_set_members n list f = includes-distinct (all_of (sub n) list) f
+working_set_members n list f = includes-distinct (flat_map (sub n) list) f
 
 is_distinct-distinct : (fs : List Family) → is_distinct (distinct fs) ≡ true
 unfolding distinct
@@ -34,34 +35,35 @@ sub_not c is (suc d) f h =
     (Has-cases f (low ++ high) c (rw (sub-full d f ne) at h)))
     (cases_empty (high_cofactor d f))
 
-all_not : (c : Family) → IsFamily 0 c → (n : ℕ) (list : List Family) → Has (all_of (sub n) list) c → ⊥
+all_not : (c : Family) → IsFamily 0 c → (n : ℕ) (list : List Family) → Has (flat_map (sub n) list) c → ⊥
 all_not c is n [] h = Has-nil c h
-all_not c is n (f ∷ fs) h = ⊎_elim (λ i. sub_not c is n f i) (λ i. all_not c is n fs i) (Has-append_cases (sub n f) (all_of (sub n) fs) c h)
+all_not c is n (f ∷ fs) h =
+    ⊎_elim (λ i. sub_not c is n f i) (λ i. all_not c is n fs i) (Has-append_cases (sub n f) (flat_map (sub n) fs) c h)
 
 pub working_set_is_node_list : (n : ℕ) (list : List Family) → is_node_list (working_set n list) ≡ true
 unfolding working_set
 working_set_is_node_list n list =
-    let fs : List Family = distinct (all_of (sub n) list) in
+    let fs : List Family = distinct (flat_map (sub n) list) in
     let without : (c : Family) → IsFamily 0 c → includes fs c ≡ false =
-    λ c is. includes-distinct (all_of (sub n) list) c ∙ none_of (all_of (sub n) list) c (all_not c is n list) in
-    grind (arith, is_distinct-distinct (all_of (sub n) list), without [] (IsFamily-nil 0), without (0 ∷ []) (IsFamily-unit 0))
+    λ c is. includes-distinct (flat_map (sub n) list) c ∙ none_of (flat_map (sub n) list) c (all_not c is n list) in
+    grind (arith, is_distinct-distinct (flat_map (sub n) list), without [] (IsFamily-nil 0), without (0 ∷ []) (IsFamily-unit 0))
 
 -- ---- which lists have the working set of a list: by the families of the list, and by its parts
 
-pub Has-all_of : (list : Family → List Family) (fs : List Family) (f g : Family) → Has fs f → Has (list f) g → Has (all_of list fs) g
+pub Has-all_of : (list : Family → List Family) (fs : List Family) (f g : Family) → Has fs f → Has (list f) g → Has (flat_map list fs) g
 Has-all_of list [] f g h i = absurd (Has-nil f h)
 Has-all_of list (k ∷ ks) f g h i = ⊎_elim
-    (λ e. Has-append_left (list k) (all_of list ks) g (subst (λ x. Has (list x) g) (sym e) i))
-    (λ j. Has-append_right (list k) (all_of list ks) g (Has-all_of list ks f g j i))
+    (λ e. Has-append_left (list k) (flat_map list ks) g (subst (λ x. Has (list x) g) (sym e) i))
+    (λ j. Has-append_right (list k) (flat_map list ks) g (Has-all_of list ks f g j i))
     (Has-cases k ks f h)
 
-of_each : (n : ℕ) (fs list : List Family) → ((g : Family) → Has list g → Covers fs (sub n g)) → (f : Family) → Has (all_of (sub n) list) f
+of_each : (n : ℕ) (fs list : List Family) → ((g : Family) → Has list g → Covers fs (sub n g)) → (f : Family) → Has (flat_map (sub n) list) f
     → Has fs f
 of_each n fs [] each f h = absurd (Has-nil f h)
 of_each n fs (k ∷ ks) each f h = ⊎_elim
     (λ i. each k (Has-head k ks) f i)
     (λ i. of_each n fs ks (λ g j. each g (Has-tail k ks g j)) f i)
-    (Has-append_cases (sub n k) (all_of (sub n) ks) f h)
+    (Has-append_cases (sub n k) (flat_map (sub n) ks) f h)
 
 pub covers_sub : (n : ℕ) (list : List Family) (g : Family) → Has list g → Covers (working_set n list) (sub n g)
 covers_sub n list g h f i = working_set_members n list f ∙ Has-all_of (sub n) list g f h i

@@ -1,7 +1,7 @@
 -- Laws that the work stands on. The functions of src/laws.rt have them as their contracts.
 use Rattle.std.specs.Prelude.{◌≡◌, ℕ, ◌+◌, ◌-◌, ◌*◌, ◌^◌, ◌<◌, ◌≤◌, ◌↔◌, ◌⊎◌, ◌++◌, Bool, true, false, not, length, List, [], ◌∷◌, map}
 use Rattle.std.specs.Prelude.{slice_index, slice_set}
-use Rattle.std.specs.List.{All, Contains, filter}
+use Rattle.std.specs.List.{All, Contains, filter, flat_map}
 use Rattle.std.specs.Int.{bit_at}
 use Rattle.lattice.specs.Family.{Family, divides, has, IsFamily, AreDisjoint, family_where, union_of, inter_of, sum_of, is_distinct}
 use Rattle.lattice.specs.Family.{includes, is_node_list}
@@ -10,7 +10,7 @@ use Rattle.lattice.specs.Cofactors.{low_cofactor, high_cofactor, join, sub}
 use Rattle.lattice.specs.Interpolation.{Fits, IsLeast, IsUpperPart, IsLowerPart, interpolate}
 use Rattle.lattice.specs.Basis.{IsStandard, IsLead, IsBasisElement, IsReducedBasis, IsSplitBy, standard_of, leads_of, reduced_basis_of}
 use Rattle.lattice.specs.Operations.{polynomial_where, product_of, IsClosed}
-use Rattle.lattice.specs.WorkingLists.{all_of, working_set}
+use Rattle.lattice.specs.WorkingLists.{working_set}
 use Rattle.lattice.specs.Counts.{Rose}
 use Rattle.lattice.specs.Rows.{in_cube, on_rows, off_rows, care_zeros, care_ones, IsConsistent}
 use Rattle.lattice.specs.Tables.{IsCanonical, MayFill, KeepsWords, DenotesIn, IsStored}
@@ -138,7 +138,7 @@ CarePointsAreDisjoint = (n outputs : ℕ) (kind : Kind) (rows : List Row) (outpu
 
 -- A working set has the subfamilies of the list's families, each once, and none of them is empty or {0}.
 abbrev pub WorkingSetMembers : Type 0
-WorkingSetMembers = (n : ℕ) (list : List Family) (f : Family) → includes (working_set n list) f ≡ includes (all_of (sub n) list) f
+WorkingSetMembers = (n : ℕ) (list : List Family) (f : Family) → includes (working_set n list) f ≡ includes (flat_map (sub n) list) f
 
 abbrev pub WorkingSetIsNodeList : Type 0
 WorkingSetIsNodeList = (n : ℕ) (list : List Family) → is_node_list (working_set n list) ≡ true

@@ -1,9 +1,10 @@
 -- Plans that have every family.
+use Rattle.std.specs.List.{flat_map}
 use Rattle.std.proofs.Common.{◌≡◌, ℕ, zero, suc, ◌<◌, ◌^◌, Bool, List, [], ◌∷◌, map, inl, inr, refl, sym, ◌∙◌, ap, subst, cond, ⊎_elim}
 use Rattle.std.proofs.lemmas.Bool.{cases_Bool}
 use Rattle.lattice.specs.Family.{Family, IsFamily, has, family_where, numbers_below, power, combine, Has}
 use Rattle.lattice.specs.Cofactors.{join, low_cofactor, high_cofactor, sub}
-use Rattle.lattice.specs.WorkingLists.{all_of, working_set}
+use Rattle.lattice.specs.WorkingLists.{working_set}
 use Rattle.lattice.proofs.Diagrams.{Has-nil, Has-cases, Has-head, Has-tail, IsFamily-single, join_cofactors_suc, IsFamily-power, Has-all_of}
 use Rattle.lattice.proofs.Diagrams.{working_set_members}
 use Rattle.lattice.proofs.Polynomials.{family_where_has, IsFamily-combine, IsFamily-low_cofactor, IsFamily-high_cofactor}

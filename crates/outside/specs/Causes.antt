@@ -11,10 +11,8 @@ pub record HasCause {T E : Type 0} (before now : ℕ) (result : Result T E) : Ty
   pub rose : OnErr result (Rose before now)
 
 -- known bytes grew by a front part of the text
-pub record GainsFront (old new : Option (List ℕ)) (text : List ℕ) : Type 0 where
-  pub part : List ℕ
-  pub front : StartsWith text part
-  pub gained : Appends old new part
+abbrev pub GainsFront : (old new : Option (List ℕ)) → (text : List ℕ) → Type 0
+GainsFront old new text = (part : List ℕ) × StartsWith text part × Appends old new part
 
 -- and by less than the whole of it
 pub record GainsLess (old new : Option (List ℕ)) (text : List ℕ) : Type 0 where
@@ -23,18 +21,13 @@ pub record GainsLess (old new : Option (List ℕ)) (text : List ℕ) : Type 0 wh
   pub gained : Appends old new part
   pub less : length part < length text
 
--- or by the whole of it, unless the count of faults rose
-pub record GainsUnlessRose (old new : Option (List ℕ)) (text : List ℕ) (before now : ℕ) : Type 0 where
-  pub part : List ℕ
-  pub front : StartsWith text part
-  pub gained : Appends old new part
-  pub whole : (part ≡ text) ⊎ Rose before now
+-- and by the whole of it, unless the count of faults rose
+abbrev pub GainsUnlessRose : (old new : Option (List ℕ)) → (text : List ℕ) → (before now : ℕ) → Type 0
+GainsUnlessRose old new text before now = GainsFront old new text × (Appends old new text ⊎ Rose before now)
 
 -- at most so many bytes were taken off the front of what was left
-pub record LosesAtMost (old new : Option (List ℕ)) (most : ℕ) : Type 0 where
-  pub taken : List ℕ
-  pub few : length taken ≤ most
-  pub lost : Consumes old new taken
+abbrev pub LosesAtMost : (old new : Option (List ℕ)) → (most : ℕ) → Type 0
+LosesAtMost old new most = (taken : List ℕ) × (length taken ≤ most) × Consumes old new taken
 
 -- these bytes were taken off, and they are so many, or all that was left
 pub record LosesUpTo (old new : Option (List ℕ)) (most : ℕ) (taken : List ℕ) : Type 0 where

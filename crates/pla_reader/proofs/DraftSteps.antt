@@ -17,7 +17,7 @@ use Rattle.pla_reader.specs.declared.refusal.Why.{Why}
 use Rattle.pla_reader.specs.declared.refusal.Why.TheVariants.{Unsupported}
 use Rattle.pla_reader.specs.Description.{FitsSizes}
 use Rattle.pla_reader.specs.Lines.{is_printable, words_of}
-use Rattle.pla_reader.specs.Grammar.{begins_command, arguments_on, arguments_of, number_in, kind_in, is_row, is_end, is_end_word}
+use Rattle.pla_reader.specs.Grammar.{begins_command, arguments_on, arguments_of, number_in, kind_in, is_row, is_end}
 use Rattle.pla_reader.specs.Grammar.{is_unsupported, is_row, sizes_given, symbols, size_fault, kind_fault, names_fault, row_fault}
 use Rattle.pla_reader.specs.Grammar.{command_fault, fault_of}
 use Rattle.pla_reader.specs.Reading.{row_of, rows_of}
@@ -233,8 +233,8 @@ module _ (s : Said) (earlier : List (List ℕ)) (read : WereRead s earlier) wher
       no_row : is_row line ≡ false
       no_row = rw (is.words, is.begins) refl
 
-      pub ends_on : is_end line ≡ is_end_word word
-      ends_on = rw is.words (or-false (is_end_word word))
+      pub ends_on : is_end line ≡ (bytes_eq word (codes ".e") || bytes_eq word (codes ".end"))
+      ends_on = rw is.words (or-false (bytes_eq word (codes ".e") || bytes_eq word (codes ".end")))
 
       -- one that says nothing of these
       module _ (i : bytes_eq word (codes ".i") ≡ false) (o : bytes_eq word (codes ".o") ≡ false) (t : bytes_eq word (codes ".type") ≡ false)

@@ -1,6 +1,6 @@
 -- A row from the parts of its line.
 use Rattle.pla_reader.specs.Description.{has_off, has_dc}
-use Rattle.std.proofs.Common.{◌≡◌, ℕ, ◌+◌, ◌<◌, true, false, cond, leb, eqb, List, length, take, drop, Some, None, refl, sym}
+use Rattle.std.proofs.Common.{◌≡◌, ℕ, ◌+◌, ◌<◌, Bool, true, false, cond, leb, eqb, List, length, take, drop, Some, None, refl, sym}
 use Rattle.std.proofs.Common.{ap, ◌∙◌, codes, ◌&&◌}
 use Rattle.std.specs.List.{list_all}
 use Rattle.std.proofs.lemmas.Bool.{lt-leb, eq-eqb}
@@ -9,8 +9,15 @@ use Rattle.lattice.specs.declared.kind.Kind.{Kind}
 use Rattle.lattice.specs.declared.row.Row.{Row}
 use Rattle.pla_reader.specs.declared.row.Cube.{Cube}
 use Rattle.pla_reader.specs.declared.row.Marks.{Marks}
-use Rattle.pla_reader.specs.Grammar.{symbols, is_input_symbol, is_output_symbol, row_fault, is_one_of}
+use Rattle.pla_reader.specs.Grammar.{symbols, row_fault, is_one_of}
 use Rattle.pla_reader.specs.Reading.{input_mask, output_mask, row_of}
+
+-- whether symbols may all stand for inputs, and for outputs
+abbrev are_inputs : List ℕ → Bool
+are_inputs = list_all (is_one_of (codes "01-2"))
+
+abbrev are_outputs : List ℕ → Bool
+are_outputs = list_all (is_one_of (codes "01-~24"))
 
 -- the cube and the marks of symbols
 abbrev cube_from : List ℕ → Cube
@@ -28,17 +35,17 @@ row_from number cube marks = record { line = number; care = cube.care; value = c
 
 pub row_given : (inputs outputs rows number : ℕ) (kind : Kind) (line front back : List ℕ) (cube : Cube) (marks : Marks) → rows < 8192
     → length (symbols line) ≡ inputs + outputs → symbols front ≡ take inputs (symbols line) → symbols back ≡ drop inputs (symbols line)
-    → Some cube ≡ cond (list_all is_input_symbol (symbols front)) (Some (cube_from (symbols front))) None
-    → Some marks ≡ cond (list_all is_output_symbol (symbols back)) (Some (marks_from kind (symbols back))) None
+    → Some cube ≡ cond (are_inputs (symbols front)) (Some (cube_from (symbols front))) None
+    → Some marks ≡ cond (are_outputs (symbols back)) (Some (marks_from kind (symbols back))) None
     → (row_fault (Some (inputs, outputs)) rows line ≡ None) × (row_from number cube marks ≡ row_of inputs kind number line)
 unfolding row_fault row_of
 row_given inputs outputs rows number kind line front back cube marks few len ins outs c m =
-    let ins_good = cond_some (list_all is_input_symbol (symbols front)) (cube_from (symbols front)) cube (sym c) in
-    let outs_good = cond_some (list_all is_output_symbol (symbols back)) (marks_from kind (symbols back)) marks (sym m) in
+    let ins_good = cond_some (are_inputs (symbols front)) (cube_from (symbols front)) cube (sym c) in
+    let outs_good = cond_some (are_outputs (symbols back)) (marks_from kind (symbols back)) marks (sym m) in
     let below : leb 8192 rows ≡ false = lt-leb 8192 rows few in
     let same : eqb (length (symbols line)) (inputs + outputs) ≡ true = eq-eqb (length (symbols line)) (inputs + outputs) len in
-    let good : list_all is_input_symbol (take inputs (symbols line)) ≡ true = ap (list_all is_input_symbol) (sym ins) ∙ ins_good.0 in
-    let fine : list_all is_output_symbol (drop inputs (symbols line)) ≡ true = ap (list_all is_output_symbol) (sym outs) ∙ outs_good.0 in (
+    let good : are_inputs (take inputs (symbols line)) ≡ true = ap are_inputs (sym ins) ∙ ins_good.0 in
+    let fine : are_outputs (drop inputs (symbols line)) ≡ true = ap are_outputs (sym outs) ∙ outs_good.0 in (
       rw (below, same, good, fine) refl,
       rw (← ins_good.1, ← outs_good.1, ins, outs) refl,
     )

@@ -1,23 +1,20 @@
 -- What is true of every description.
-use Rattle.std.specs.Prelude.{◌≡◌, ◌≢◌, ℕ, ◌^◌, ◌<◌, ◌≤◌, List, [], length, map, bit_and, Bool, true, false}
+use Rattle.std.specs.Prelude.{◌≡◌, ◌≢◌, ℕ, ◌^◌, ◌<◌, ◌≤◌, List, [], length, map, bit_and, Bool, true, false, not}
 use Rattle.std.specs.List.{All}
 use Rattle.std.specs.List.Sorted.{IsStrictlyIncreasing}
 use Rattle.lattice.specs.Family.{divides}
 use Rattle.lattice.specs.declared.row.Row.{Row}
 use Rattle.lattice.specs.declared.kind.Kind.{Kind}
-use Rattle.lattice.specs.declared.kind.Kind.TheVariants.{Fd, Fr, Fdr}
+use Rattle.lattice.specs.Rows.{is_one, is_zero}
 use Rattle.lattice.specs.declared.limits.TheConstants.{MAX_VARS}
 
--- whether the rows of a type may say that an output is 0, and that it is not cared for
+-- whether the rows of a type may say that an output is 0: a point in none of ON, OFF and DC has not this value by itself
 abbrev pub has_off : Kind → Bool
-has_off Fr = true
-has_off Fdr = true
-has_off other = false
+has_off kind = not (is_zero kind false false false)
 
+-- and that it is not cared for: a point in ON and in DC has not the value 1
 abbrev pub has_dc : Kind → Bool
-has_dc Fd = true
-has_dc Fdr = true
-has_dc other = false
+has_dc kind = not (is_one kind true false true)
 
 -- a row over so many inputs and outputs, of this type
 pub record FitsSizes (inputs outputs : ℕ) (kind : Kind) (r : Row) : Type 0 where

@@ -1,9 +1,10 @@
 -- What a line of a description may be, and what is wrong with one. A line here is what stands on it. What the lines before
 -- it gave is asked of the list of them; none of them has a fault.
 use Rattle.std.specs.Prelude.{ℕ, ◌+◌, Bool, false, not, ◌&&◌, ◌||◌, ◌==◌, nat_lt, nat_le, List, [], ◌∷◌, length, take, drop, codes, Option}
-use Rattle.std.specs.Prelude.{Some, None, is_some, is_none, option_and_then, slice_index, if◌then◌else◌}
+use Rattle.std.specs.Prelude.{Some, None, is_some, is_none, option_and_then, slice_get, slice_index, if◌then◌else◌}
 use Rattle.std.specs.List.{filter, list_all, list_any}
 use Rattle.std.specs.Option.{option_or, option_map, option_map_or, option_zip}
+use Rattle.std.specs.Char.{is_ascii_digit}
 use Rattle.std.specs.Str.{bytes_eq}
 use Rattle.std.specs.Str.Parse.{digits_value}
 use Rattle.lattice.specs.declared.kind.Kind.{Kind}
@@ -48,13 +49,9 @@ abbrev pub only : List (List ℕ) → Option (List ℕ)
 only (word ∷ []) = Some word
 only words = None
 
--- from 0 to 9
-abbrev pub is_digit : ℕ → Bool
-is_digit byte = nat_le 48 byte && nat_le byte 57
-
 -- what a size's and a type's arguments say
 abbrev pub number_in : List (List ℕ) → Option ℕ
-number_in arguments = option_and_then (λ word. if list_all is_digit word then Some (digits_value 10 word) else None) (only arguments)
+number_in arguments = option_and_then (λ word. if list_all is_ascii_digit word then Some (digits_value 10 word) else None) (only arguments)
 
 abbrev pub kind_in : List (List ℕ) → Option Kind
 kind_in arguments = option_and_then kind_named (only arguments)
@@ -68,12 +65,9 @@ sizes_given lines =
 abbrev pub is_row : List ℕ → Bool
 is_row line = list_any (λ word. not (begins_command word)) (take 1 (words_of line))
 
-abbrev pub is_end_word : List ℕ → Bool
-is_end_word word = bytes_eq word (codes ".e") || bytes_eq word (codes ".end")
-
--- whether a line ends the description
+-- whether a line ends the description, by its first word
 abbrev pub is_end : List ℕ → Bool
-is_end line = list_any is_end_word (take 1 (words_of line))
+is_end line = list_any (λ word. bytes_eq word (codes ".e") || bytes_eq word (codes ".end")) (take 1 (words_of line))
 
 -- ---- rows
 
@@ -86,12 +80,6 @@ symbols line = filter is_symbol line
 
 abbrev pub is_one_of : List ℕ → ℕ → Bool
 is_one_of bytes byte = list_any (λ b. b == byte) bytes
-
-abbrev pub is_input_symbol : ℕ → Bool
-is_input_symbol = is_one_of (codes "01-2")
-
-abbrev pub is_output_symbol : ℕ → Bool
-is_output_symbol = is_one_of (codes "01-~24")
 
 -- ---- faults
 
@@ -112,7 +100,6 @@ unfoldable pub kind_fault : (before : Bool) → (rows : ℕ) → (arguments : Li
 kind_fault before rows arguments = first_failed (
     (before, Twice)
     ∷ (nat_lt 0 rows, TypeLate)
-    ∷ (is_none (only arguments), BadType)
     ∷ (option_map_or (λ word. bytes_eq word (codes "r") || bytes_eq word (codes "dr")) (only arguments) false, Unsupported)
     ∷ (is_none (kind_in arguments), BadType) ∷ [])
 
@@ -129,8 +116,8 @@ row_fault None rows line = Some RowBeforeSize
 row_fault (Some (inputs, outputs)) rows line = first_failed (
     (nat_le 8192 rows, TooManyRows)
     ∷ (not (length (symbols line) == inputs + outputs), RowLength)
-    ∷ (not (list_all is_input_symbol (take inputs (symbols line)) && list_all is_output_symbol (drop inputs (symbols line))), BadSymbol)
-    ∷ [])
+    ∷ (not (list_all (is_one_of (codes "01-2")) (take inputs (symbols line))), BadSymbol)
+    ∷ (not (list_all (is_one_of (codes "01-~24")) (drop inputs (symbols line))), BadSymbol) ∷ [])
 
 -- commands that are known and not supported
 abbrev pub is_unsupported : List ℕ → Bool
@@ -147,13 +134,9 @@ command_fault earlier command arguments = entry_for (if is_unsupported command t
     ∷ (codes ".ilb", names_fault (is_given (codes ".ilb") earlier) (option_map (λ s. s.0) (sizes_given earlier)) arguments)
     ∷ (codes ".ob", names_fault (is_given (codes ".ob") earlier) (option_map (λ s. s.1) (sizes_given earlier)) arguments) ∷ []) command
 
--- of a line with these words
-abbrev pub words_fault : List (List ℕ) → (line : List ℕ) → (words : List (List ℕ)) → Option Why
-words_fault earlier line [] = None
-words_fault earlier line (word ∷ arguments) =
-    if begins_command word then command_fault earlier word arguments
-    else row_fault (sizes_given earlier) (length (filter is_row earlier)) line
-
--- what is wrong with a line that follows the earlier ones
+-- what is wrong with a line that follows the earlier ones: with a byte, with the row, or with the command, if there is a word
 unfoldable pub fault_of : List (List ℕ) → List ℕ → Option Why
-fault_of earlier line = if list_all is_printable line then words_fault earlier line (words_of line) else Some BadByte
+fault_of earlier line =
+    if not (list_all is_printable line) then Some BadByte
+    else if is_row line then row_fault (sizes_given earlier) (length (filter is_row earlier)) line
+    else option_and_then (λ word. command_fault earlier word (drop 1 (words_of line))) (slice_get (words_of line) 0)

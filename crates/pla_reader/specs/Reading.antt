@@ -1,8 +1,8 @@
 -- What a text describes, or why it is refused.
 use Rattle.std.specs.Prelude.{◌≡◌, ℕ, ◌+◌, ◌*◌, ◌^◌, Bool, ◌&&◌, List, [], ◌∷◌, ◌++◌, length, map, take, drop, codes, sum_by, Option, Some}
-use Rattle.std.specs.Prelude.{None, unwrap_or, option_and_then, Result, Ok, Err, option_map, if◌then◌else◌}
+use Rattle.std.specs.Prelude.{None, ok_or, unwrap_or, option_and_then, Result, Ok, Err, option_map, if◌then◌else◌}
 use Rattle.std.specs.List.{filter, enumerate_from}
-use Rattle.std.specs.Option.{option_or}
+use Rattle.std.specs.Option.{option_map_or, option_or}
 use Rattle.lattice.specs.declared.kind.Kind.{Kind}
 use Rattle.lattice.specs.declared.kind.Kind.TheVariants.{Fd}
 use Rattle.lattice.specs.declared.row.Row.{Row}
@@ -73,30 +73,25 @@ pub record Description : Type 0 where
   pub in_names : List (List ℕ)
   pub out_names : List (List ℕ)
 
--- what lines without a fault say, by these sizes
-unfoldable pub description_of : (inputs outputs : ℕ) → List (List ℕ) → Description
-description_of inputs outputs lines =
+-- what lines without a fault say, by the numbers of inputs and outputs
+unfoldable pub description_of : List (List ℕ) → (sizes : ℕ × ℕ) → Description
+description_of lines sizes =
     let kind = unwrap_or (option_and_then kind_in (arguments_of (codes ".type") lines)) Fd in
     record {
-      inputs = inputs;
-      outputs = outputs;
+      inputs = sizes.0;
+      outputs = sizes.1;
       kind = kind;
-      rows = rows_of inputs kind lines;
+      rows = rows_of sizes.0 kind lines;
       in_names = unwrap_or (arguments_of (codes ".ilb") lines) [];
       out_names = unwrap_or (arguments_of (codes ".ob") lines) [];
     }
 
--- the description, unless there is a fault or a size is missing
-abbrev pub described : Option Refusal → (sizes : Option (ℕ × ℕ)) → List (List ℕ) → Result Description Refusal
-described (Some refusal) sizes lines = Err refusal
-described None None lines = Err (record { line = length lines; why = NoSize })
-described None (Some (inputs, outputs)) lines = Ok (description_of inputs outputs lines)
-
--- the description at the front of the bytes, or why it is refused
+-- the description at the front of the bytes, or why it is refused: for the first fault of a line, or because a size is missing
 unfoldable pub reading_of : List ℕ → Result Description Refusal
 reading_of bytes =
     let lines = description_lines bytes in
-    described (first_fault [] lines) (sizes_given lines) lines
+    let said = ok_or (option_map (description_of lines) (sizes_given lines)) (record { line = length lines; why = NoSize }) in
+    option_map_or Err (first_fault [] lines) said
 
 -- how many bytes it takes: those of its lines, line feeds and all
 unfoldable pub bytes_taken : List ℕ → ℕ

@@ -1,9 +1,10 @@
 //! What the commands of a description set.
 ghost use Rattle.std.specs.Prelude.{◌≡◌, ◌+◌, ◌<◌, ◌≤◌, ◌^◌, true, false, length, min, Option, Some, None, is_some, IfOk, MatchResult};
 ghost use Rattle.std.specs.List.{list_all};
+ghost use Rattle.std.specs.Char.{is_ascii_digit};
 ghost use Rattle.std.specs.Str.Parse.{digits_value};
 ghost use Rattle.pla_reader.specs.Lines.{words_of};
-ghost use Rattle.pla_reader.specs.Grammar.{is_digit, kind_named, number_in, kind_in, size_fault, kind_fault, names_fault};
+ghost use Rattle.pla_reader.specs.Grammar.{kind_named, number_in, kind_in, size_fault, kind_fault, names_fault};
 ghost use Rattle.pla_reader.specs.Parts.{Stops};
 
 use crate::lines::{count_words, first_word, is_word, only_word};
@@ -13,14 +14,14 @@ use std::alloc::Global;
 
 /// Whether each byte of the word is a digit.
 fn is_number(word: &[u8]) -> bool
-    ensures { result ≡ list_all is_digit word.now }
+    ensures { result ≡ list_all is_ascii_digit word.now }
 {
     word.iter().all(|byte| b'0' <= *byte && *byte <= b'9')
 }
 
 /// The number that the digits write, or 1,000 where it is more.
 fn number(digits: &[u8]) -> u32
-    requires { list_all is_digit digits.now ≡ true }
+    requires { list_all is_ascii_digit digits.now ≡ true }
     ensures { result ≡ min 1000 (digits_value 10 digits.now) }
 {
     let mut value = 0u32;

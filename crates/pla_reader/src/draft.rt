@@ -1,8 +1,9 @@
 //! What the lines read so far say.
-ghost use Rattle.std.specs.Prelude.{◌≡◌, ◌≤◌};
+ghost use Rattle.std.specs.Prelude.{◌≡◌, ◌≤◌, ◌||◌, codes};
+ghost use Rattle.std.specs.Str.{bytes_eq};
 ghost use Rattle.std.specs.Option.{ForSome};
 ghost use Rattle.lattice.specs.declared.limits.TheConstants.{MAX_VARS};
-ghost use Rattle.pla_reader.specs.Grammar.{is_end_word, is_unsupported};
+ghost use Rattle.pla_reader.specs.Grammar.{is_unsupported};
 
 use crate::arguments::{kind_in, names_in, size_in};
 use crate::lines::{first_word, is_printable, is_word};
@@ -16,7 +17,7 @@ const MOST_OUTPUTS: u32 = 64;
 
 /// Whether the command ends the description.
 fn is_end_word(command: &[u8]) -> bool
-    ensures { result ≡ is_end_word command.now }
+    ensures { result ≡ (bytes_eq command.now (codes ".e") || bytes_eq command.now (codes ".end")) }
 {
     is_word(command, ".e") || is_word(command, ".end")
 }

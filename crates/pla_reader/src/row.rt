@@ -3,7 +3,7 @@ ghost use Rattle.std.specs.Prelude.{◌≡◌, ◌≤◌, ◌&&◌, ℕ, codes, 
 ghost use Rattle.std.specs.List.{list_all};
 ghost use Rattle.lattice.specs.declared.limits.TheConstants.{MAX_VARS};
 ghost use Rattle.pla_reader.specs.Description.{has_off, has_dc};
-ghost use Rattle.pla_reader.specs.Grammar.{is_symbol, symbols, is_one_of, is_input_symbol, is_output_symbol, row_fault};
+ghost use Rattle.pla_reader.specs.Grammar.{is_symbol, symbols, is_one_of, row_fault};
 ghost use Rattle.pla_reader.specs.Reading.{input_mask, output_mask, row_of};
 
 use crate::lines::is_blank;
@@ -45,14 +45,14 @@ fn split_symbols(line: &[u8], count: usize) -> (&[u8], &[u8])
 
 /// Whether the symbol may stand for an input.
 fn is_input_symbol(byte: u8) -> bool
-    ensures { result ≡ is_input_symbol byte }
+    ensures { result ≡ is_one_of (codes "01-2") byte }
 {
     byte == b'0' || byte == b'1' || byte == b'-' || byte == b'2'
 }
 
 /// Whether the symbol may stand for an output.
 fn is_output_symbol(byte: u8) -> bool
-    ensures { result ≡ is_output_symbol byte }
+    ensures { result ≡ is_one_of (codes "01-~24") byte }
 {
     is_input_symbol(byte) || byte == b'~' || byte == b'4'
 }
@@ -81,7 +81,7 @@ fn fixes_to_one(symbol: u8) -> bool
 /// The cube of the symbols of a line, one for each input.
 fn cube_of(line: &[u8]) -> Option<Cube>
     requires { length (symbols line.now) ≤ MAX_VARS }
-    ensures { result ≡ (if list_all is_input_symbol (symbols line.now) then Some (record {
+    ensures { result ≡ (if list_all (is_one_of (codes "01-2")) (symbols line.now) then Some (record {
       care = input_mask (is_one_of (codes "01")) (symbols line.now);
       value = input_mask (is_one_of (codes "1")) (symbols line.now);
     }) else None) }
@@ -133,7 +133,7 @@ fn is_dc(kind: Kind, symbol: u8) -> bool
 /// The marks of the symbols of a line, one for each output.
 fn marks_of(kind: Kind, line: &[u8]) -> Option<Marks>
     requires { length (symbols line.now) ≤ 64 }
-    ensures { result ≡ (if list_all is_output_symbol (symbols line.now) then Some (record {
+    ensures { result ≡ (if list_all (is_one_of (codes "01-~24")) (symbols line.now) then Some (record {
       on = output_mask (is_one_of (codes "14")) (symbols line.now);
       off = output_mask (λ symbol. has_off kind && is_one_of (codes "0") symbol) (symbols line.now);
       dc = output_mask (λ symbol. has_dc kind && is_one_of (codes "-2") symbol) (symbols line.now);

@@ -1,36 +1,45 @@
 -- Each event leaves a state that fits, over every list of events.
 use Rattle.std.proofs.Common.{◌≡◌, ◌≢◌, ℕ, zero, suc, ◌+◌, ◌^◌, ◌<◌, ◌≤◌, Result, Ok, Err, OnOk, OnErr, true, false, cond, ◌==◌}
 use Rattle.std.proofs.Common.{if◌then◌else◌, eq-eqb, ne_eqb, List, [], ◌∷◌, ◌++◌, length, replicate, take, slice_index, get_or, set, sym}
-use Rattle.std.proofs.Common.{refl, ap, ◌∙◌, subst, arith, get_or-set_same}
+use Rattle.std.proofs.Common.{refl, ap, ◌∙◌, subst, arith, get_or-set_same, get_or-set_other, length-set, inl, inr, ◌⊎◌}
 use Rattle.std.specs.List.{All}
-use Rattle.std.proofs.lemmas.List.{length-replicate, get_or-replicate, get_or_default, take_more}
+use Rattle.std.proofs.lemmas.List.{length-replicate, get_or_default, take_more}
 use Rattle.std.proofs.lemmas.List.Elements.{All-nil, All-cons, All-head, All-tail, All-push, All-set, All-weaker}
 use mathlib.Core.Logic.{dite}
 use native.Mathlib.Decide.{ℕ_discrete}
 use Rattle.lattice.specs.declared.limits.TheConstants.{MAX_BITS}
-use Rattle.lattice.specs.NodeWords.{lo_of, hi_of, place}
-use Rattle.lattice.specs.Tables.{IsFilled, IsHandle, IsCanonical, MayFill, KeepsWords}
-use Rattle.lattice.proofs.Diagrams.{fills, filling_grows, filled_within, node_some, legal, denoted, met_slot}
+use Rattle.lattice.specs.NodeWords.{lo_of, hi_of, place, cache_bits, key_at, result_of}
+use Rattle.lattice.specs.CacheWords.{IsTrueWord}
+use Rattle.lattice.specs.Tables.{IsHandle, IsCanonical, MayFill, KeepsWords}
+use Rattle.lattice.proofs.Diagrams.{fills, filling_grows, node_some, legal, denoted, met_slot, true_word_stays}
 use Rattle.node_store.specs.declared.store.Handle.{Handle}
 use Rattle.probe_core.specs.declared.event.Event.{Event}
-use Rattle.probe_core.specs.declared.event.Event.TheVariants.{Load, Exchange, Split, Join}
+use Rattle.probe_core.specs.declared.event.Event.TheVariants.{Load, Exchange, CacheLoad, CacheStore, Split, Join}
 use Rattle.probe_core.specs.declared.event.Seen.{Seen}
 use Rattle.lattice.specs.declared.memory.Memory.{Memory}
 use Rattle.probe_core.specs.Machines.{SeatState, Machine}
-use Rattle.probe_core.specs.Seats.{handle, met_more, first_seat, twin, joined, ended}
-use Rattle.probe_core.specs.Events.{start, no_seat, seat_at, MayExchange, MayTake, meets, takes, after, seen, after_all, MayTakeAll}
-use Rattle.probe_core.specs.Soundness.{HasFamily, IsSoundSeat, IsSoundMachine, IsLawful}
+use Rattle.probe_core.specs.Seats.{handle, met_more, told_more, first_seat, twin, joined, ended}
+use Rattle.probe_core.specs.Events.{start, no_seat, seat_at, MayExchange, MayTake, meets, takes, looks, after, seen}
+use Rattle.probe_core.specs.Events.{after_all, MayTakeAll}
+use Rattle.probe_core.specs.Soundness.{HasFamily, IsKeptWord, IsSoundSeat, IsSoundMachine, IsLawful}
 use Rattle.probe_core.proofs.Places.{place_below, small_place}
-use Rattle.probe_core.proofs.SeatLemmas.{IsHandleOf, SeatFits, seat_grows, no_seat_fits, knows-all, meeting_fits, joined_fits}
+use Rattle.probe_core.proofs.SeatLemmas.{IsHandleOf, SeatFits, seat_grows, no_seat_fits, knows-all, meeting_fits, told_fits, joined_fits}
+use Rattle.probe_core.proofs.KeptWords.{own_key, own_result, result_handle}
 use Rattle.lattice.proofs.Diagrams.{none_filled}
 
 -- the seat fits the table
 abbrev pub IsSeated : Machine → SeatState → Type 0
 IsSeated s = SeatFits (2 ^ s.bits) s.words
 
--- what each event keeps, and all else follows from: the table is canonical, and each seat fits it
+-- the cache word is vacant, or true at the place
+abbrev pub IsVacantOrTrue : Machine → ℕ → ℕ → Type 0
+IsVacantOrTrue s place w = (w ≡ 0) ⊎ IsTrueWord (cache_bits s.bits) s.vars s.words place w
+
+-- what each event keeps, and all else follows from: the table is canonical, each cache word is vacant or true, and each seat fits
 pub record Fits (s : Machine) : Type 0 where
   pub canonical : IsCanonical s.bits s.vars s.words
+  pub size : length s.cache ≡ 2 ^ cache_bits s.bits
+  pub cache : (place : ℕ) → IsVacantOrTrue s place (slice_index s.cache place)
   pub seats : All (IsSeated s) s.seats
 
 abbrev Knows : Machine → Handle → Type 0
@@ -42,10 +51,22 @@ family_of : (s : Machine) → Fits s → (h : ℕ) → IsHandle s.words h → Ha
 family_of s fits h is =
     let f = denoted s.bits s.vars s.words fits.canonical h is in record { is_handle = is; family = f.0; denotes = f.1 }
 
+kept : (s : Machine) (place w : ℕ) → IsVacantOrTrue s place w → (w ≡ 0) ⊎ IsKeptWord s place w
+kept s place w (inl none) = inl none
+kept s place w (inr is) =
+    let c = cache_bits s.bits in
+    inr (record { is_true = is; key = own_key c s.vars s.words place w is; result = own_result c s.vars s.words place w is })
+
+true_of : (s : Machine) (place w : ℕ) → (w ≡ 0) ⊎ IsKeptWord s place w → IsVacantOrTrue s place w
+true_of s place w (inl none) = inl none
+true_of s place w (inr is) = inr is.is_true
+
 pub sound : (s : Machine) → Fits s → IsSoundMachine s
 sound s fits = record {
   canonical = fits.canonical;
   slots = λ i is. family_of s fits (suc (suc i)) is;
+  size = fits.size;
+  cache = λ place. kept s place (slice_index s.cache place) (fits.cache place);
   seats = All-weaker (IsSeated s) (IsSoundSeat s) (λ seat f. record {
     fits = f.met;
     legal = legal s.bits s.vars s.words fits.canonical seat.met f.met;
@@ -56,6 +77,8 @@ sound s fits = record {
 pub fitting : (s : Machine) → IsSoundMachine s → Fits s
 fitting s is = record {
   canonical = is.canonical;
+  size = is.size;
+  cache = λ place. true_of s place (slice_index s.cache place) (is.cache place);
   seats = All-weaker (IsSoundSeat s) (IsSeated s) (λ seat f. record {
     met = f.fits;
     known = All-weaker (Knows s) (IsHandleOf s.words) (λ h has. has.is_handle) seat.known f.known;
@@ -63,6 +86,12 @@ fitting s is = record {
 }
 
 -- ---- the first state
+
+-- a vacant cache has no word
+no_word : (n i : ℕ) → slice_index (replicate n 0) i ≡ 0
+no_word zero i = refl
+no_word (suc n) zero = refl
+no_word (suc n) (suc i) = no_word n i
 
 pub start_fits : (bits vars : ℕ) → Fits (start bits vars)
 start_fits bits vars = record {
@@ -72,6 +101,8 @@ start_fits bits vars = record {
     paths = λ i is. absurd (none_filled (2 ^ bits) i is);
     apart = λ i j is same. absurd (none_filled (2 ^ bits) i is);
   };
+  size = length-replicate (2 ^ cache_bits bits) 0;
+  cache = λ place. inl (no_word (2 ^ cache_bits bits) place);
   seats =
       let Is = IsHandleOf (replicate (2 ^ bits) 0) in
       let Fit = IsSeated (start bits vars) in
@@ -119,21 +150,31 @@ may_fill s fits id at w may =
           ((λ none. m.0 (sym m.1 ∙ none)), λ own. p.2 (sym m.1 ∙ own));
     }
 
+-- other seats that fit the same words
+with_seats : (s : Machine) (seats : List SeatState) → Fits s → All (IsSeated s) seats → Fits (record s { seats = seats })
+with_seats s seats fits all = record { canonical = fits.canonical; size = fits.size; cache = fits.cache; seats = all }
+
 -- a seat meets a filled slot
 meets_fit : (s : Machine) → Fits s → (id at w : ℕ) → slice_index s.words at ≡ w → w ≢ 0 → Fits (meets s id at w)
 meets_fit s fits id at w found some =
     let seat = seat_at s id in
     let met = meeting_fits s.words s.bits s.vars fits.canonical at w found some (2 ^ s.bits) seat (seat_fits s fits id) in
-    record { canonical = fits.canonical; seats = All-set (IsSeated s) s.seats id (met_more seat at w) met fits.seats }
+    with_seats s (set s.seats id (met_more seat at w)) fits (All-set (IsSeated s) s.seats id (met_more seat at w) met fits.seats)
 
 -- a vacant place takes a word
 takes_fit : (s : Machine) → Fits s → (id at w : ℕ) → slice_index s.words at ≡ 0
     → MayExchange s (seat_at s id) at w → Fits (takes s at w)
 takes_fit s fits id at w vacant may =
     let fill = may_fill s fits id at w may in
-    let grows = seat_grows (2 ^ s.bits) s.words (set s.words at w) (filling_grows s.words at w vacant) in
+    let keeps = filling_grows s.words at w vacant in
+    let grows = seat_grows (2 ^ s.bits) s.words (set s.words at w) keeps in
     record {
       canonical = fills s.bits s.vars s.words at w fits.canonical vacant (within s (seat_at s id) at w may) fill;
+      size = fits.size;
+      cache = λ p. elim (fits.cache p) [
+        | inl none ↦ inl none
+        | inr is ↦ inr (true_word_stays (cache_bits s.bits) s.vars p (slice_index s.cache p) s.words (set s.words at w) keeps is)
+      ];
       seats = All-weaker (IsSeated s) (IsSeated (takes s at w)) grows s.seats fits.seats;
     }
 
@@ -146,26 +187,53 @@ won_fits s fits id at w vacant may =
     let some = node_some s.vars s.words w (may_fill s fits id at w may).node in
     meets_fit (takes s at w) (takes_fit s fits id at w vacant may) id at w here some
 
--- by whether the place is vacant
-by_place : (P : Machine → Type 0) (s t u : Machine) (at : ℕ) → (slice_index s.words at ≡ 0 → P t) → (slice_index s.words at ≢ 0 → P u)
-    → P (if slice_index s.words at == 0 then t else u)
-by_place P s t u at vacant filled =
-    let found : ℕ = slice_index s.words at in
+-- a seat sees a cache word, which is true where it is not vacant
+looks_fit : (s : Machine) → Fits s → (id at : ℕ) → slice_index s.cache at ≢ 0 → Fits (looks s id at (slice_index s.cache at))
+looks_fit s fits id at some =
+    let w : ℕ = slice_index s.cache at in
+    let seat = seat_at s id in
+    let key : ℕ = key_at (cache_bits s.bits) at w in
+    let more = told_more seat key (result_of w) in
+    let told = told_fits s.words (2 ^ s.bits) seat key (result_of w) (seat_fits s fits id) (elim (fits.cache at) [
+      | inl none ↦ absurd (some none)
+      | inr is ↦ result_handle (cache_bits s.bits) s.vars s.words at w is
+    ]) in
+    with_seats s (set s.seats id more) fits (All-set (IsSeated s) s.seats id more told fits.seats)
+
+-- a cache word is stored that is true at its place
+stores_fit : (s : Machine) → Fits s → (at w : ℕ) → at < 2 ^ cache_bits s.bits → IsTrueWord (cache_bits s.bits) s.vars s.words at w
+    → Fits (record s { cache = set s.cache at w })
+stores_fit s fits at w less is = record {
+  canonical = fits.canonical;
+  size = length-set s.cache at w ∙ fits.size;
+  cache = λ p. dite (ℕ_discrete p at)
+      (λ same. subst (λ k. IsVacantOrTrue s k (slice_index (set s.cache at w) k)) (sym same)
+      (subst (IsVacantOrTrue s at) (sym (get_or-set_same s.cache at w 0 (subst (λ n. at < n) (sym fits.size) less))) (inr is)))
+      (λ other. subst (IsVacantOrTrue s p) (sym (get_or-set_other s.cache at p w 0 other)) (fits.cache p));
+  seats = fits.seats;
+}
+
+-- by whether a word is vacant
+by_word : (P : Machine → Type 0) (t u : Machine) (found : ℕ) → (found ≡ 0 → P t) → (found ≢ 0 → P u) → P (if found == 0 then t else u)
+by_word P t u found vacant filled =
     dite (ℕ_discrete found 0)
     (λ none. subst (λ b. P (cond b t u)) (sym (eq-eqb found 0 none)) (vacant none))
     (λ some. subst (λ b. P (cond b t u)) (sym (ne_eqb found 0 some)) (filled some))
 
 pub after_fits : (s : Machine) (e : Event) → Fits s → MayTake s e → Fits (after s e)
 after_fits s (Load id at) fits may =
-    let w : ℕ = slice_index s.words at in by_place Fits s s (meets s id at w) at (λ none. fits) (meets_fit s fits id at w refl)
+    let w : ℕ = slice_index s.words at in by_word Fits s (meets s id at w) w (λ none. fits) (meets_fit s fits id at w refl)
 after_fits s (Exchange id at w) fits may =
     let found : ℕ = slice_index s.words at in
-    by_place Fits s (takes (meets s id at w) at w) (meets s id at found) at
+    by_word Fits (takes (meets s id at w) at w) (meets s id at found) found
     (λ none. won_fits s fits id at w none may.1)
     (meets_fit s fits id at found refl)
+after_fits s (CacheLoad id at) fits may =
+    let w : ℕ = slice_index s.cache at in by_word Fits s (looks s id at w) w (λ none. fits) (looks_fit s fits id at)
+after_fits s (CacheStore id at w) fits may = let store = may.1 in stores_fit s fits at w store.within store.is_true
 after_fits s (Split id) fits may =
     let new : IsSeated s (twin (seat_at s id)) = record { met = tt; known = (seat_fits s fits id).known } in
-    record { canonical = fits.canonical; seats = All-push (IsSeated s) s.seats (twin (seat_at s id)) fits.seats new }
+    with_seats s (s.seats ++ twin (seat_at s id) ∷ []) fits (All-push (IsSeated s) s.seats (twin (seat_at s id)) fits.seats new)
 after_fits s (Join id other) fits may =
     let a = seat_at s id in
     let b = seat_at s other in
@@ -173,18 +241,24 @@ after_fits s (Join id other) fits may =
     let last = seat_fits s fits other in
     let end : IsSeated s (ended b) = record { met = last.met; known = last.known } in
     let first = All-set (IsSeated s) s.seats id (joined a b) both fits.seats in
-    record { canonical = fits.canonical; seats = All-set (IsSeated s) (set s.seats id (joined a b)) other (ended b) end first }
+    with_seats s (set (set s.seats id (joined a b)) other (ended b)) fits
+    (All-set (IsSeated s) (set s.seats id (joined a b)) other (ended b) end first)
 
 -- no event changes the word of a filled slot
 abbrev IsKept : Machine → Machine → Type 0
 IsKept s t = KeepsWords s.words t.words
 
 pub after_keeps : (s : Machine) (e : Event) → IsKept s (after s e)
-after_keeps s (Load id at) = by_place (IsKept s) s s (meets s id at (slice_index s.words at)) at (λ none j is. refl) (λ some j is. refl)
+after_keeps s (Load id at) =
+    let w : ℕ = slice_index s.words at in by_word (IsKept s) s (meets s id at w) w (λ none j is. refl) (λ some j is. refl)
 after_keeps s (Exchange id at w) =
-    by_place (IsKept s) s (takes (meets s id at w) at w) (meets s id at (slice_index s.words at)) at
+    let found : ℕ = slice_index s.words at in
+    by_word (IsKept s) (takes (meets s id at w) at w) (meets s id at found) found
     (λ none. filling_grows s.words at w none)
     (λ some j is. refl)
+after_keeps s (CacheLoad id at) =
+    let w : ℕ = slice_index s.cache at in by_word (IsKept s) s (looks s id at w) w (λ none j is. refl) (λ some j is. refl)
+after_keeps s (CacheStore id at w) = λ j is. refl
 after_keeps s (Split id) = λ j is. refl
 after_keeps s (Join id other) = λ j is. refl
 

@@ -11,7 +11,7 @@ use Rattle.lattice.specs.History.{FitsHistory}
 use Rattle.lattice.proofs.Diagrams.{grows_handle, fits_append, fits_grows, slot_holds}
 use Rattle.node_store.specs.declared.store.Handle.{Handle}
 use Rattle.probe_core.specs.Machines.{SeatState}
-use Rattle.probe_core.specs.Seats.{handle, knows, learned, taught, united, met_more, joined}
+use Rattle.probe_core.specs.Seats.{handle, knows, knows_key, learned, taught, united, met_more, told_more, joined}
 use Rattle.probe_core.specs.Events.{no_seat}
 
 -- the handle is a constant or that of a filled slot
@@ -87,6 +87,15 @@ module _ (ws : List ℕ) where
       met = fits_append size ws seat.met (Met (at + 2) w ∷ []) fits.met (slot_holds ws at w found some, tt);
       known = taught_fits seat.known fits.known;
     }
+
+  -- a seat that sees a result, which has a handle
+  pub told_fits : (size : ℕ) (seat : SeatState) (key r : ℕ) → SeatFits size ws seat → IsHandle ws r
+      → SeatFits size ws (told_more seat key r)
+  told_fits size seat key r fits is = record { met = fits.met; known = by_case (knows_key seat.known key) }
+    where
+      by_case : (b : Bool) → All (IsHandleOf ws) (cond b (learned seat.known r) seat.known)
+      by_case true = learned_fits seat.known r fits.known is
+      by_case false = fits.known
 
   pub joined_fits : (size : ℕ) (seat other : SeatState) → SeatFits size ws seat → SeatFits size ws other
       → SeatFits size ws (joined seat other)

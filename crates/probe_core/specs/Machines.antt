@@ -1,4 +1,4 @@
--- What contracts see of the machine: the words of its table, and its seats.
+-- What contracts see of the machine: the words of its table and of its cache, and its seats.
 use Rattle.std.specs.Prelude.{ℕ, Bool, List}
 use Rattle.lattice.specs.declared.entry.Entry.{Entry}
 use Rattle.node_store.specs.declared.store.Handle.{Handle}
@@ -9,9 +9,10 @@ pub record SeatState : Type 0 where
   pub met : List Entry
   pub known : List Handle
 
--- a table of 2 ^ bits node words over so many variables, and its seats, numbered in the order in which they were made
+-- a table of 2 ^ bits node words over so many variables, its cache words, and its seats, numbered in the order in which they were made
 pub record Machine : Type 0 where
   pub bits : ℕ
   pub vars : ℕ
   pub words : List ℕ
+  pub cache : List ℕ
   pub seats : List SeatState

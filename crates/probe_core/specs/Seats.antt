@@ -1,8 +1,10 @@
--- What a seat learns of the slots that it meets, and of other seats.
-use Rattle.std.specs.Prelude.{ℕ, ◌+◌, Bool, true, false, ◌==◌, ◌&&◌, if◌then◌else◌, List, [], ◌∷◌, ◌++◌}
+-- What a seat learns of the slots that it meets, of kept results, and of other seats.
+use Rattle.std.specs.Prelude.{ℕ, ◌+◌, Bool, true, false, nat_lt, ◌==◌, ◌&&◌, ◌||◌, if◌then◌else◌, List, [], ◌∷◌, ◌++◌}
 use Rattle.std.specs.List.{list_any}
 use Rattle.lattice.specs.declared.entry.Entry.TheVariants.{Met}
-use Rattle.lattice.specs.NodeWords.{lo_of, hi_of}
+use Rattle.lattice.specs.declared.op.Op.TheVariants.{Least}
+use Rattle.lattice.specs.NodeWords.{var_of, lo_of, hi_of}
+use Rattle.lattice.specs.CacheWords.{number_of}
 use Rattle.node_store.specs.declared.store.Handle.{Handle}
 use Rattle.probe_core.specs.Machines.{SeatState}
 
@@ -25,6 +27,15 @@ taught known slot w =
     if knows known slot then learned (learned known (lo_of w)) (hi_of w)
     else (if knows known (lo_of w) && knows known (hi_of w) then learned known slot else known)
 
+-- the handles of a key are known: that of its first operand, and of its second one where this is a family, as it is for the
+-- operations up to Least
+abbrev pub knows_key : List Handle → ℕ → Bool
+knows_key known key = knows known (lo_of key) && (nat_lt (number_of Least) (var_of key) || knows known (hi_of key))
+
+-- the known handles after a look at the result of a key: it is learned where the handles of the key are known
+abbrev pub told : List Handle → ℕ → ℕ → List Handle
+told known key result = if knows_key known key then learned known result else known
+
 -- the known handles with those of another list
 abbrev pub united : List Handle → List Handle → List Handle
 united known [] = known
@@ -33,6 +44,10 @@ united known (h ∷ hs) = united (learned known h.0) hs
 -- a seat after it met the place's slot with this word
 abbrev pub met_more : SeatState → ℕ → ℕ → SeatState
 met_more seat at w = record seat { met = seat.met ++ Met (at + 2) w ∷ []; known = taught seat.known (at + 2) w }
+
+-- a seat after it saw the result of a key
+abbrev pub told_more : SeatState → ℕ → ℕ → SeatState
+told_more seat key result = record seat { known = told seat.known key result }
 
 -- the first seat: it knows the two constants
 abbrev pub first_seat : SeatState

@@ -1,11 +1,13 @@
 //! The machine: a table of node words, and seats that act on it one event at a time.
-ghost use Rattle.std.specs.Prelude.{◌≡◌, ◌<◌, ◌≤◌, ◌^◌, ◌↔◌, length, IsTrue, IfOk, OnOk, OnErr};
+ghost use Rattle.std.specs.Prelude.{◌≡◌, ◌<◌, ◌≤◌, ◌^◌, ◌↔◌, false, length, IsTrue, IfOk, OnOk, OnErr};
 ghost use Rattle.lattice.specs.declared.limits.TheConstants.{MIN_BITS, MAX_BITS, MAX_VARS};
+ghost use Rattle.lattice.specs.NodeWords.{cache_bits};
 ghost use Rattle.lattice.specs.Tables.{var_at, KeepsWords};
 ghost use Rattle.probe_core.specs.Machines.{Machine};
-ghost use Rattle.probe_core.specs.Events.{start, seat_at, IsLive, IsOverKnown, MayExchange, MayTake, MayTakeAll, after, after_all, seen};
+ghost use Rattle.probe_core.specs.Events.{start, seat_at, IsLive, IsOverKnown, MayExchange, is_store, MayTake, MayTakeAll, after, after_all, seen};
 ghost use Rattle.probe_core.specs.Soundness.{IsSoundMachine, IsLawful};
 
+use crate::cache::{cache_size, key_at, result_of};
 use crate::event::{Event, Seen};
 use crate::path::has_probed;
 use crate::seat::{Seat, is_known};
@@ -14,25 +16,27 @@ use node_store::{Handle, unpack};
 use std::alloc::Global;
 use std::marker::Model;
 
-/// A table of 2^bits node words over so many variables, and its seats.
+/// A table of 2^bits node words over so many variables, its cache words, and its seats.
 #[derive(Drop)]
 pub struct Core {
     bits: u32,
     vars: u32,
     words: Vec<u64>,
+    cache: Vec<u64>,
     seats: Vec<Seat>,
 }
 
 impl Model for Core {
     ghost Value = { Machine };
 
-    ghost view = { λ c. record { bits = c.bits; vars = c.vars; words = c.words.items; seats = c.seats.items } };
+    ghost view = { λ c. record { bits = c.bits; vars = c.vars; words = c.words.items; cache = c.cache.items; seats = c.seats.items } };
 
-    ghost invariant = { λ c. (MIN_BITS ≤ c.bits) × (c.bits ≤ MAX_BITS) × (1 ≤ c.vars) × (c.vars ≤ MAX_VARS) × (length c.words.items ≡ 2 ^ c.bits) };
+    ghost invariant = { λ c. (MIN_BITS ≤ c.bits) × (c.bits ≤ MAX_BITS) × (1 ≤ c.vars) × (c.vars ≤ MAX_VARS) × (length c.words.items ≡ 2 ^ c.bits) × (length c.cache.items ≡ 2 ^ cache_bits c.bits) };
 }
 
 impl Core {
-    /// A machine with a vacant table of 2^bits words over so many variables, and a seat that knows the two constants.
+    /// A machine with a vacant table of 2^bits words over so many variables, a vacant cache of 2^12 words or as many as the table
+    /// where these are more, and a seat that knows the two constants.
     pub fn make(alloc: Global, bits: u32, vars: u32) -> Result<Core, Memory>
         requires bits { (MIN_BITS ≤ bits) × (bits ≤ MAX_BITS) }
         requires vars { (1 ≤ vars) × (vars ≤ MAX_VARS) }
@@ -40,6 +44,7 @@ impl Core {
         ensures sound { IfOk result IsSoundMachine }
     {
         let words = Vec::from_elem(alloc, 0u64, 1usize << bits)?;
+        let cache = Vec::from_elem(alloc, 0u64, cache_size(bits))?;
         let first = Seat::first(alloc)?;
         let mut seats = Vec::new(alloc);
         seats.push(first)?;
@@ -47,6 +52,7 @@ impl Core {
             bits,
             vars,
             words,
+            cache,
             seats,
         })
     }
@@ -58,8 +64,17 @@ impl Core {
         self.words.as_slice()
     }
 
-    /// Whether the event may be taken now.
+    /// The words of the cache; 0 is a vacant place.
+    pub fn cache(&self) -> &[u64]
+        ensures { result.now ≡ self.now.cache }
+    {
+        self.cache.as_slice()
+    }
+
+    /// Whether the event may be taken now, for an event that stores no cache word: whether a word is that of a result, no look
+    /// at the machine can tell.
     pub fn may(&self, e: &Event) -> bool
+        requires { is_store e.now ≡ false }
         ensures { IsTrue result ↔ MayTake self.now e.now }
     {
         match *e {
@@ -69,6 +84,10 @@ impl Core {
             Event::Exchange { seat, place, word } => {
                 self.is_live(seat) && self.may_exchange(seat, place, word)
             }
+            Event::CacheLoad { seat, place } => {
+                self.is_live(seat) && (place as usize) < self.cache.len()
+            }
+            Event::CacheStore { .. } => false,
             Event::Split { seat } => self.is_live(seat) && self.seats.len() < u32::MAX as usize,
             Event::Join { seat, other } => {
                 self.is_live(seat) && self.is_live(other) && seat != other
@@ -90,6 +109,8 @@ impl Core {
         match *e {
             Event::Load { seat, place } => self.load(seat, place),
             Event::Exchange { seat, place, word } => self.exchange(seat, place, word),
+            Event::CacheLoad { seat, place } => self.cache_load(seat, place),
+            Event::CacheStore { seat, place, word } => self.cache_store(seat, place, word),
             Event::Split { seat } => self.split(seat),
             Event::Join { seat, other } => self.join(seat, other),
         }
@@ -144,6 +165,32 @@ impl Core {
         self.seats[id as usize].meet(at, word)?;
         self.words[at as usize] = word;
         Ok(Seen { word, won: true })
+    }
+
+    // The seat looks at the cache word of the place.
+    fn cache_load(&mut self, id: u32, at: u32) -> Result<Seen, Memory>
+        requires { MayTake self.old (Event.CacheLoad id at) }
+        ensures after { OnOk result (self.new ≡ after self.old (Event.CacheLoad id at)) }
+        ensures seen { IfOk result (λ shown. shown ≡ seen self.old (Event.CacheLoad id at)) }
+        ensures memory { OnErr result (self.new ≡ self.old) }
+    {
+        let word = self.cache[at as usize];
+        if word != 0 {
+            let key = key_at(self.bits, at, word);
+            self.seats[id as usize].see(key, result_of(word))?;
+        }
+        Ok(Seen { word, won: false })
+    }
+
+    // The cache word of the place becomes this one.
+    fn cache_store(&mut self, id: u32, at: u32, word: u64) -> Result<Seen, Memory>
+        requires { MayTake self.old (Event.CacheStore id at word) }
+        ensures after { OnOk result (self.new ≡ after self.old (Event.CacheStore id at word)) }
+        ensures seen { IfOk result (λ shown. shown ≡ seen self.old (Event.CacheStore id at word)) }
+        ensures memory { OnErr result (self.new ≡ self.old) }
+    {
+        self.cache[at as usize] = word;
+        Ok(Seen { word, won: false })
     }
 
     // A new seat knows what this one knows.

@@ -4,9 +4,9 @@ ghost use Rattle.std.specs.Vec.{vec_capacity};
 ghost use Rattle.lattice.specs.declared.limits.TheConstants.{MAX_BITS};
 ghost use Rattle.lattice.specs.NodeWords.{lo_of, hi_of};
 ghost use Rattle.probe_core.specs.Machines.{SeatState};
-ghost use Rattle.probe_core.specs.Seats.{knows, learned, taught, united, met_more, first_seat, twin, joined, ended};
+ghost use Rattle.probe_core.specs.Seats.{knows, knows_key, learned, taught, united, met_more, told_more, first_seat, twin, joined, ended};
 
-use lattice::{Entry, HANDLE_UNIT, Memory};
+use lattice::{Entry, HANDLE_UNIT, Memory, Op, TOP_UNIT};
 use node_store::Handle;
 use std::alloc::Global;
 use std::marker::Model;
@@ -82,6 +82,18 @@ impl Seat {
         Ok(())
     }
 
+    /// The seat sees the result of a key, and learns it where it knows the handles of the key. After Memory it is as before.
+    pub fn see(&mut self, key: u64, found: Handle) -> Result<(), Memory>
+        ensures ok { OnOk result (self.new ≡ told_more self.old key found.0) }
+        ensures err { OnErr result (self.new ≡ self.old) }
+    {
+        self.known.reserve(1)?;
+        if knows_key(self.known.as_slice(), key) {
+            learn(&mut self.known, found);
+        }
+        Ok(())
+    }
+
     /// The seat ends.
     pub fn end(&mut self)
         ensures { self.new ≡ ended self.old }
@@ -105,6 +117,14 @@ pub fn children(word: u64) -> (Handle, Handle)
     let low = word / HANDLE_UNIT % HANDLE_UNIT;
     let high = word % HANDLE_UNIT;
     (Handle(low as u32), Handle(high as u32))
+}
+
+// Whether the handles of a key are known. The second operand is a family for the operations up to Least, and else none.
+fn knows_key(known: &[Handle], key: u64) -> bool
+    ensures { result ≡ knows_key known.now key }
+{
+    let (first, second) = children(key);
+    is_known(known, first) && (key / TOP_UNIT > Op::Least as u64 || is_known(known, second))
 }
 
 // Puts the handle among the known ones, where there is room for it.

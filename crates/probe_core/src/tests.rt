@@ -1,5 +1,5 @@
-ghost use Rattle.std.specs.Prelude.{◌≡◌, IfOk};
-ghost use Rattle.probe_core.specs.Events.{start, MayTake, MayTakeAll, after, after_all};
+ghost use Rattle.std.specs.Prelude.{◌≡◌, IsTrue, IfOk};
+ghost use Rattle.probe_core.specs.Events.{start, is_store, MayTake, MayTakeAll, after, after_all};
 
 use crate::{Core, Event, Seen, run};
 use lattice::Memory;
@@ -17,16 +17,39 @@ const FIRST: u64 = 844424946909185;
 // the handles 1 and 1, that of variable 2 over 14 and 14, and that of variable 1 over 0 and 15.
 const NODES: [(u32, u64); 3] = [(12, FIRST), (13, 562950188302350), (14, 281474976710671)];
 
-// Takes an event that may be taken.
+// The nodes of x3 and of x2*x3, each with the place where its path begins; the second one is over the first, Handle(3).
+const X3: (u32, u64) = (1, 844424930131969);
+
+const X2X3: (u32, u64) = (13, 562949953421315);
+
+// The product of Handle(3) and variable 2, which is Handle(15), with the place of its key: that and the quotient are the upper
+// and the lower digits of (10 * 2**48 + 3 * 2**24 + 2) * 0x9E3779B97F4A7C15 % 2**52, and the word is quotient * 2**24 + 15 + 1.
+const PRODUCT: (u32, u64) = (3794, 0xE73D_94F8_2A00_0010);
+
+// Whether the event stores a cache word.
+fn is_store(e: &Event) -> bool
+    ensures { result ≡ is_store e.now }
+{
+    matches!(e, Event::CacheStore { .. })
+}
+
+// Whether the event may be taken, and stores no cache word.
+fn may_take(core: &Core, e: &Event) -> bool
+    ensures { IsTrue result → MayTake core.now e.now }
+{
+    !is_store(e) && core.may(e)
+}
+
+// Takes an event that may be taken, and stores no cache word.
 fn take(rt: &impl Abort, core: &mut Core, e: &Event) -> Result<Seen, Memory>
     ensures may { MayTake core.old e.now }
     ensures after { IfOk result (λ _. core.new ≡ after core.old e.now) }
 {
-    assert!(rt; core.may(e));
+    assert!(rt; may_take(core, e));
     core.step(e)
 }
 
-// Takes events that may be taken at their turns, over 16 places and 3 variables.
+// Takes events that may be taken at their turns, and store no cache words, over 16 places and 3 variables.
 fn take_all(rt: &impl Abort, alloc: Global, events: &[Event]) -> Result<Core, Memory>
     ensures may { IfOk result (λ _. MayTakeAll (start 4 3) events.now) }
     ensures after { IfOk result (λ c. c ≡ after_all (start 4 3) events.now) }
@@ -109,21 +132,44 @@ fn three_slots_for_three_nodes(rt: HostRuntime) -> Result<(), Fail> {
 #[test]
 fn refused_events(rt: HostRuntime) -> Result<(), Fail> {
     let fresh = Core::make(rt.alloc(), 4, 3)?;
-    assert!(rt; fresh.may(&first_at(12)));
-    assert!(rt; !fresh.may(&first_at(13)), "not the next place of the path");
+    assert!(rt; may_take(&fresh, &first_at(12)));
+    assert!(rt;
+        !may_take(&fresh, &first_at(13)),
+        "not the next place of the path"
+    );
     let events = three_seats(rt.alloc())?;
     let core = take_all(&rt, rt.alloc(), events.as_slice())?;
-    assert!(rt; core.may(&Event::Load { seat: 0, place: 15 }));
+    assert!(rt; may_take(&core, &Event::Load { seat: 0, place: 15 }));
+    assert!(rt;
+        may_take(
+            &core,
+            &Event::CacheLoad {
+                seat: 0,
+                place: 4095
+            }
+        )
+    );
     let refused = [
         ("an ended seat", Event::Load { seat: 1, place: 0 }),
         ("no such seat", Event::Load { seat: 3, place: 0 }),
         ("no such place", Event::Load { seat: 0, place: 16 }),
+        (
+            "no such cache word",
+            Event::CacheLoad {
+                seat: 0,
+                place: 4096,
+            },
+        ),
+        (
+            "an ended seat looks at a cache word",
+            Event::CacheLoad { seat: 1, place: 0 },
+        ),
         ("an ended seat splits", Event::Split { seat: 2 }),
         ("an ended seat joins", Event::Join { seat: 0, other: 2 }),
         ("a seat joins itself", Event::Join { seat: 0, other: 0 }),
     ];
     for (why, e) in refused {
-        assert!(rt; !core.may(&e), "{why}");
+        assert!(rt; !may_take(&core, &e), "{why}");
     }
     Ok(())
 }
@@ -153,7 +199,7 @@ fn refused_words(rt: HostRuntime) -> Result<(), Fail> {
             place,
             word,
         };
-        assert_eq!(rt; core.may(&e), may, "{why}");
+        assert_eq!(rt; may_take(&core, &e), may, "{why}");
     }
     Ok(())
 }
@@ -164,5 +210,59 @@ fn first_at(place: u32) -> Event {
         seat: 0,
         place,
         word: FIRST,
+    }
+}
+
+// The first seat makes the nodes of x3 and of x2*x3 and keeps the product of x3 and x2. A seat that knows x3 learns x2*x3 from
+// it, so that it may exchange a node over it, and a seat that does not know x3 learns nothing.
+#[test]
+fn a_kept_product_is_found(rt: HostRuntime) -> Result<(), Fail> {
+    let events = [
+        Event::Split { seat: 0 },
+        Event::Exchange {
+            seat: 0,
+            place: X3.0,
+            word: X3.1,
+        },
+        Event::Split { seat: 0 },
+        Event::Exchange {
+            seat: 0,
+            place: X2X3.0,
+            word: X2X3.1,
+        },
+        Event::CacheStore {
+            seat: 0,
+            place: PRODUCT.0,
+            word: PRODUCT.1,
+        },
+    ];
+    let mut core = run(rt.alloc(), 4, 3, &events)?;
+    for seat in 1..3 {
+        assert!(rt;
+            !may_take(&core, &over_x2x3(seat)),
+            "seat {seat} before its look"
+        );
+        let look = Event::CacheLoad {
+            seat,
+            place: PRODUCT.0,
+        };
+        let seen = take(&rt, &mut core, &look)?;
+        assert_eq!(rt; seen.word, PRODUCT.1);
+        assert!(rt; !seen.won);
+        assert_eq!(rt; may_take(&core, &over_x2x3(seat)), seat == 2, "seat {seat}");
+    }
+    assert!(rt; take(&rt, &mut core, &over_x2x3(2))?.won);
+    assert_eq!(rt; core.words().iter().filter(|w| **w != 0).count(), 3);
+    assert_eq!(rt; core.cache().get(PRODUCT.0 as usize), Some(&PRODUCT.1));
+    assert_eq!(rt; core.cache().iter().filter(|w| **w != 0).count(), 1);
+    Ok(())
+}
+
+// The seat exchanges the node of variable 1 over Handle(0) and Handle(15).
+fn over_x2x3(seat: u32) -> Event {
+    Event::Exchange {
+        seat,
+        place: 12,
+        word: 281474976710671,
     }
 }

@@ -1,7 +1,5 @@
-ghost use Rattle.std.specs.Prelude.{◌<◌, ◌≤◌, ◌^◌, IfOk};
-ghost use Rattle.std.specs.List.{All};
-ghost use Rattle.lattice.specs.Family.{has, family_where};
-ghost use Rattle.node_store.specs.Stores.{Knows, Denotes, Grows};
+ghost use Rattle.std.specs.Prelude.{◌≤◌, IfOk};
+ghost use Rattle.node_store.specs.Stores.{Knows};
 ghost use Rattle.node_store.specs.AnyFamily.{MayHoldAny};
 ghost use Rattle.interp_list.specs.CarePoints.{AreCarePoints};
 
@@ -10,24 +8,9 @@ use interp_lex::least;
 use interp_list::{are_care_points, least_list};
 use lattice::{Mono, Monos};
 use node_store::{Full, Handle, PlainStore, Store, any_plan};
-use set_algebra::{one, union, walk_upto};
+use set_algebra::{family_of, walk_upto};
 use std::alloc::{AllocError, Global};
 use std::test::Fail;
-
-// The family of the numbers.
-fn family_of<S: Store>(store: &mut S, vars: u32, numbers: &[u64]) -> Result<Handle, Full>
-    requires any { MayHoldAny vars (S.state store.old) }
-    requires below { All (λ m. m < 2 ^ vars) numbers.now }
-    ensures grows { Grows (S.state store.old) (S.state store.new) }
-    ensures members { IfOk result (λ h. Denotes (S.state store.new) h (family_where vars (has numbers.now))) }
-{
-    let mut all = Handle(0);
-    for &m in numbers {
-        let next = one(store, Mono(m))?;
-        all = union(store, all, next)?;
-    }
-    Ok(all)
-}
 
 // The least polynomial on the points.
 fn least_on<S: Store>(

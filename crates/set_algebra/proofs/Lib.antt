@@ -1,4 +1,6 @@
 pub mod Levels
+pub mod GivenPoints
+mod ListedNumbers
 mod HalvesLemmas
 mod SingleLemmas
 mod PairLemmas

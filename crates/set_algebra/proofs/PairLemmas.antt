@@ -1,8 +1,8 @@
 -- Two families cut at their first variable, and put together again.
-use Rattle.std.proofs.Common.{◌≡◌, ℕ, suc, ◌-◌, ◌<◌, ◌≤◌, max, Bool, true, false, Option, Some, None, Ok, [], refl, sym, ◌∙◌, ap}
-use Rattle.std.proofs.Common.{subst, arith, cond, inl, inr}
+use Rattle.std.proofs.Common.{◌≡◌, ℕ, suc, ◌-◌, ◌<◌, ◌≤◌, max, true, false, Option, Some, None, Ok, [], refl, sym, ◌∙◌, ap}
+use Rattle.std.proofs.Common.{arith, cond, inl, inr}
 use Rattle.std.proofs.lemmas.Bool.{cases_Bool, false≢true}
-use Rattle.lattice.specs.Family.{Family, IsFamily, has, combine, includes, Has, Covers}
+use Rattle.lattice.specs.Family.{Family, IsFamily, combine, includes, Covers}
 use Rattle.lattice.specs.Cofactors.{low_cofactor, high_cofactor, sub, level}
 use Rattle.lattice.specs.Operations.{answer, test_of, is_pointwise}
 use Rattle.lattice.specs.declared.op.Op.{Op}
@@ -10,42 +10,16 @@ use Rattle.lattice.proofs.Diagrams.{level-below, combine-join, combine-low_after
 use Rattle.lattice.proofs.Diagrams.{combine-covers_high, combine-same, combine-same_lost, combine-right_empty, combine-right_empty_lost}
 use Rattle.lattice.proofs.Diagrams.{combine-left_empty, combine-left_empty_lost, includes-needs, test_none, answer-pointwise}
 use Rattle.lattice.proofs.Diagrams.{takes_family-pointwise, takes_variable-pointwise, IsAllowed-pointwise}
-use Rattle.lattice.proofs.Polynomials.{family_where-agree, IsFamily-low_cofactor, IsFamily-high_cofactor}
-use Rattle.node_store.specs.Stores.{State, Knows, family, Denotes, IsNodeOf, ArePartsOf, IsSound, IsPlanned, Grows, Reads, Builds, second}
+use Rattle.lattice.proofs.Polynomials.{IsFamily-low_cofactor, IsFamily-high_cofactor}
+use Rattle.node_store.specs.Stores.{State, Knows, family, Denotes, IsNodeOf, ArePartsOf, IsSound, Grows, Reads, Builds, second}
 use Rattle.node_store.specs.Stores.{needs_of, AreOperands, IsResult}
 use Rattle.node_store.specs.declared.store.Handle.{Handle}
 use Rattle.node_store.specs.declared.store.Node.{Node}
-use Rattle.node_store.proofs.StoreLaws.{Denotes-family, Denotes-knows, Gives-reads, Grows-family, Grows-knows, Reads-refl}
-use Rattle.node_store.proofs.StoreLaws.{MayGrow, Reads-trans, given_kept, gives_as, gives_fewer, kept_given, level_constant, node_level}
-use Rattle.set_algebra.proofs.Levels.{top_after}
-use Rattle.set_algebra.specs.Pairs.{AreCofactors, AreInOrder, IsFirstOf, level_at, IsAt}
+use Rattle.node_store.proofs.StoreLaws.{Denotes-family, Denotes-knows, Grows-family, Grows-knows, MayGrow, Reads-refl, given_kept, gives_as}
+use Rattle.node_store.proofs.StoreLaws.{gives_fewer, kept_given, level_constant, node_level, reads_one, then_call}
+use Rattle.set_algebra.proofs.Levels.{Finishes, combine_later, finishes, order-asks, order-same, order-top, top_after}
+use Rattle.set_algebra.specs.Pairs.{AreCofactors, AreInOrder, Asks, IsCutAt, IsFirstOf, level_at, IsAt}
 use Rattle.set_algebra.specs.declared.pairs.Cofactors.{Cofactors}
-
--- operands in order
-
-combine-swap : (t : Bool → Bool → Bool) (n : ℕ) (f g : Family) → ((p q : Bool) → t p q ≡ t q p) → combine t n f g ≡ combine t n g f
-unfolding combine
-combine-swap t n f g same = family_where-agree n (λ x. t (has f x) (has g x)) (λ x. t (has g x) (has f x))
-    (λ x less. same (has f x) (has g x))
-
-module _ (op : Op) (s : State) (a b x y : Handle) (is : AreInOrder op a b x y) where
-  pub order-knows : Knows s a → Knows s b → Knows s x × Knows s y
-  order-knows ka kb = elim is [
-    | inl e ↦ (rw e.0 ka, rw e.1 kb)
-    | inr e ↦ (rw e.0 kb, rw e.1 ka)
-  ]
-
-  pub order-same : combine (test_of op) s.vars (family s x) (family s y) ≡ combine (test_of op) s.vars (family s a) (family s b)
-  order-same = elim is [
-    | inl e ↦ rw (e.0, e.1) refl
-    | inr e ↦ rw (e.0, e.1) (combine-swap (test_of op) s.vars (family s b) (family s a) (λ p q. e.2 p q))
-  ]
-
-  pub order-top : max (level s.vars (family s x)) (level s.vars (family s y)) ≡ max (level s.vars (family s a)) (level s.vars (family s b))
-  order-top = elim is [
-    | inl e ↦ rw (e.0, e.1) refl
-    | inr e ↦ rw (e.0, e.1) (omega arith)
-  ]
 
 -- what a kept result says
 
@@ -75,157 +49,109 @@ includes_is op s a b k is =
 
 -- ---- one step of the recursion
 
--- s is the state at the call, t the one after the cut, and h what the cut gave: the parts of the operands, which are the families
--- of a and b in order, before their first variable
-pub record IsCut (op : Op) (s t : State) (a b : Handle) (h : Cofactors) : Type 0 where
-  pub one : Family
-  pub two : Family
-  pub reads : Reads s t
-  pub same : combine (test_of op) s.vars one two ≡ combine (test_of op) s.vars (family s a) (family s b)
-  pub first : 1 ≤ h.var
-  pub last : h.var ≤ s.vars
-  pub top : max (level s.vars (family s a)) (level s.vars (family s b)) ≡ suc (s.vars - h.var)
-  pub one_fits : IsFamily (suc (s.vars - h.var)) one
-  pub two_fits : IsFamily (suc (s.vars - h.var)) two
-  pub a_low : Denotes t h.a_low (low_cofactor (s.vars - h.var) one)
-  pub a_high : Denotes t h.a_high (high_cofactor (s.vars - h.var) one)
-  pub b_low : Denotes t h.b_low (low_cofactor (s.vars - h.var) two)
-  pub b_high : Denotes t h.b_high (high_cofactor (s.vars - h.var) two)
-
--- l is the state after the look
-pub cut_of : (op : Op) {s l t : State} {a b x y : Handle} {h : Cofactors} → AreInOrder op a b x y → Knows s a → Knows s b → IsSound s
-    → Reads s l
-    → Reads l t → AreCofactors l t x y h → IsCut op s t a b h
-cut_of op {s} {l} {t} {a} {b} {x} {y} {h} order ka kb ok looked cut are =
-    let known = order-knows op s a b x y order ka kb in
-    let x_is : family l x ≡ family s x = Grows-family s l x looked.grows known.0 in
-    let y_is : family l y ≡ family s y = Grows-family s l y looked.grows known.1 in
-    let top : max (level s.vars (family s x)) (level s.vars (family s y)) ≡ suc (s.vars - h.var) = rw (looked.grows.vars, x_is, y_is) at
-    are.top in
-    let fits = top_after s x y (suc (s.vars - h.var)) ok known.0 known.1 top in
-    record {
-      one = family s x;
-      two = family s y;
-      reads = Reads-trans s l t looked cut;
-      same = order-same op s a b x y order;
-      first = are.first;
-      last = omega (arith, are.last, looked.grows.vars);
-      top = sym (order-top op s a b x y order) ∙ top;
-      one_fits = fits.0;
-      two_fits = fits.1;
-      a_low = rw (looked.grows.vars, x_is) at are.a_low;
-      a_high = rw (looked.grows.vars, x_is) at are.a_high;
-      b_low = rw (looked.grows.vars, y_is) at are.b_low;
-      b_high = rw (looked.grows.vars, y_is) at are.b_high;
-    }
-
--- what the call on two of the parts needs, at u; s is the state at the call itself, with its operands a and b
-pub record MayCall (op : Op) (s u : State) (a b p q : Handle) : Type 0 where
-  pub knows_first : Knows u p
-  pub knows_second : Knows u q
-  pub falls : max (level u.vars (family u p)) (level u.vars (family u q)) < max (level s.vars (family s a)) (level s.vars (family s b))
-  pub planned : IsPlanned s (combine (test_of op) s.vars (family s a) (family s b))
-      → IsPlanned u (combine (test_of op) u.vars (family u p) (family u q))
-
-module _ {op : Op} {s t : State} {a b : Handle} {h : Cofactors} (cut : IsCut op s t a b h) where
-  abbrev k : Bool → Bool → Bool
-  k = test_of op
-
+-- s is the state at the call, with the operands x and y, and t the one after they were cut
+module _ {op : Op} {s t : State} {x y : Handle} {h : Cofactors} (ok : IsSound s) (asks : Asks op s x y) (reads : Reads s t)
+    (are : AreCofactors s t x y h) where
   abbrev d : ℕ
   d = s.vars - h.var
 
   less : d < s.vars
-  less = omega (arith, cut.first, cut.last)
+  less = omega (arith, are.first, are.last)
 
-  abbrev whole : Family
-  whole = combine k s.vars (family s a) (family s b)
+  fits : IsFamily (suc d) (family s x) × IsFamily (suc d) (family s y)
+  fits = top_after s x y (suc d) ok asks.first asks.second are.top
 
-  -- the low parts combined, and the high ones
-  abbrev lows : Family
-  lows = combine k s.vars (low_cofactor d cut.one) (low_cofactor d cut.two)
+  part_asks : (p q : Handle) (P Q : Family) → Denotes t p P → Denotes t q Q
+      → Covers (sub s.vars (combine (test_of op) s.vars (family s x) (family s y))) (sub s.vars (combine (test_of op) s.vars P Q))
+      → Asks op t p q
+  part_asks p q P Q p_is q_is covers = record {
+    first = Denotes-knows t p P p_is;
+    second = Denotes-knows t q Q q_is;
+    planned = rw (reads.grows.vars, reads.grows.plan, Denotes-family t p P p_is, Denotes-family t q Q q_is)
+        (λ f e. asks.planned f (covers f e));
+  }
 
-  abbrev highs : Family
-  highs = combine k s.vars (high_cofactor d cut.one) (high_cofactor d cut.two)
+  -- the low parts may be combined
+  pub low_asks : Asks op t h.a_low h.b_low
+  low_asks = part_asks h.a_low h.b_low _ _ are.a_low are.b_low
+      (combine-covers_low (test_of op) (test_none op) s.vars d (family s x) (family s y) fits.0 fits.1 less)
 
-  may_call : (u : State) (p q : Handle) (P Q : Family) → Reads t u → Denotes t p P → Denotes t q Q → IsFamily d P
-      → IsFamily d Q
-      → Covers (sub s.vars (combine k s.vars cut.one cut.two)) (sub s.vars (combine k s.vars P Q)) → MayCall op s u a b p q
-  may_call u p q P Q later p_at q_at p_fits q_fits covers =
-      let vars : u.vars ≡ s.vars = later.grows.vars ∙ cut.reads.grows.vars in
-      let p_is : Denotes u p P = later.grows.known p.0 P p_at in
-      let q_is : Denotes u q Q = later.grows.known q.0 Q q_at in
-      let x : level s.vars P ≤ d = level-below d s.vars P p_fits (omega (arith, less)) in
-      let y : level s.vars Q ≤ d = level-below d s.vars Q q_fits (omega (arith, less)) in
-      record {
-        knows_first = Denotes-knows u p P p_is;
-        knows_second = Denotes-knows u q Q q_is;
-        falls = rw (vars, Denotes-family u p P p_is, Denotes-family u q Q q_is) (omega (arith, cut.top));
-        planned = λ planned. rw (vars, later.grows.plan, cut.reads.grows.plan, Denotes-family u p P p_is, Denotes-family u q Q q_is)
-            (λ f e. planned f (subst (λ w. Has (sub s.vars w) f) cut.same (covers f e)));
-      }
+  -- and the high ones
+  pub high_asks : Asks op t h.a_high h.b_high
+  high_asks = part_asks h.a_high h.b_high _ _ are.a_high are.b_high
+      (combine-covers_high (test_of op) (test_none op) s.vars d (family s x) (family s y) fits.0 fits.1 less)
 
-  pub low_call : MayCall op s t a b h.a_low h.b_low
-  low_call =
-      may_call t h.a_low h.b_low (low_cofactor d cut.one) (low_cofactor d cut.two) (Reads-refl t) cut.a_low cut.b_low
-      (IsFamily-low_cofactor d cut.one) (IsFamily-low_cofactor d cut.two)
-      (combine-covers_low k (test_none op) s.vars d cut.one cut.two cut.one_fits cut.two_fits less)
+-- two parts have a later first variable than the operands a and b; u is a state after the cut
+part_falls : (op : Op) {s t u : State} {a b x y : Handle} {h : Cofactors} (p q : Handle) (P Q : Family) → AreInOrder op a b x y
+    → AreCofactors s t x y h → Reads s t → Grows t u → Denotes t p P → Denotes t q Q → IsFamily (s.vars - h.var) P
+    → IsFamily (s.vars - h.var) Q
+    → max (level u.vars (family u p)) (level u.vars (family u q)) < max (level s.vars (family s a)) (level s.vars (family s b))
+part_falls op {s} {t} {u} {a} {b} {x} {y} {h} p q P Q order are reads later p_is q_is p_fits q_fits =
+    let left : level s.vars P ≤ s.vars - h.var = level-below (s.vars - h.var) s.vars P p_fits (omega arith) in
+    let right : level s.vars Q ≤ s.vars - h.var = level-below (s.vars - h.var) s.vars Q q_fits (omega arith) in
+    rw (later.vars, reads.grows.vars, Denotes-family u p P (later.known p.0 P p_is), Denotes-family u q Q (later.known q.0 Q q_is))
+    (omega (arith, left, right, are.top, order-top op s a b x y order))
 
-  -- u is the state after the low parts were combined
-  module _ {u : State} {lo : Handle} (low : Builds t u (Ok lo) (combine k t.vars (family t h.a_low) (family t h.b_low))) where
-    after_low : Reads t u
-    after_low = Gives-reads t u lo _ _ low
+module _ (op : Op) {s t u : State} {a b x y : Handle} {h : Cofactors} (order : AreInOrder op a b x y) (are : AreCofactors s t x y h)
+    (reads : Reads s t) (later : Grows t u) where
+  pub low_falls : max (level u.vars (family u h.a_low)) (level u.vars (family u h.b_low))
+      < max (level s.vars (family s a)) (level s.vars (family s b))
+  low_falls = part_falls op h.a_low h.b_low _ _ order are reads later are.a_low are.b_low
+      (IsFamily-low_cofactor (s.vars - h.var) (family s x)) (IsFamily-low_cofactor (s.vars - h.var) (family s y))
 
-    pub high_call : MayCall op s u a b h.a_high h.b_high
-    high_call =
-        may_call u h.a_high h.b_high (high_cofactor d cut.one) (high_cofactor d cut.two) after_low cut.a_high cut.b_high
-        (IsFamily-high_cofactor d cut.one) (IsFamily-high_cofactor d cut.two)
-        (combine-covers_high k (test_none op) s.vars d cut.one cut.two cut.one_fits cut.two_fits less)
+  pub high_falls : max (level u.vars (family u h.a_high)) (level u.vars (family u h.b_high))
+      < max (level s.vars (family s a)) (level s.vars (family s b))
+  high_falls = part_falls op h.a_high h.b_high _ _ order are reads later are.a_high are.b_high
+      (IsFamily-high_cofactor (s.vars - h.var) (family s x)) (IsFamily-high_cofactor (s.vars - h.var) (family s y))
 
-    -- v is the state after the high parts were combined
-    module _ {v : State} {hi : Handle} (high : Builds u v (Ok hi) (combine k u.vars (family u h.a_high) (family u h.b_high))) where
-      pub before_grow : Reads s v
-      before_grow = Reads-trans s u v (Reads-trans s t u cut.reads after_low) (Gives-reads u v hi _ _ high)
+-- the halves one after the other: t is the state after the cut, u the one after the low parts, v the one after the high ones
+pub finishes_in_row : {op : Op} {s t u v : State} {a b x y : Handle} {c : Cofactors} {lo hi : Handle} → Asks op s a b
+    → AreInOrder op a b x y → AreCofactors s t x y c → Reads s t → Asks op t c.a_high c.b_high
+    → Builds t u (Ok lo) (combine (test_of op) t.vars (family t c.a_low) (family t c.b_low))
+    → Builds u v (Ok hi) (combine (test_of op) u.vars (family u c.a_high) (family u c.b_high))
+    → Finishes op s v a b x y c.var lo hi
+finishes_in_row {op} {s} {t} {u} {v} {a} {b} {x} {y} {c} {lo} {hi} asks order are reads second low high =
+    finishes asks order are reads (then_call (reads_one low) high) (high.grows.known lo.0 _ low.ok)
+    (high.ok ∙ ap Some (combine_later (test_of op) t u c.a_high c.b_high low.grows second.first second.second))
 
-      pub grows_whole : IsPlanned s whole → MayGrow s v h.var lo hi whole
-      grows_whole planned =
-          let vars : u.vars ≡ s.vars = low.grows.vars ∙ cut.reads.grows.vars in
-          let a_high : family u h.a_high ≡ high_cofactor d cut.one = Denotes-family u h.a_high _
-          (low.grows.known h.a_high.0 _ cut.a_high) in
-          let b_high : family u h.b_high ≡ high_cofactor d cut.two = Denotes-family u h.b_high _
-          (low.grows.known h.b_high.0 _ cut.b_high) in
-          record {
-            reads = before_grow;
-            first = cut.first;
-            last = cut.last;
-            low = lows;
-            high = highs;
-            lo_is = high.grows.known lo.0 lows
-                (rw (cut.reads.grows.vars, Denotes-family t h.a_low _ cut.a_low, Denotes-family t h.b_low _ cut.b_low) at low.ok);
-            hi_is = rw (vars, a_high, b_high) at high.ok;
-            low_after = combine-low_after k (test_none op) s.vars d cut.one cut.two cut.one_fits cut.two_fits less;
-            high_after = combine-high_after k (test_none op) s.vars d cut.one cut.two cut.one_fits cut.two_fits less;
-            whole = sym cut.same ∙ combine-join k (test_none op) s.vars d cut.one cut.two cut.one_fits cut.two_fits less;
-            planned = planned;
-          }
+-- ---- the node over the halves, in the state v after them
 
--- ---- kept results: s is the state at the call, l the one after the look, w the one after the call
+pub may_grow : {op : Op} {v : State} {x y lo hi : Handle} {var : ℕ} → IsSound v → Asks op v x y → IsCutAt v x y var
+    → Denotes v lo (combine (test_of op) v.vars (low_cofactor (v.vars - var) (family v x)) (low_cofactor (v.vars - var) (family v y)))
+    → Denotes v hi (combine (test_of op) v.vars (high_cofactor (v.vars - var) (family v x)) (high_cofactor (v.vars - var) (family v y)))
+    → MayGrow v v var lo hi (combine (test_of op) v.vars (family v x) (family v y))
+may_grow {op} {v} {x} {y} {lo} {hi} {var} ok asks cut low high =
+    let less : v.vars - var < v.vars = omega (arith, cut.first, cut.last) in
+    let fits = top_after v x y (suc (v.vars - var)) ok asks.first asks.second cut.top in
+    record {
+      reads = Reads-refl v;
+      first = cut.first;
+      last = cut.last;
+      low = _;
+      high = _;
+      lo_is = low;
+      hi_is = high;
+      low_after = combine-low_after (test_of op) (test_none op) v.vars (v.vars - var) (family v x) (family v y) fits.0 fits.1 less;
+      high_after = combine-high_after (test_of op) (test_none op) v.vars (v.vars - var) (family v x) (family v y) fits.0 fits.1 less;
+      whole = combine-join (test_of op) (test_none op) v.vars (v.vars - var) (family v x) (family v y) fits.0 fits.1 less;
+      planned = asks.planned;
+    }
 
-module _ (op : Op) (s : State) (a b x y : Handle) (is : is_pointwise op ≡ true) (order : AreInOrder op a b x y) (ka : Knows s a)
-    (kb : Knows s b) where
-  known : Knows s x × Knows s y
-  known = order-knows op s a b x y order ka kb
+-- ---- kept results of the operands x and y in order: s is the state before the call, l the one after the look, w the one after it
 
-  pub step_looked : {l : State} {r : Handle} → Reads s l → IsResult l op x y.0 r
-      → Builds s l (Ok r) (combine (test_of op) s.vars (family s a) (family s b))
-  step_looked looked kept = rw (← order-same op s a b x y order) (gives_fewer (λ k h. includes_is op s x y k is ∙ h)
-      (gives_as (answer_is op s x y is) refl (kept_given (operands op s x y is known.0 known.1) looked kept)))
+pub step_looked : {op : Op} {s l : State} {a b x y r : Handle} → is_pointwise op ≡ true → AreInOrder op a b x y → Asks op s a b → Reads s l
+    → IsResult l op x y.0 r → Builds s l (Ok r) (combine (test_of op) s.vars (family s a) (family s b))
+step_looked {op} {s} {l} {a} {b} {x} {y} {r} is order asks looked kept =
+    let mine = order-asks op s a b x y order asks in
+    rw (← order-same op s a b x y order) (gives_fewer (λ k h. includes_is op s x y k is ∙ h)
+    (gives_as (answer_is op s x y is) refl (kept_given (operands op s x y is mine.first mine.second) looked kept)))
 
-  pub step_kept : {w : State} {r : Handle} → Builds s w (Ok r) (combine (test_of op) s.vars (family s a) (family s b))
-      → IsResult w op x y.0 r
-  step_kept built = given_kept (operands op s x y is known.0 known.1)
-      (IsAllowed-pointwise op s.vars (family s x) (second s op y.0) y.0 is)
-      (gives_fewer (λ k h. sym (includes_is op s x y k is) ∙ h)
-      (gives_as (sym (answer_is op s x y is)) refl (rw (← order-same op s a b x y order) at built)))
+pub step_kept : {op : Op} {s w : State} {x y r : Handle} → is_pointwise op ≡ true → Asks op s x y
+    → Builds s w (Ok r) (combine (test_of op) s.vars (family s x) (family s y)) → IsResult w op x y.0 r
+step_kept {op} {s} {w} {x} {y} {r} is asks built = given_kept (operands op s x y is asks.first asks.second)
+    (IsAllowed-pointwise op s.vars (family s x) (second s op y.0) y.0 is)
+    (gives_fewer (λ k h. sym (includes_is op s x y k is) ∙ h)
+    (gives_as (sym (answer_is op s x y is)) refl built))
 
 -- the first variable, by the nodes
 

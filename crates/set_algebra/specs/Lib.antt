@@ -1,3 +1,5 @@
 pub mod Halves
 pub mod Pairs
+pub mod GivenPoints
 pub mod ReadyStores
+pub mod Begins

@@ -3,7 +3,8 @@ use Rattle.std.specs.Prelude.{◌≡◌, ℕ, Option, Some, None, Bool, suc, ◌
 use Rattle.lattice.specs.Cofactors.{low_cofactor, high_cofactor, level}
 use Rattle.lattice.specs.Operations.{test_of}
 use Rattle.lattice.specs.declared.op.Op.{Op}
-use Rattle.node_store.specs.Stores.{State, Denotes, family}
+use Rattle.lattice.specs.Family.{combine}
+use Rattle.node_store.specs.Stores.{State, Knows, Denotes, family, IsPlanned}
 use Rattle.node_store.specs.declared.store.Handle.{Handle}
 use Rattle.node_store.specs.declared.store.Node.{Node}
 use Rattle.set_algebra.specs.declared.pairs.Cofactors.{Cofactors}
@@ -26,6 +27,18 @@ IsAt n (Some m) = (1 ≤ m.var) × (m.var ≤ n)
 abbrev pub IsFirstOf : Option Node → Option Node → ℕ → Type 0
 IsFirstOf first second var =
     (n : ℕ) → IsAt n first → IsAt n second → (1 ≤ var) × (var ≤ n) × (max (level_at n first) (level_at n second) ≡ suc (n - var))
+
+-- var is the first variable of the families of a and b
+pub record IsCutAt (s : State) (a b : Handle) (var : ℕ) : Type 0 where
+  pub first : 1 ≤ var
+  pub last : var ≤ s.vars
+  pub top : max (level s.vars (family s a)) (level s.vars (family s b)) ≡ suc (s.vars - var)
+
+-- both handles are known, and the plan has the families of the operation's result
+pub record Asks (op : Op) (s : State) (a b : Handle) : Type 0 where
+  pub first : Knows s a
+  pub second : Knows s b
+  pub planned : IsPlanned s (combine (test_of op) s.vars (family s a) (family s b))
 
 -- the parts of the families of a and b at the first variable of both; s is the state before, t the one after
 pub record AreCofactors (s t : State) (a b : Handle) (h : Cofactors) : Type 0 where

@@ -3,13 +3,17 @@
 
 mod counted;
 mod halves;
+mod listed;
 mod pairs;
+mod points;
 mod pointwise;
 mod single;
 
 pub use crate::counted::{WalkRefusal, count_upto, walk_upto};
+pub use crate::listed::family_of;
 pub use crate::pairs::{Cofactors, cut};
-pub use crate::pointwise::{inter, minus, union, xor};
+pub use crate::points::ValuedPoints;
+pub use crate::pointwise::{Begun, Halved, begin, combine, finish, inter, minus, union, xor};
 pub use crate::single::{contains, one, power};
 
 #[cfg(test)]

@@ -1,11 +1,13 @@
 //! The operations that tell for each number alone whether it is in the result.
-ghost use Rattle.std.specs.Prelude.{◌≡◌, ◌≤◌, ◌⊎◌, IfSome, IfNone, true, false, cond, []};
+ghost use Rattle.std.specs.Prelude.{◌≡◌, ◌≤◌, ◌⊎◌, ◌-◌, IfSome, IfNone, Ok, true, false, cond, []};
 ghost use Rattle.lattice.specs.Family.{combine, union_of, inter_of, minus_of, sum_of};
+ghost use Rattle.lattice.specs.Cofactors.{low_cofactor, high_cofactor};
 ghost use Rattle.lattice.specs.Operations.{test_of, is_pointwise};
-ghost use Rattle.node_store.specs.Stores.{State, Knows, Denotes, family, IsPlanned, Builds, IsSound};
-ghost use Rattle.set_algebra.specs.Pairs.{AreInOrder};
+ghost use Rattle.node_store.specs.Stores.{State, Knows, Denotes, family, IsPlanned, Reads, Builds, IsSound};
+ghost use Rattle.set_algebra.specs.Pairs.{AreInOrder, AreCofactors, IsCutAt, Asks};
+ghost use Rattle.set_algebra.specs.Begins.{IfDone, IfHalves};
 
-use crate::pairs::cut;
+use crate::pairs::{Cofactors, cut};
 use lattice::Op;
 use node_store::{Full, Handle, Store, grow};
 
@@ -66,27 +68,85 @@ fn in_order(op: Op, a: Handle, b: Handle) -> (Handle, Handle)
     }
 }
 
+/// The operands in order, and their parts.
+#[derive(Clone, Copy)]
+pub struct Halved {
+    pub x: Handle,
+    pub y: Handle,
+    pub cofactors: Cofactors,
+}
+
+/// What there is of an operation before its halves: its result, or the operands whose low parts and whose high parts are combined.
+pub enum Begun {
+    Done(Handle),
+    Halves(Halved),
+}
+
+/// What there is before the halves of a pointwise operation: its result, where it needs no look at the nodes or is kept, and else
+/// the operands in order, cut at their first variable.
+pub fn begin<S: Store>(store: &mut S, op: Op, a: Handle, b: Handle) -> Begun
+    requires op { is_pointwise op ≡ true }
+    requires asks { Asks op (S.state store.old) a b }
+    ensures reads { Reads (S.state store.old) (S.state store.new) }
+    ensures done { let s = S.state store.old in
+        IfDone result (λ r. Builds s (S.state store.new) (Ok r) (combine (test_of op) s.vars (family s a) (family s b))) }
+    ensures order { IfHalves result (λ h. AreInOrder op a b h.x h.y) }
+    ensures cofactors { IfHalves result (λ h. AreCofactors (S.state store.old) (S.state store.new) h.x h.y h.cofactors) }
+    ensures low { IfHalves result (λ h. Asks op (S.state store.new) h.cofactors.a_low h.cofactors.b_low) }
+    ensures high { IfHalves result (λ h. Asks op (S.state store.new) h.cofactors.a_high h.cofactors.b_high) }
+{
+    if let Some(r) = at_once(op, a, b) {
+        return Begun::Done(r);
+    }
+    let (x, y) = in_order(op, a, b);
+    if let Some(r) = store.look(op, x, y.0) {
+        return Begun::Done(r);
+    }
+    let cofactors = cut(store, x, y);
+    Begun::Halves(Halved { x, y, cofactors })
+}
+
+/// What there is after the halves of a pointwise operation, `lo` of the low parts and `hi` of the high ones: the result over both,
+/// which is kept.
+pub fn finish<S: Store>(
+    store: &mut S,
+    op: Op,
+    halved: Halved,
+    lo: Handle,
+    hi: Handle,
+) -> Result<Handle, Full>
+    requires op { is_pointwise op ≡ true }
+    requires asks { Asks op (S.state store.old) halved.x halved.y }
+    requires cut { IsCutAt (S.state store.old) halved.x halved.y halved.cofactors.var }
+    requires low { let s = S.state store.old in let d = s.vars - halved.cofactors.var in
+        Denotes s lo (combine (test_of op) s.vars (low_cofactor d (family s halved.x)) (low_cofactor d (family s halved.y))) }
+    requires high { let s = S.state store.old in let d = s.vars - halved.cofactors.var in
+        Denotes s hi (combine (test_of op) s.vars (high_cofactor d (family s halved.x)) (high_cofactor d (family s halved.y))) }
+    ensures { let s = S.state store.old in
+        Builds s (S.state store.new) result (combine (test_of op) s.vars (family s halved.x) (family s halved.y)) }
+{
+    let r = grow(store, halved.cofactors.var, lo, hi)?;
+    store.keep(op, halved.x, halved.y.0, r);
+    Ok(r)
+}
+
 /// The result of a pointwise operation.
-fn pointwise<S: Store>(store: &mut S, op: Op, a: Handle, b: Handle) -> Result<Handle, Full>
+pub fn combine<S: Store>(store: &mut S, op: Op, a: Handle, b: Handle) -> Result<Handle, Full>
     requires op { is_pointwise op ≡ true }
     requires a { Knows (S.state store.old) a }
     requires b { Knows (S.state store.old) b }
     requires planned { let s = S.state store.old in IsPlanned s (combine (test_of op) s.vars (family s a) (family s b)) }
     ensures { let s = S.state store.old in Builds s (S.state store.new) result (combine (test_of op) s.vars (family s a) (family s b)) }
 {
-    if let Some(r) = at_once(op, a, b) {
-        return Ok(r);
+    match begin(store, op, a, b) {
+        Begun::Done(r) => Ok(r),
+        Begun::Halves(halved) => {
+            let c = halved.cofactors;
+            let lo = combine(store, op, c.a_low, c.b_low)?;
+            let hi = combine(store, op, c.a_high, c.b_high)?;
+            finish(store, op, halved, lo, hi)
+        }
     }
-    let (x, y) = in_order(op, a, b);
-    if let Some(r) = store.look(op, x, y.0) {
-        return Ok(r);
-    }
-    let h = cut(store, x, y);
-    let lo = pointwise(store, op, h.a_low, h.b_low)?;
-    let hi = pointwise(store, op, h.a_high, h.b_high)?;
-    let r = grow(store, h.var, lo, hi)?;
-    store.keep(op, x, y.0, r);
-    Ok(r)
 }
 
 /// The members of `a` or `b`.
@@ -96,7 +156,7 @@ pub fn union<S: Store>(store: &mut S, a: Handle, b: Handle) -> Result<Handle, Fu
     requires planned { let s = S.state store.old in IsPlanned s (union_of s.vars (family s a) (family s b)) }
     ensures { let s = S.state store.old in Builds s (S.state store.new) result (union_of s.vars (family s a) (family s b)) }
 {
-    pointwise(store, Op::Union, a, b)
+    combine(store, Op::Union, a, b)
 }
 
 /// The members of `a` and `b`.
@@ -106,7 +166,7 @@ pub fn inter<S: Store>(store: &mut S, a: Handle, b: Handle) -> Result<Handle, Fu
     requires planned { let s = S.state store.old in IsPlanned s (inter_of s.vars (family s a) (family s b)) }
     ensures { let s = S.state store.old in Builds s (S.state store.new) result (inter_of s.vars (family s a) (family s b)) }
 {
-    pointwise(store, Op::Inter, a, b)
+    combine(store, Op::Inter, a, b)
 }
 
 /// The members of `a` that are not in `b`.
@@ -116,7 +176,7 @@ pub fn minus<S: Store>(store: &mut S, a: Handle, b: Handle) -> Result<Handle, Fu
     requires planned { let s = S.state store.old in IsPlanned s (minus_of s.vars (family s a) (family s b)) }
     ensures { let s = S.state store.old in Builds s (S.state store.new) result (minus_of s.vars (family s a) (family s b)) }
 {
-    pointwise(store, Op::Minus, a, b)
+    combine(store, Op::Minus, a, b)
 }
 
 /// The members of exactly one of `a` and `b`.
@@ -126,5 +186,5 @@ pub fn xor<S: Store>(store: &mut S, a: Handle, b: Handle) -> Result<Handle, Full
     requires planned { let s = S.state store.old in IsPlanned s (sum_of s.vars (family s a) (family s b)) }
     ensures { let s = S.state store.old in Builds s (S.state store.new) result (sum_of s.vars (family s a) (family s b)) }
 {
-    pointwise(store, Op::Xor, a, b)
+    combine(store, Op::Xor, a, b)
 }

@@ -6,24 +6,9 @@ ghost use Rattle.node_store.specs.AnyFamily.{MayHoldAny};
 use crate::{leads, standard};
 use lattice::{Mono, Monos};
 use node_store::{Full, Handle, PlainStore, Store, any_plan};
-use set_algebra::{one, union, walk_upto};
+use set_algebra::{family_of, walk_upto};
 use std::alloc::Global;
 use std::test::Fail;
-
-// The family of the numbers.
-fn family_of<S: Store>(store: &mut S, vars: u32, numbers: &[u64]) -> Result<Handle, Full>
-    requires any { MayHoldAny vars (S.state store.old) }
-    requires below { All (λ m. m < 2 ^ vars) numbers.now }
-    ensures any { MayHoldAny vars (S.state store.new) }
-    ensures known { IfOk result (Knows (S.state store.new)) }
-{
-    let mut all = Handle(0);
-    for &m in numbers {
-        let next = one(store, Mono(m))?;
-        all = union(store, all, next)?;
-    }
-    Ok(all)
-}
 
 // The standard monomials of the points, and their leads.
 fn both_of<S: Store>(store: &mut S, vars: u32, points: &[u64]) -> Result<(Handle, Handle), Full>

@@ -7,7 +7,7 @@ use Rattle.lattice.specs.Family.{Family, IsFamily, Has}
 use Rattle.lattice.specs.Cofactors.{join, level}
 use Rattle.lattice.specs.NodeWords.{var_of, lo_of, hi_of, place}
 use Rattle.lattice.specs.Tables.{IsFilled, var_at, IsNodeWord, IsCanonical, MayFill, KeepsWords, DenotesIn, nothing, unit, slot, IsStored}
-use Rattle.lattice.proofs.Diagrams.{level-below, fills, filling_grows, node_some, grows_filled, fits_grows, denotes_grows, denotes_handle}
+use Rattle.lattice.proofs.Diagrams.{level-below, fills, filling_grows, node_some, fits_grows, denotes_grows, denotes_handle}
 use Rattle.lattice.proofs.Diagrams.{slot_level}
 use Rattle.unique_table.specs.declared.view.View.{View}
 use Rattle.unique_table.specs.declared.view.Terms.{Terms}

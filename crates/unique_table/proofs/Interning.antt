@@ -1,7 +1,7 @@
 -- What an intern of a pass gives, as a call of a store.
-use Rattle.std.proofs.Common.{◌≡◌, ℕ, suc, ◌+◌, ◌-◌, ◌^◌, ◌<◌, ◌≤◌, Option, Some, None, is_some, unwrap_or, Ok, Err, true, List, [], ◌∷◌}
+use Rattle.std.proofs.Common.{◌≡◌, ℕ, suc, ◌+◌, ◌-◌, ◌^◌, ◌<◌, ◌≤◌, Some, Ok, Err, List, [], ◌∷◌}
 use Rattle.std.proofs.Common.{◌++◌, length, sym, refl, ap, ◌∙◌, subst, arith}
-use Rattle.lattice.specs.Family.{Family, IsFamily, Has}
+use Rattle.lattice.specs.Family.{IsFamily, Has}
 use Rattle.lattice.specs.Cofactors.{join, sub}
 use Rattle.lattice.specs.Counts.{one_more}
 use Rattle.lattice.specs.NodeWords.{node_word, var_of, lo_of, hi_of}

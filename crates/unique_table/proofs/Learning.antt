@@ -12,7 +12,7 @@ use Rattle.lattice.specs.History.{FitsHistory}
 use Rattle.lattice.proofs.Diagrams.{sub-join_high, denotes_one, high_after, low_after, some_members}
 use Rattle.lattice.specs.TableLaws.{AgreesWith}
 use Rattle.unique_table.specs.declared.view.View.{View}
-use Rattle.unique_table.specs.Views.{known_by}
+use Rattle.unique_table.specs.Views.{known_by, steps_of}
 use Rattle.unique_table.specs.Rule.{IsTable, IsPair, LiveFits, with_family}
 use Rattle.unique_table.specs.Told.{AreChildren, HasChildren, Meets}
 use Rattle.unique_table.proofs.Pairs.{append_cases, pair_cases, pair_here, second_some, cases_known, agrees_of, found, first_stays}
@@ -39,7 +39,7 @@ module _ (v : View) (ws : List ℕ) (table : IsTable v.terms ws) (fits : LiveFit
   d = vars - var_of w
 
   abbrev pub Learns : Type 0
-  Learns = (u : View) × LiveFits v.terms ws u × Meets v more s w u
+  Learns = (u : View) × LiveFits v.terms ws u × Meets v more s w u × (steps_of u ≡ steps_of v)
 
   agrees_own : AgreesWith vars ws (known_by v.known)
   agrees_own = agrees_of vars ws v.known fits.known
@@ -84,6 +84,7 @@ module _ (v : View) (ws : List ℕ) (table : IsTable v.terms ws) (fits : LiveFit
         goes = record { terms = refl; known = stays; held = keeps; history = refl };
         teaches = record { first = node.first; last = node.last; full = node.full; children = children; handle = handle };
       },
+      refl,
     )
 
   -- the children of a slot, and what they denote

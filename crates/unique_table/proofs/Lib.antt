@@ -1,4 +1,5 @@
 mod Moves
+mod Parts
 mod Pairs
 mod Merging
 mod Sound
@@ -13,4 +14,6 @@ mod Visits
 mod Interning
 mod Nodes
 mod Unions
+mod Caching
 mod TestedStores
+pub mod PassNeeds

@@ -1,10 +1,10 @@
 -- The arithmetic of a probe path, as the walk along it has it.
 use Rattle.std.proofs.Common.{◌≡◌, ◌==◌, ◌≢◌, ℕ, suc, ◌+◌, ◌-◌, ◌*◌, ◌/◌, ◌%◌, ◌^◌, ◌<◌, ◌≤◌, ◌⊎◌, inl, inr, ⊎_elim, true, false, eq-eqb}
-use Rattle.std.proofs.Common.{eqb-true, sym, ap, ◌∙◌, subst, arith, suc-mul, lt_of_not-le, div-add-mod'}
+use Rattle.std.proofs.Common.{eqb-true, sym, ap, ◌∙◌, arith, suc-mul, lt_of_not-le, div-add-mod'}
 use Rattle.std.proofs.Math.Nat.{mod-lt}
 use Rattle.std.proofs.lemmas.Nat.{pow_pos, mod-mul-add}
 use native.Mathlib.Decide.{dec_le}
-use Rattle.lattice.specs.NodeWords.{mixed, place}
+use Rattle.lattice.specs.NodeWords.{mixed, place, cache_bits}
 
 -- each place is on the path
 pub covers : (b w s : ℕ) → s < 2 ^ b → (e : ℕ) × (e < 2 ^ b) × (place b w e ≡ s)
@@ -37,5 +37,19 @@ before_end b' b d is less last =
     let ne : d + 1 ≢ n = λ e. let t : (d + 1 == 2 ^ b) ≡ true = eq-eqb (d + 1) (2 ^ b) (e ∙ ap (λ (k : ℕ). 2 ^ k) is) in cc in
     omega arith
 
-pub inside_words : (words b i : ℕ) → words ≡ 2 ^ b → i < 2 ^ b → i < words
-inside_words words b i is less = subst (λ (k : ℕ). i < k) (sym is) less
+-- a slot is one of the table's words
+pub inside_words : (words b i : ℕ) → words ≡ 2 ^ b + 2 ^ cache_bits b → i < 2 ^ b → i < words
+inside_words words b i is less =
+    let n : ℕ = 2 ^ b in
+    let m : ℕ = 2 ^ cache_bits b in
+    let whole : words ≡ n + m = is in
+    let l : i < n = less in omega arith
+
+-- a cache word is one of the table's words
+pub inside_cache : (words b p at : ℕ) → words ≡ 2 ^ b + 2 ^ cache_bits b → p < 2 ^ cache_bits b → at ≡ 2 ^ b + p → at < words
+inside_cache words b p at is less there =
+    let n : ℕ = 2 ^ b in
+    let m : ℕ = 2 ^ cache_bits b in
+    let whole : words ≡ n + m = is in
+    let l : p < m = less in
+    let e : at ≡ n + p = there in omega arith

@@ -1,5 +1,6 @@
 -- The steps of the shared table keep its rule.
-use Rattle.std.proofs.Common.{◌≡◌, ◌≢◌, ℕ, suc, ◌^◌, ◌<◌, Bool, true, eqb, List, [], ◌∷◌, ◌++◌, slice_index, set, sym, refl, ◌∙◌, subst}
+use Rattle.std.proofs.Common.{◌≡◌, ◌≢◌, ℕ, suc, ◌^◌, ◌<◌, Bool, true, eqb, List, [], ◌∷◌, ◌++◌, slice_index, set, take, sym, refl, ◌∙◌}
+use Rattle.std.proofs.Common.{subst}
 use Rattle.std.proofs.Common.{inl, inr}
 use mathlib.Core.Logic.{dite}
 use native.Mathlib.Decide.{ℕ_discrete}
@@ -7,18 +8,20 @@ use prog.Atomic.{either}
 use Rattle.atomic_table.specs.Table.{Allows}
 use Rattle.lattice.specs.declared.entry.Entry.{Entry}
 use Rattle.lattice.specs.declared.entry.Entry.TheVariants.{Met, Ask}
-use Rattle.lattice.specs.Tables.{IsFilled}
+use Rattle.lattice.specs.Tables.{IsFilled, KeepsWords}
+use Rattle.lattice.specs.NodeWords.{cache_bits}
 use Rattle.lattice.specs.History.{HoldsWord, FitsHistory}
-use Rattle.lattice.proofs.Diagrams.{fits_append, denotes_handle}
+use Rattle.lattice.proofs.Diagrams.{fits_append, denotes_handle, true_word_stays}
 use Rattle.unique_table.specs.declared.view.View.{View}
 use Rattle.unique_table.specs.declared.view.About.{About}
 use Rattle.unique_table.specs.declared.view.Terms.{Terms}
 use Rattle.unique_table.specs.Views.{terms_of, known_by}
-use Rattle.unique_table.specs.Rule.{Rule, IsTable, LiveFits, Fits}
+use Rattle.unique_table.specs.Rule.{Rule, IsTable, IsVacantOrTrue, IsWhole, LiveFits, Fits, FitsWhole}
 use Rattle.unique_table.specs.Told.{Sat, IsAsked, IsNext, EndsPath, passing, Passes, Stands, Meets, Keeps, Probed, Exchanged, Checked}
 use Rattle.unique_table.proofs.Filling.{live_grows, keeps, here, here_filled, filled_table}
 use Rattle.unique_table.proofs.Passing.{passes, passes_over}
-use Rattle.unique_table.proofs.Moves.{looks, trades}
+use Rattle.unique_table.proofs.Moves.{looks}
+use Rattle.unique_table.proofs.Parts.{node_looks, node_trades}
 use Rattle.unique_table.proofs.Pairs.{cases_known, agrees_of}
 use Rattle.unique_table.proofs.Learning.{meets}
 use Rattle.unique_table.proofs.Sound.{sound}
@@ -30,6 +33,12 @@ module _ (about : About) (me : Sat) (live : me.0.live ≡ true) where
 
   abbrev v : View
   v = me.0
+
+  abbrev nodes : ℕ
+  nodes = 2 ^ about.bits
+
+  abbrev words : ℕ
+  words = 2 ^ cache_bits about.bits
 
   -- a view that fits the table, and what a step that leaves it tells
   abbrev Left : List ℕ → (View → Type 0) → Type 0
@@ -43,7 +52,8 @@ module _ (about : About) (me : Sat) (live : me.0.live ≡ true) where
 
   -- the view that nothing was added to
   unchanged : (ws : List ℕ) → IsTable t ws → Fits t ws v → Keeps me me
-  unchanged ws table fits = record { bare = refl; sound = sound v ws (own_table ws fits table) (own_fits ws fits) live; terms = refl }
+  unchanged ws table fits = record
+      { bare = refl; sound = sound v ws (own_table ws fits table) (own_fits ws fits) live; terms = refl; steps = refl }
 
   -- a filled slot is met
   module _ (ws : List ℕ) (of : v.terms ≡ t) (table : IsTable v.terms ws) (fits : LiveFits v.terms ws v) (at : ℕ) (filled : IsFilled ws at)
@@ -51,7 +61,7 @@ module _ (about : About) (me : Sat) (live : me.0.live ≡ true) where
       met : (more : List Entry) → FitsHistory (2 ^ v.terms.bits) ws (v.history ++ more) → Left ws (Meets v more at (slice_index ws at))
       met more history =
           let l = meets v ws table fits live at filled more history in
-          let keeps : Keeps me (l.0, me.1) = record { bare = refl; sound = (l.2).sound; terms = ((l.2).goes).terms } in
+          let keeps : Keeps me (l.0, me.1) = record { bare = refl; sound = (l.2).sound; terms = ((l.2).goes).terms; steps = l.3 } in
           (l.0, (λ _. subst (λ (k : Terms). LiveFits k ws l.0) of l.1), keeps, l.2)
 
       stands : (w : ℕ) → slice_index ws at ≡ w → Left ws (Stands v at w)
@@ -67,11 +77,17 @@ module _ (about : About) (me : Sat) (live : me.0.live ≡ true) where
           let over = passes_over v ws table fits w at filled differs last end in
           (l.0, l.1, l.2, record { some = filled; differs = differs; meets = l.3; over = over })
 
+  -- a place of the view's table is one of the table
+  inside : (at : ℕ) → at < 2 ^ v.terms.bits → (ws : List ℕ) → Fits t ws v → at < 2 ^ about.bits
+  inside at less ws fits = subst (λ (k : Terms). at < 2 ^ k.bits) (fits live).of less
+
   -- a load keeps the rule
-  pub probes : (slots id at asked : ℕ) (last : Bool) → EndsPath v asked at last
+  pub probes : (slots id at asked : ℕ) (last : Bool) → at < 2 ^ v.terms.bits → EndsPath v asked at last
       → Allows (Rule about) slots id me at (λ n. n) (Probed asked last at me)
-  probes slots id at asked last end = looks (IsTable t) (Fits t) slots id me at (Probed asked last at me)
-      (λ ws table fits _. dite (ℕ_discrete (slice_index ws at) 0)
+  probes slots id at asked last less end = node_looks nodes words (IsTable t) (Fits t) (IsVacantOrTrue t) slots id me at
+      (Probed asked last at me)
+      (inside at less)
+      (λ ws table fits. dite (ℕ_discrete (slice_index ws at) 0)
       (λ vacant. let l = own_fits ws fits in (
         v,
         fits,
@@ -93,28 +109,38 @@ module _ (about : About) (me : Sat) (live : me.0.live ≡ true) where
       (λ ne. let l = other ws slot (own_table ws fits table) (own_fits ws fits) at filled asked last ne end in
       (l.0, l.1, (l.2, inr (inl l.3))))))
 
+  -- a cache word stays true
+  stays_true : (ws later : List ℕ) → KeepsWords ws later → (p y : ℕ) → IsVacantOrTrue t ws p y → IsVacantOrTrue t later p y
+  stays_true ws later still p y (inl vacant) = inl vacant
+  stays_true ws later still p y (inr is) = inr (true_word_stays (cache_bits t.bits) t.vars p y ws later still is)
+
   -- an exchange for a vacant word keeps the rule
   pub exchanges : (slots id at w d : ℕ) (last : Bool) → at < 2 ^ v.terms.bits → IsAsked v w → IsNext v w d at → EndsPath v w at last
       → Allows (Rule about) slots id me at (λ n. either (eqb n 0) w n) (Exchanged last at w me)
-  exchanges slots id at w d last inside asked next end = trades (IsTable t) (Fits t) slots id me at 0 w (Exchanged last at w me)
+  exchanges slots id at w d last less asked next end = node_trades nodes words (IsTable t) (Fits t) (IsVacantOrTrue t) slots id me at 0 w
+      (Exchanged last at w me)
+      (inside at less)
       (λ ws table fits vacant.
       let own = own_fits ws fits in
       let mine = own_table ws fits table in
-      let still = keeps v ws mine own w asked d at next inside vacant in
-      let whole = filled_table v ws mine own w asked d at next inside vacant in
+      let still = keeps v ws mine own w asked d at next less vacant in
+      let whole = filled_table v ws mine own w asked d at next less vacant in
       let l = stands (set ws at w) (fits live).of whole (live_grows v.terms ws (set ws at w) v still own) at
-      (here_filled v ws mine own w asked d at next inside vacant) w (here v ws mine own w asked d at next inside vacant) in (
-        l.0,
-        subst (λ (k : Terms). IsTable k (set ws at w)) (fits live).of whole,
-        (λ u fits' live'. live_grows t ws (set ws at w) u still (fits' live')),
-        l.1,
-        (l.2, inl (inl vacant, l.3)),
+      (here_filled v ws mine own w asked d at next less vacant) w (here v ws mine own w asked d at next less vacant) in (
+        (
+          l.0,
+          subst (λ (k : Terms). IsTable k (set ws at w)) (fits live).of whole,
+          (λ u fits' live'. live_grows t ws (set ws at w) u still (fits' live')),
+          l.1,
+          (l.2, inl (inl vacant, l.3)),
+        ),
+        stays_true ws (set ws at w) still,
       ))
-      (λ ws table fits filled _. let slot = (fits live).of in dite (ℕ_discrete (slice_index ws at) w)
+      (λ ws table fits filled. let slot = (fits live).of in dite (ℕ_discrete (slice_index ws at) w)
       (λ is. let l = stands ws slot (own_table ws fits table) (own_fits ws fits) at filled w is in (l.0, l.1, (l.2, inl (inr is, l.3))))
       (λ ne. let l = other ws slot (own_table ws fits table) (own_fits ws fits) at filled w last ne end in (l.0, l.1, (l.2, inr l.3))))
 
   -- a load that changes nothing keeps the rule
   pub checks : (slots id at : ℕ) → Allows (Rule about) slots id me at (λ n. n) (λ _ after. Checked me after)
-  checks slots id at = looks (IsTable t) (Fits t) slots id me at (λ _ after. Checked me after)
-      (λ ws table fits _. (v, fits, (unchanged ws table fits, refl)))
+  checks slots id at = looks (IsWhole about) (FitsWhole about) slots id me at (λ _ after. Checked me after)
+      (λ ws whole fits _. (v, fits, (unchanged (take nodes ws) whole.nodes fits, refl)))

@@ -1,20 +1,23 @@
 -- Splitting and joining of views, and the first view.
-use Rattle.std.proofs.Common.{◌≡◌, ℕ, ◌^◌, ◌<◌, ◌≤◌, true, Some, List, [], ◌∷◌, length, replicate, sym, refl, ap, ◌∙◌, subst, inl, inr}
+use Rattle.std.proofs.Common.{◌≡◌, ℕ, zero, suc, ◌+◌, ◌^◌, ◌≤◌, true, Some, List, [], ◌∷◌, replicate, take, get_or, sym, refl}
+use Rattle.std.proofs.Common.{ap, ◌∙◌, subst, inl, inr}
 use Rattle.std.proofs.Common.{arith}
-use Rattle.std.proofs.lemmas.List.{length-replicate, get_or-replicate}
+use Rattle.std.proofs.lemmas.List.{length-replicate}
 use Rattle.std.proofs.lemmas.List.Elements.{All-nil, All-cons, All-append}
 use Rattle.atomic_table.specs.Table.{opening, Splits, Joins}
 use Rattle.lattice.specs.Family.{Family, Has, Covers}
 use Rattle.lattice.specs.Cofactors.{sub}
-use Rattle.lattice.specs.Tables.{IsFilled, nothing, unit, IsStored}
-use Rattle.lattice.proofs.Diagrams.{Has-nil, IsFamily-unit, sub-zero, sub-nil, sub-narrow, filled_within, fits_append, refusals_of-append}
+use Rattle.lattice.specs.NodeWords.{cache_bits}
+use Rattle.lattice.specs.Tables.{nothing, unit, IsStored}
+use Rattle.lattice.proofs.Diagrams.{Has-nil, IsFamily-unit, sub-zero, sub-nil, sub-narrow, fits_append, refusals_of-append}
 use Rattle.lattice.proofs.Diagrams.{refusals_of-grows}
 use Rattle.lattice.specs.declared.limits.TheConstants.{MAX_VARS, MAX_BITS}
 use Rattle.unique_table.specs.declared.view.View.{View}
 use Rattle.unique_table.specs.declared.view.About.{About}
 use Rattle.unique_table.specs.declared.view.Terms.{Terms}
-use Rattle.unique_table.specs.Views.{terms_of, known_by, view_state}
-use Rattle.unique_table.specs.Rule.{Rule, IsTable, IsPair, LiveFits, Fits, first_view, second_view, merged, joined_view, no_view}
+use Rattle.unique_table.specs.Views.{terms_of, known_by, steps_of, view_state}
+use Rattle.unique_table.specs.Rule.{Rule, IsTable, IsWhole, IsPair, LiveFits, Fits, FitsWhole, first_view, second_view, merged, joined_view}
+use Rattle.unique_table.specs.Rule.{no_view}
 use Rattle.unique_table.specs.Rule.{IsSoundView}
 use Rattle.std.proofs.lemmas.List.Elements.{Contains-append_left, Contains-append_right}
 use Rattle.unique_table.specs.Passes.{IsJoined, twin_of}
@@ -51,15 +54,16 @@ joined_fits t ws v w live' fits fits' live =
     }
 
 pub divides : (about : About) (id : ℕ) (v : View) → Splits (Rule about) id v v (second_view v)
-divides about id v = splits (IsTable (terms_of about)) (Fits (terms_of about)) id v v (second_view v)
-    (λ ws _ fits. (fits, second_fits (terms_of about) ws v fits))
+divides about id v = splits (IsWhole about) (FitsWhole about) id v v (second_view v)
+    (λ ws _ fits. (fits, second_fits (terms_of about) (take (2 ^ about.bits) ws) v fits))
 
 pub unites : (about : About) (id : ℕ) (v : View) (other : ℕ) (w : View) → w.live ≡ true
     → Joins (Rule about) id v other w (joined_view v w) no_view
-unites about id v other w live = joins (IsTable (terms_of about)) (Fits (terms_of about)) id v other w (joined_view v w) no_view
-    (λ ws _ fits fits'. (joined_fits (terms_of about) ws v w live fits fits', λ e. cc))
+unites about id v other w live = joins (IsWhole about) (FitsWhole about) id v other w (joined_view v w) no_view
+    (λ ws _ fits fits'. (joined_fits (terms_of about) (take (2 ^ about.bits) ws) v w live fits fits', λ e. cc))
 
-unit_none : (n : ℕ) (g : Family) → Has (sub n (0 ∷ [])) g → ⊥
+-- the family of 0 alone has no subfamilies that are stored
+pub unit_none : (n : ℕ) (g : Family) → Has (sub n (0 ∷ [])) g → ⊥
 unit_none n g h = Has-nil g (subst (λ fs. Has fs g) (sub-narrow 0 n (0 ∷ []) (IsFamily-unit 0) (omega arith) ∙ sub-zero (0 ∷ [])) h)
 
 first_subs : (n h : ℕ) (f : Family) → known_by ((0, []) ∷ (1, 0 ∷ []) ∷ []) h ≡ Some f → Covers [] (sub n f)
@@ -101,10 +105,34 @@ first_fits about n = record {
   history = tt;
 }
 
-pub starts : (about : About) (n : ℕ) → n ≡ 2 ^ about.bits → 1 ≤ about.vars → about.vars ≤ MAX_VARS → about.bits ≤ MAX_BITS
-    → Rule about (opening (replicate n 0) [] (first_view about))
-starts about n is low high small = opens (IsTable (terms_of about)) (Fits (terms_of about)) (replicate n 0) (first_view about)
-    (first_table (terms_of about) n is low high small) (λ _. first_fits about n)
+-- n vacant words
+abbrev row : ℕ → List ℕ
+row n = replicate n 0
+
+take_row : (n m : ℕ) → take n (row (n + m)) ≡ row n
+take_row zero m = refl
+take_row (suc n) m = let e : suc n + m ≡ suc (n + m) = omega arith in ap (λ k. take (suc n) (row k)) e ∙ (λ k. 0 ∷ take_row n m k)
+
+vacant_at : (n i : ℕ) → ◌≡◌ {A = ℕ} (get_or (row n) i 0) 0
+vacant_at zero i = refl
+vacant_at (suc n) zero = refl
+vacant_at (suc n) (suc i) = vacant_at n i
+
+-- a table of vacant words, with its first seat
+pub starts : (about : About) (n m : ℕ) → n ≡ 2 ^ about.bits → m ≡ 2 ^ cache_bits about.bits → 1 ≤ about.vars → about.vars ≤ MAX_VARS
+    → about.bits ≤ MAX_BITS → Rule about (opening (row (n + m)) [] (first_view about))
+starts about n m is are low high small =
+    let t : Terms = terms_of about in
+    let nodes : IsTable t (take n (row (n + m))) = subst (IsTable t) (sym (take_row n m)) (first_table t n is low high small) in
+    let fits : LiveFits t (take n (row (n + m))) (first_view about) =
+    subst (λ ws. LiveFits t ws (first_view about)) (sym (take_row n m)) (first_fits about n) in
+    opens (IsWhole about) (FitsWhole about) (row (n + m)) (first_view about)
+    (record {
+      size = length-replicate (n + m) 0 ∙ (λ k. is k + are k);
+      nodes = subst (λ (k : ℕ). IsTable t (take k (row (n + m)))) is nodes;
+      cache = λ p less. inl (vacant_at (n + m) (2 ^ about.bits + p));
+    })
+    (λ _. subst (λ (k : ℕ). LiveFits t (take k (row (n + m))) (first_view about)) is fits)
 
 -- the first view is a store
 pub first_sound : (about : About) → 1 ≤ about.vars → about.vars ≤ MAX_VARS → about.bits ≤ MAX_BITS → IsSoundView (first_view about)
@@ -190,3 +218,13 @@ joined_is z y z' v w u e e' sound =
     subst (λ (x : TableId). IsJoined (view_state (name_of z) v) (view_state (name_of y) w) (view_state (name_of x) u)) (sym e)
     (subst (λ (x : View). IsJoined (view_state (name_of z) v) (view_state (name_of y) w) (view_state (name_of z) x)) (sym e')
     (joined_state (name_of z) (name_of y) v w (subst IsSoundView e' sound)))
+
+-- one view has its own steps on cache words, a second view those of the first, and a join keeps those of the view that goes on
+pub same_steps : (v u : View) → u ≡ v → steps_of u ≡ steps_of v
+same_steps v u e = ap steps_of e
+
+pub twin_steps : (v u : View) → u ≡ second_view v → steps_of u ≡ steps_of v
+twin_steps v u e = ap steps_of e
+
+pub joined_steps : (v w u : View) → u ≡ joined_view v w → steps_of u ≡ steps_of v
+joined_steps v w u e = ap steps_of e

@@ -1,6 +1,8 @@
 pub mod ByViews
+pub mod TwoParts
 pub mod Views
 pub mod Rule
+pub mod Kept
 pub mod Told
 pub mod Passes
 pub mod PassOf

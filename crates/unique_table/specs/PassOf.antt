@@ -1,11 +1,19 @@
 -- A pass as a store.
-use Rattle.std.specs.Prelude.{◌≡◌}
+use Rattle.std.specs.Prelude.{◌≡◌, ℕ}
 use Rattle.node_store.specs.Stores.{State, IsSound}
-use Rattle.unique_table.specs.Views.{name_of, view_state}
+use Rattle.unique_table.specs.Views.{LastSteps, name_of, steps_of, view_state}
 use Rattle.unique_table.specs.declared.pass.Pass.{Pass}
 
 unfoldable pub pass_state : Pass → State
 pass_state p = view_state (name_of p.seat.table_id) p.seat.me.0
+
+-- the cache words that the pass loaded last and stored last
+unfoldable pub pass_steps : Pass → LastSteps
+pass_steps p = steps_of p.seat.me.0
+
+-- the table of the pass has 2 to so many slots
+unfoldable pub bits_of : Pass → ℕ
+bits_of p = p.bits
 
 pub pass_sound : (p : Pass) → IsSound (pass_state p)
 unfolding pass_state
@@ -16,3 +24,4 @@ pub record AreOfOne (p q : Pass) : Type 0 where
   pub id : q.seat.table_id ≡ p.seat.table_id
   pub bits : q.bits ≡ p.bits
   pub vars : q.vars ≡ p.vars
+  pub steps : steps_of q.seat.me.0 ≡ steps_of p.seat.me.0

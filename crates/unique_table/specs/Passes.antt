@@ -1,5 +1,5 @@
 -- What contracts see of tokens and passes, and what splitting and joining do to them.
-use Rattle.std.specs.Prelude.{◌≡◌, ℕ, suc, ◌+◌, ◌-◌, ◌^◌, ◌<◌, ◌⊎◌, length, min, Some, List, [], ◌∷◌, ◌++◌}
+use Rattle.std.specs.Prelude.{◌≡◌, ℕ, suc, ◌+◌, ◌-◌, ◌^◌, ◌<◌, ◌⊎◌, length, min, Some, None, List, [], ◌∷◌, ◌++◌}
 use Rattle.lattice.specs.Family.{Family, Has, Covers}
 use Rattle.node_store.specs.Stores.{State, Grows, node_family}
 use Rattle.lattice.specs.NodeWords.{node_word, place}
@@ -8,13 +8,21 @@ use Rattle.lattice.specs.declared.entry.Entry.TheVariants.{Met, Ask, Full}
 use Rattle.node_store.specs.declared.store.Node.{Node}
 use Rattle.node_store.specs.declared.store.Handle.{Handle}
 use Rattle.unique_table.specs.Told.{MetOther, IsCrowded, PassesBy}
-use Rattle.unique_table.specs.Views.{name_of, known_by, view_state}
+use Rattle.unique_table.specs.Views.{LastSteps, name_of, known_by, steps_of, view_state}
 use Rattle.unique_table.specs.declared.pass.Shared.{Shared}
 use Rattle.unique_table.specs.declared.pass.Token.{Token}
 
 -- a token as the store that a pass with it is
 unfoldable pub token_state : Token → State
 token_state t = view_state (name_of t.seat.table_id) t.seat.me.0
+
+-- the cache words that were loaded last and stored last with the token
+unfoldable pub token_steps : Token → LastSteps
+token_steps t = steps_of t.seat.me.0
+
+-- no cache word was loaded or stored yet
+abbrev pub no_steps : LastSteps
+no_steps = record { last = None; put = None }
 
 -- the name of a table
 unfoldable pub table_name : Shared → List ℕ

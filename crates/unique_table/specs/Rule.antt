@@ -1,5 +1,5 @@
 -- The rule of the shared table: what holds between any two steps, and the views that making, splitting and joining give.
-use Rattle.std.specs.Prelude.{◌≡◌, ℕ, suc, ◌+◌, ◌^◌, ◌<◌, ◌≤◌, true, false, cond, Some, List, [], ◌∷◌, ◌++◌}
+use Rattle.std.specs.Prelude.{◌≡◌, ℕ, suc, ◌+◌, ◌^◌, ◌<◌, ◌≤◌, ◌⊎◌, true, false, cond, Some, None, List, [], ◌∷◌, ◌++◌}
 use Rattle.std.specs.List.{All, Contains}
 use Rattle.atomic_table.specs.Table.{State}
 use Rattle.lattice.specs.Family.{Family, Has, Covers, includes, is_distinct}
@@ -11,7 +11,10 @@ use Rattle.node_store.specs.Stores.{IsSound}
 use Rattle.unique_table.specs.declared.view.View.{View}
 use Rattle.unique_table.specs.declared.view.About.{About}
 use Rattle.unique_table.specs.declared.view.Terms.{Terms}
+use Rattle.lattice.specs.NodeWords.{cache_bits}
+use Rattle.lattice.specs.CacheWords.{IsTrueWord}
 use Rattle.unique_table.specs.ByViews.{ByViews}
+use Rattle.unique_table.specs.TwoParts.{IsBoth, FitsNodes}
 use Rattle.unique_table.specs.Views.{terms_of, known_by, view_state}
 
 -- ---- the rule
@@ -23,6 +26,10 @@ pub record IsTable (t : Terms) (ws : List ℕ) : Type 0 where
   pub vars_low : 1 ≤ t.vars
   pub vars_high : t.vars ≤ MAX_VARS
   pub bits_high : t.bits ≤ MAX_BITS
+
+-- a cache word is vacant, or true at its place
+abbrev pub IsVacantOrTrue : Terms → List ℕ → ℕ → ℕ → Type 0
+IsVacantOrTrue t ws place w = (w ≡ 0) ⊎ IsTrueWord (cache_bits t.bits) t.vars ws place w
 
 -- what is known of a handle is what it denotes
 abbrev pub IsPair : ℕ → List ℕ → ℕ × Family → Type 0
@@ -43,14 +50,30 @@ pub record LiveFits (t : Terms) (ws : List ℕ) (v : View) : Type 0 where
 abbrev pub Fits : Terms → List ℕ → View → Type 0
 Fits t ws v = v.live ≡ true → LiveFits t ws v
 
+-- the node words with the cache words behind them
+abbrev pub IsWhole : About → List ℕ → Type 0
+IsWhole about = IsBoth (2 ^ about.bits) (2 ^ cache_bits about.bits) (IsTable (terms_of about)) (IsVacantOrTrue (terms_of about))
+
+-- a view by itself
+abbrev pub FitsWhole : About → List ℕ → View → Type 0
+FitsWhole about = FitsNodes (2 ^ about.bits) (Fits (terms_of about))
+
 -- the table, and each view by itself
 abbrev pub Rule : About → State (Unit {0}) View → Type 0
-Rule about = ByViews (IsTable (terms_of about)) (Fits (terms_of about))
+Rule about = ByViews (IsWhole about) (FitsWhole about)
 
 -- ---- views
 
 abbrev pub first_view : About → View
-first_view about = record { live = true; terms = terms_of about; known = (0, []) ∷ (1, 0 ∷ []) ∷ []; held = []; history = [] }
+first_view about = record {
+  live = true;
+  terms = terms_of about;
+  known = (0, []) ∷ (1, 0 ∷ []) ∷ [];
+  held = [];
+  history = [];
+  last = None;
+  put = None;
+}
 
 -- a second seat knows what the first one knows, and has no history yet
 abbrev pub second_view : View → View
@@ -68,7 +91,15 @@ abbrev pub joined_view : View → View → View
 joined_view v w = record v { known = v.known ++ w.known; held = merged v.held w.held; history = v.history ++ w.history }
 
 abbrev pub no_view : View
-no_view = record { live = false; terms = record { bits = 0; vars = 0; plan = [] }; known = []; held = []; history = [] }
+no_view = record {
+  live = false;
+  terms = record { bits = 0; vars = 0; plan = [] };
+  known = [];
+  held = [];
+  history = [];
+  last = None;
+  put = None;
+}
 
 -- the seat is a store, each handle that it knows is one of a table of this size, and each pair is what it knows
 pub record IsSoundView (v : View) : Type 0 where

@@ -1,5 +1,5 @@
 -- What the steps of a pass tell of its view, and what its calls leave.
-use Rattle.std.specs.Prelude.{◌≡◌, ◌≢◌, ℕ, suc, ◌-◌, ◌^◌, ◌<◌, ◌≤◌, ◌⊎◌, Bool, true, cond, Some, None, List, [], ◌∷◌, ◌++◌, length}
+use Rattle.std.specs.Prelude.{◌≡◌, ◌≢◌, ℕ, suc, ◌+◌, ◌-◌, ◌^◌, ◌<◌, ◌≤◌, ◌⊎◌, Bool, true, cond, Some, None, List, [], ◌∷◌, ◌++◌, length}
 use Rattle.std.specs.List.{Contains}
 use Rattle.atomic_table.specs.Table.{Me}
 use Rattle.lattice.specs.Family.{Family, IsFamily, Has, Covers, is_distinct}
@@ -8,7 +8,8 @@ use Rattle.lattice.specs.NodeWords.{var_of, lo_of, hi_of, place}
 use Rattle.lattice.specs.declared.entry.Entry.{Entry}
 use Rattle.lattice.specs.declared.entry.Entry.TheVariants.{Met, Ask, Full}
 use Rattle.unique_table.specs.declared.view.View.{View}
-use Rattle.unique_table.specs.Views.{known_by}
+use Rattle.unique_table.specs.Views.{known_by, view_state, steps_of}
+use Rattle.unique_table.specs.Kept.{IsKept}
 use Rattle.unique_table.specs.Rule.{IsSoundView}
 
 -- ---- a view goes on
@@ -96,11 +97,12 @@ HasNoRoom v w = (low high : Family) → AreChildren v w low high → IsCrowded (
 abbrev pub Sat : Type 0
 Sat = Me (Unit {0}) View
 
--- what each step keeps
+-- what each step on a node word keeps
 pub record Keeps (m m' : Sat) : Type 0 where
   pub bare : m'.1 ≡ m.1
   pub sound : IsSoundView m'.0
   pub terms : m'.0.terms ≡ m.0.terms
+  pub steps : steps_of m'.0 ≡ steps_of m.0
 
 -- the slot has the word asked for
 pub record Stands (v : View) (s w : ℕ) (u : View) : Type 0 where
@@ -137,6 +139,26 @@ Exchanged last s w m found m' =
 -- a load that changes nothing
 abbrev pub Checked : Sat → Sat → Type 0
 Checked m m' = Keeps m m' × (m'.0 ≡ m.0)
+
+-- a load of a word of the table that is the cache word of a place: it is vacant, or tells a kept result
+pub record Looked (at : ℕ) (m : Sat) (found : ℕ) (m' : Sat) : Type 0 where
+  pub bare : m'.1 ≡ m.1
+  pub sound : IsSoundView m'.0
+  pub terms : m'.0.terms ≡ m.0.terms
+  pub goes : Goes m.0 [] m'.0
+  pub last : (place : ℕ) → at ≡ 2 ^ m.0.terms.bits + place → m'.0.last ≡ Some (place, found)
+  pub put : m'.0.put ≡ m.0.put
+  pub word : (name : List ℕ) (place : ℕ) → at ≡ 2 ^ m.0.terms.bits + place
+      → (found ≡ 0) ⊎ IsKept (view_state name m.0) (view_state name m'.0) m.0.terms.bits place found
+
+-- a store of it
+pub record Stored (at : ℕ) (m : Sat) (w : ℕ) (m' : Sat) : Type 0 where
+  pub bare : m'.1 ≡ m.1
+  pub sound : IsSoundView m'.0
+  pub terms : m'.0.terms ≡ m.0.terms
+  pub same : (name : List ℕ) → view_state name m'.0 ≡ view_state name m.0
+  pub last : m'.0.last ≡ m.0.last
+  pub put : (place : ℕ) → at ≡ 2 ^ m.0.terms.bits + place → m'.0.put ≡ Some (place, w)
 
 -- ---- what a call leaves
 

@@ -21,6 +21,23 @@ known_by pairs h = lookup (λ k. k == h) pairs
 abbrev pub name_of : TableId → List ℕ
 name_of z = z.words ∷ z.slots ∷ z.views_name ∷ z.atom ∷ z.block ∷ z.offset ∷ z.slot_names
 
+-- the place and the word of the cache word that was loaded last, and of the one that was stored last
+pub record LastSteps : Type 0 where
+  pub last : Option (ℕ × ℕ)
+  pub put : Option (ℕ × ℕ)
+
+-- those of a view
+abbrev pub steps_of : View → LastSteps
+steps_of v = record { last = v.last; put = v.put }
+
+-- a cache word was loaded
+abbrev pub after_load : LastSteps → ℕ → ℕ → LastSteps
+after_load s place w = record { last = Some (place, w); put = s.put }
+
+-- a cache word was stored
+abbrev pub after_store : LastSteps → ℕ → ℕ → LastSteps
+after_store s place w = record { last = s.last; put = Some (place, w) }
+
 -- a seat's view, as a store on the table of this name
 unfoldable pub view_state : List ℕ → View → State
 view_state name v = record {

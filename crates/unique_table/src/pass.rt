@@ -1,7 +1,7 @@
 //! The table, and the passes over it.
 ghost use Rattle.std.specs.Prelude.{◌≡◌, ◌≢◌, ◌==◌, ℕ, suc, List, ◌+◌, ◌<◌, ◌≤◌, ◌^◌, ◌⊎◌, MatchBool, IfSome, IfNone, IfOk, Some, None, true, [], ◌∷◌, ◌++◌};
 ghost use Rattle.lattice.specs.Family.{Family};
-ghost use Rattle.lattice.specs.NodeWords.{place};
+ghost use Rattle.lattice.specs.NodeWords.{place, cache_bits};
 ghost use Rattle.lattice.specs.declared.limits.TheConstants.{MAX_VARS, MIN_BITS, MAX_BITS};
 ghost use Rattle.lattice.specs.declared.entry.Entry.TheVariants.{Met};
 ghost use Rattle.unique_table.specs.Views.{known_by};
@@ -9,10 +9,10 @@ ghost use Rattle.unique_table.specs.Rule.{first_view, second_view, joined_view, 
 ghost use Rattle.unique_table.specs.Told.{IsAsked, IsNext, EndsPath, Probed, Exchanged, Stands, Passes, Interned, AllOthers, Meets};
 ghost use Rattle.unique_table.specs.PassLaws.{IsSoundView-prop};
 
-use crate::plays::{Asked, Check, Insert, Nodes, Probe, Twin, Union};
+use crate::plays::{Asked, CacheLoad, CacheStore, Check, Insert, Nodes, Probe, Twin, Union};
 use crate::view::{About, View};
 use atomic_table::{Seat, Table};
-use lattice::{Memory, Op, Plan};
+use lattice::{MIN_CACHE_BITS, Memory, Op, Plan};
 use node_store::{Full, Handle, Node, Store, pack, unpack};
 use probe_core::probe_place;
 use std::alloc::Global;
@@ -32,7 +32,7 @@ pub struct Token {
     vars: u32,
     ghost bare: { seat.me.1 ≡ [] },
     ghost bits_range: { (MIN_BITS ≤ bits) × (bits ≤ MAX_BITS) },
-    ghost sizes: { (seat.me.0.terms.bits ≡ bits) × (seat.me.0.terms.vars ≡ vars) × (seat.table_id.words ≡ 2 ^ bits) },
+    ghost sizes: { (seat.me.0.terms.bits ≡ bits) × (seat.me.0.terms.vars ≡ vars) × (seat.table_id.words ≡ 2 ^ bits + 2 ^ cache_bits bits) },
     ghost sound: { IsSoundView seat.me.0 } by { IsSoundView-prop seat.me.0 },
 }
 
@@ -46,22 +46,24 @@ pub struct Pass<'t> {
     ghost of: { seat.table_id ≡ table.now.table.shared.table_id },
     ghost bare: { seat.me.1 ≡ [] },
     ghost bits_range: { (MIN_BITS ≤ bits) × (bits ≤ MAX_BITS) },
-    ghost sizes: { (seat.me.0.terms.bits ≡ bits) × (seat.me.0.terms.vars ≡ vars) × (seat.table_id.words ≡ 2 ^ bits) },
+    ghost sizes: { (seat.me.0.terms.bits ≡ bits) × (seat.me.0.terms.vars ≡ vars) × (seat.table_id.words ≡ 2 ^ bits + 2 ^ cache_bits bits) },
     ghost sound: { IsSoundView seat.me.0 } by { IsSoundView-prop seat.me.0 },
 }
 
 impl Shared {
-    ghost use Rattle.unique_table.specs.Passes.{token_state, token_table, first_state, IsOf};
-    ghost use Rattle.unique_table.specs.PassOf.{pass_state};
+    ghost use Rattle.unique_table.specs.Passes.{token_state, token_steps, token_table, first_state, no_steps, IsOf};
+    ghost use Rattle.unique_table.specs.PassOf.{pass_state, pass_steps};
 
-    /// A vacant table of 2^bits slots over so many variables, and the token of its first seat.
+    /// A vacant table of 2^bits slots and as many kept results, or 2^12 where these are more, over so many variables, and
+    /// the token of its first seat.
     pub fn make(alloc: Global, bits: u32, vars: u32, plan: Plan) -> Result<(Shared, Token), Memory>
         requires bits { (MIN_BITS ≤ bits) × (bits ≤ MAX_BITS) }
         requires vars { (1 ≤ vars) × (vars ≤ MAX_VARS) }
         ensures of { IfOk result (λ r. IsOf r.1 r.0) }
         ensures state { IfOk result (λ r. token_state r.1 ≡ first_state (token_table r.1) bits vars plan.families) }
+        ensures steps { IfOk result (λ r. token_steps r.1 ≡ no_steps) }
     {
-        let words = Vec::from_elem(alloc, 0u64, 1usize << bits)?;
+        let words = Vec::from_elem(alloc, 0u64, (1usize << bits) + cache_size(bits))?;
         let about = About { bits, vars, plan };
         let (table, seat) = Table::of_words(alloc, words.as_slice(), &about)?;
         Ok((Shared { table }, Token { seat, bits, vars }))
@@ -70,7 +72,8 @@ impl Shared {
     /// Joins a token to its table.
     pub fn pass<'t>(&'t self, token: Token) -> Pass<'t>
         requires { IsOf token self.now }
-        ensures { pass_state result ≡ token_state token }
+        ensures state { pass_state result ≡ token_state token }
+        ensures steps { pass_steps result ≡ token_steps token }
     {
         let Token { seat, bits, vars } = token;
         Pass {
@@ -82,13 +85,34 @@ impl Shared {
     }
 }
 
+// How many cache words a table of 2^bits slots has.
+fn cache_size(bits: u32) -> usize
+    requires { bits ≤ MAX_BITS }
+    ensures { result ≡ 2 ^ cache_bits bits }
+{
+    1usize << bits.max(MIN_CACHE_BITS)
+}
+
+// The word of the table that is the cache word of the place.
+fn cache_index(bits: u32, place: u32) -> usize
+    requires bits { bits ≤ MAX_BITS }
+    requires place { place < 2 ^ cache_bits bits }
+    ensures { result ≡ 2 ^ bits + place }
+{
+    (1usize << bits) + place as usize
+}
+
 impl<'t> Pass<'t> {
-    ghost use Rattle.unique_table.specs.Passes.{token_state, IsJoined, twin_of};
-    ghost use Rattle.unique_table.specs.PassOf.{pass_state, AreOfOne};
+    ghost use Rattle.node_store.specs.Stores.{Reads};
+    ghost use Rattle.unique_table.specs.Kept.{IsShown, IsKept};
+    ghost use Rattle.unique_table.specs.Views.{after_load, after_store};
+    ghost use Rattle.unique_table.specs.Passes.{token_state, token_steps, table_name, IsJoined, twin_of};
+    ghost use Rattle.unique_table.specs.PassOf.{pass_state, pass_steps, bits_of, AreOfOne};
 
     /// Gives the token back with all that it knows.
     pub fn end(self) -> Token
-        ensures { token_state result ≡ pass_state self.entry }
+        ensures state { token_state result ≡ pass_state self.entry }
+        ensures steps { token_steps result ≡ pass_steps self.entry }
     {
         let Pass {
             table: _,
@@ -97,6 +121,13 @@ impl<'t> Pass<'t> {
             vars,
         } = self;
         Token { seat, bits, vars }
+    }
+
+    /// The table of the pass.
+    pub fn table(&self) -> &'t Shared
+        ensures { (pass_state self.entry.now).table ≡ Some (table_name result.now) }
+    {
+        self.table
     }
 
     // Looks at the word of a place.
@@ -184,10 +215,51 @@ impl<'t> Pass<'t> {
         self.probe::<Brand>(slot)
     }
 
+    /// The table has 2^bits slots.
+    pub fn bits(&self) -> u32
+        ensures range { (MIN_BITS ≤ result) × (result ≤ MAX_BITS) }
+        ensures is { result ≡ bits_of self.entry.now }
+        ensures slots { (pass_state self.entry.now).capacity ≡ 2 ^ result }
+    {
+        self.bits
+    }
+
+    /// Loads the cache word of the place. It is vacant, or that of a key at this place: where the pass knows the handles of
+    /// the key, it knows the result afterwards.
+    pub fn cache_load(&mut self, place: u32) -> u64
+        requires { place < 2 ^ cache_bits (bits_of self.old) }
+        ensures reads { Reads (pass_state self.old) (pass_state self.new) }
+        ensures word { (result ≡ 0) ⊎ IsKept (pass_state self.old) (pass_state self.new) (bits_of self.old) place result }
+        ensures steps { pass_steps self.new ≡ after_load (pass_steps self.old) place result }
+        ensures bits { bits_of self.new ≡ bits_of self.old }
+    {
+        let at = cache_index(self.bits, place);
+        self.table
+            .table
+            .shared
+            .load::<CacheLoad>(&mut self.seat, at)
+    }
+
+    /// Stores the word of a result at its key's place.
+    pub fn cache_store(&mut self, place: u32, word: u64)
+        requires place { place < 2 ^ cache_bits (bits_of self.old) }
+        requires word { IsShown (pass_state self.old) (bits_of self.old) place word }
+        ensures same { pass_state self.new ≡ pass_state self.old }
+        ensures steps { pass_steps self.new ≡ after_store (pass_steps self.old) place word }
+        ensures bits { bits_of self.new ≡ bits_of self.old }
+    {
+        let at = cache_index(self.bits, place);
+        self.table
+            .table
+            .shared
+            .store::<CacheStore>(&mut self.seat, at, word);
+    }
+
     /// A second pass that knows what this one knows.
     pub fn split(&mut self) -> Pass<'t>
         ensures same { pass_state self.new ≡ pass_state self.old }
         ensures twin { pass_state result ≡ twin_of (pass_state self.old) }
+        ensures steps { (pass_steps self.new ≡ pass_steps self.old) × (pass_steps result ≡ pass_steps self.old) }
     {
         let seat = self.table.table.shared.split_seat::<Twin>(&mut self.seat);
         Pass {
@@ -201,7 +273,8 @@ impl<'t> Pass<'t> {
     /// Takes in all that the other pass of this table knows, and its history.
     pub fn join(&mut self, other: Pass<'t>)
         requires { (pass_state other).table ≡ (pass_state self.old).table }
-        ensures { IsJoined (pass_state self.old) (pass_state other.entry) (pass_state self.new) }
+        ensures joined { IsJoined (pass_state self.old) (pass_state other.entry) (pass_state self.new) }
+        ensures steps { pass_steps self.new ≡ pass_steps self.old }
     {
         let Pass {
             table: _,
@@ -221,7 +294,7 @@ impl<'t> Store for Pass<'t> {
     ghost use Rattle.lattice.specs.Family.{Has};
     ghost use Rattle.node_store.specs.Stores.{IsNode, node_family, family, Knows, AreOperands, IsResult, Builds, Reads};
     ghost use Rattle.unique_table.specs.Passes.{IsInterned, FindsFull, HasMet};
-    ghost use Rattle.unique_table.specs.PassOf.{pass_state, pass_sound};
+    ghost use Rattle.unique_table.specs.PassOf.{pass_state, pass_steps, pass_sound};
 
     ghost state = { pass_state };
 
@@ -239,6 +312,8 @@ impl<'t> Store for Pass<'t> {
         // A family that had a handle keeps it.
         ensures same { IfOk result (λ h. (k : ℕ) → (pass_state self.old).known k ≡ Some (node_family (pass_state self.old) n.now) → h.0 ≡ k) }
 
+        ensures steps { pass_steps self.new ≡ pass_steps self.old }
+
         // What it adds to the history.
         ensures history { MatchResult result (IsInterned (pass_state self.old) (pass_state self.new) n.now) (λ _. FindsFull (pass_state self.old) (pass_state self.new) n.now) }
     {
@@ -255,6 +330,8 @@ impl<'t> Store for Pass<'t> {
         ensures constant { IsNone result ↔ (h.0 < 2) }
         ensures node { IfSome result (IsNode (pass_state self.new)) }
         ensures family { IfSome result (λ n. node_family (pass_state self.new) n ≡ family (pass_state self.old) h) }
+
+        ensures steps { pass_steps self.new ≡ pass_steps self.old }
 
         // What it adds to the history: the node of the slot, and nothing for a constant.
         ensures met { IfSome result (HasMet (pass_state self.old) (pass_state self.new) h) }

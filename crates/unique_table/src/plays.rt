@@ -1,7 +1,7 @@
 //! The rule of the table, and what each step tells. These types are for the proofs alone.
 ghost use Rattle.std.specs.Prelude.{ℕ, Bool, false};
 ghost use Rattle.unique_table.specs.Rule.{Rule, first_view, second_view, joined_view, no_view};
-ghost use Rattle.unique_table.specs.Told.{Probed, Exchanged, Checked};
+ghost use Rattle.unique_table.specs.Told.{Probed, Exchanged, Checked, Looked, Stored};
 
 use crate::view::{About, View};
 use atomic_table::{Join, Play, Split, TableRule};
@@ -67,4 +67,16 @@ pub struct Check;
 
 impl Play<(), View> for Check {
     ghost then = { λ _ before _ after. Checked before after };
+}
+
+pub struct CacheLoad;
+
+impl Play<(), View> for CacheLoad {
+    ghost then = { λ step. Looked step.word };
+}
+
+pub struct CacheStore;
+
+impl Play<(), View> for CacheStore {
+    ghost then = { λ step. Stored step.word };
 }

@@ -1,14 +1,22 @@
--- The element with a given lead: its normal form, the lead, and their sum.
-use Rattle.std.proofs.Common.{◌≡◌, ℕ, ◌^◌, ◌<◌, Result, Ok, Err, IfOk, List, [], ◌∷◌, ◌++◌, refl, append_assoc}
-use Rattle.lattice.specs.Family.{Family, Covers, sum_of}
-use Rattle.lattice.specs.Basis.{IsLead, IsBasisElement, normal_form_of, basis_element_of}
-use Rattle.lattice.specs.WorkingLists.{working_set, normal_form_list, basis_element_list}
-use Rattle.lattice.proofs.Diagrams.{Has-head, Has-tail, Has-append_right, covers_family, covers_left}
+-- The element with a given lead: the lead, the points where it is 1, its normal form, and their sum.
+use Rattle.std.proofs.Common.{◌≡◌, ℕ, ◌^◌, ◌<◌, Result, Ok, Err, IfOk, List, [], ◌∷◌, ◌++◌, refl, ◌∙◌, arith}
+use Rattle.lattice.specs.Family.{Family, Covers, minus_of, sum_of}
+use Rattle.lattice.specs.Interpolation.{interpolate}
+use Rattle.lattice.specs.Polynomial.{ones_of}
+use Rattle.lattice.specs.Basis.{IsLead, IsBasisElement, ones_at, normal_form_of, basis_element_of}
+use Rattle.lattice.specs.WorkingLists.{working_set, ones_list, interpolation_list, normal_form_list, basis_element_list}
+use Rattle.lattice.specs.declared.op.Op.TheVariants.{Ones}
+use Rattle.lattice.proofs.Diagrams.{Has-head, Has-tail, Has-append_left, Has-append_right, covers_family, covers_left, covers_lists}
+use Rattle.lattice.proofs.Diagrams.{covers_more, covers_nothing, covers_part}
 use Rattle.lattice.proofs.Polynomials.{IsBasisElement-basis_element_of}
-use Rattle.node_store.specs.Stores.{State, Knows, family, IsSound, IsPlanned, Reads, Gives, Builds}
+use Rattle.node_store.specs.Stores.{State, Knows, family, IsSound, IsPlanned, Reads, Gives, Builds, needs_of}
 use Rattle.node_store.specs.declared.store.Handle.{Handle}
 use Rattle.node_store.specs.declared.store.Full.{Full}
-use Rattle.node_store.proofs.StoreLaws.{Found, builds_gives, found_gives, found_start, found_built, found_call, Denotes-family, known_after}
+use Rattle.node_store.proofs.StoreLaws.{Found, builds_gives, found_after, found_built, found_call, found_gives, found_result, found_start}
+use Rattle.node_store.proofs.StoreLaws.{gives_as, gives_fewer, known_after, Denotes-family, Grows-family}
+use Rattle.bool_poly.proofs.OnesLemmas.{covers_single, needs_ones, ones_of-single}
+use Rattle.vanish_basis.proofs.NormalForms.{normal_found, values_planned}
+use Rattle.vanish_basis.proofs.NormalForms as forms
 
 -- a call: s is the state before it
 pub record Call (s : State) (m : ℕ) (points : Handle) : Type 0 where
@@ -28,6 +36,15 @@ pub call_of : {s : State} {R : Type 0} (m : ℕ) (points : Handle) → IsSound s
 call_of m points sound asked =
     record { sound = sound; below = asked.below; known = asked.known; lead = asked.lead; planned = asked.planned }
 
+-- what the calls need, in their order, has what the element needs
+in_order : (lead ones element : Family) (list rest : List Family)
+    → Covers (((lead ∷ (list ++ ones ∷ [])) ++ rest) ++ element ∷ []) ((ones ∷ rest) ++ (lead ∷ element ∷ []))
+in_order lead ones element list rest = covers_lists _ (ones ∷ rest) (lead ∷ element ∷ [])
+    (covers_more _ _ ones (search (Has-head, Has-tail, Has-append_left, Has-append_right) depth 8)
+    (λ f i. search (Has-append_left, Has-append_right) depth 8))
+    (covers_more _ _ lead (search Has-head)
+    (covers_more _ _ element (search (Has-head, Has-append_right) depth 8) (covers_nothing _)))
+
 module _ {s : State} {m : ℕ} {points : Handle} (call : Call s m points) where
   abbrev n : ℕ
   n = s.vars
@@ -35,23 +52,23 @@ module _ {s : State} {m : ℕ} {points : Handle} (call : Call s m points) where
   abbrev P : Family
   P = family s points
 
+  abbrev ones : Family
+  ones = ones_at n m P
+
   abbrev normal : Family
   normal = normal_form_of n m P
-
-  abbrev normal_list : List Family
-  normal_list = normal_form_list n m P
 
   abbrev element : Family
   element = basis_element_of n m P
 
-  abbrev list : List Family
-  list = normal_list ++ ((m ∷ []) ∷ element ∷ [])
+  abbrev normal_list : List Family
+  normal_list = normal_form_list n m P
 
-  list_is : basis_element_list n m P ≡ list
+  list_is : basis_element_list n m P ≡ normal_list ++ ((m ∷ []) ∷ element ∷ [])
   unfolding basis_element_list
   list_is = refl
 
-  planned : Covers s.plan (working_set n list)
+  planned : Covers s.plan (working_set n (normal_list ++ ((m ∷ []) ∷ element ∷ [])))
   planned = rw (← list_is) call.planned
 
   -- what it denotes is the element with the lead
@@ -62,41 +79,84 @@ module _ {s : State} {m : ℕ} {points : Handle} (call : Call s m points) where
       (IsBasisElement-basis_element_of n m P (known_after s points call.sound call.known) call.below call.lead.not_standard)
   element_right (Err e) does = tt
 
-  pub normal_planned : Covers s.plan (working_set n normal_list)
-  normal_planned = covers_left n s.plan normal_list _ planned
+  normal_call : forms.Call s m points
+  normal_call = record { sound = call.sound; known = call.known; planned = covers_left n s.plan normal_list _ planned }
 
-  -- t is the state after the normal form
-  module _ {t : State} {x : Handle} (one : Gives s t (Ok x) normal (working_set n normal_list)) where
-    to_t : Found s t normal_list
-    to_t = found_call normal_list (found_start s) refl one
+  pub lead_planned : IsPlanned s (m ∷ [])
+  lead_planned = covers_family n s.plan _ (m ∷ []) planned (search (Has-head, Has-append_right))
 
-    pub normal_reads : Reads s t
-    normal_reads = to_t.reads
+  -- t is the state after the lead
+  module _ {t : State} {lead : Handle} (one : Builds s t (Ok lead) (m ∷ [])) where
+    to_t : Found s t ((m ∷ []) ∷ [])
+    to_t = found_built (m ∷ []) (found_start s) refl one
 
-    pub lead_planned : IsPlanned t (m ∷ [])
-    lead_planned = rw (one.grows.plan, one.grows.vars)
-        (covers_family n s.plan list (m ∷ []) planned (Has-append_right normal_list _ (m ∷ []) (Has-head (m ∷ []) (element ∷ []))))
+    pub lead_reads : Reads s t
+    lead_reads = to_t.reads
 
-    -- u is the state after the lead
-    module _ {u : State} {y : Handle} (two : Builds t u (Ok y) (m ∷ [])) where
-      to_u : Found s u (normal_list ++ (m ∷ []) ∷ [])
-      to_u = found_built (m ∷ []) to_t refl two
+    abbrev list : List Family
+    list = ones_list n (m ∷ []) P
 
-      element_is : sum_of u.vars (family u y) (family u x) ≡ element
-      unfolding basis_element_of
-      element_is = rw (
-        to_u.reads.grows.vars,
-        Denotes-family u y (m ∷ []) two.ok,
-        Denotes-family u x normal (two.grows.known x.0 normal one.ok),
-      ) refl
+    needs_are : needs_of t Ones lead points.0 ≡ working_set t.vars list
+    needs_are = needs_ones t.vars (family t lead) (family t points) points.0
+        ∙ rw (Denotes-family t lead (m ∷ []) one.ok, Grows-family s t points one.grows call.known, one.grows.vars) refl
 
-      pub element_planned : IsPlanned u (sum_of u.vars (family u y) (family u x))
-      element_planned = rw (to_u.reads.grows.plan, element_is, to_u.reads.grows.vars) (covers_family n s.plan list element planned
-          (Has-append_right normal_list _ element (Has-tail (m ∷ []) (element ∷ []) element (Has-head element []))))
+    ones_are : ones_of t.vars (family t lead) (family t points) ≡ ones
+    ones_are = rw (Denotes-family t lead (m ∷ []) one.ok, Grows-family s t points one.grows call.known, one.grows.vars)
+        (ones_of-single n m P)
 
-      -- v is the state at the end
-      pub element_gives : {v : State} (r : Result Handle Full) → Builds u v r (sum_of u.vars (family u y) (family u x))
-          → Gives s v r element (working_set n (basis_element_list n m P))
-      element_gives {v = v} r three = rw (list_is, ← append_assoc normal_list ((m ∷ []) ∷ []) (element ∷ []))
-          (found_gives s u v r element (normal_list ++ (m ∷ []) ∷ []) (element ∷ []) to_u
-          (builds_gives u v r element (rw (← element_is) three)))
+    pub ones_planned : Covers t.plan (needs_of t Ones lead points.0)
+    ones_planned = rw (needs_are, one.grows.plan, one.grows.vars)
+        (covers_single s.plan n n (omega arith) m call.below P (known_after s points call.sound call.known) lead_planned
+        (forms.ones_planned normal_call))
+
+    -- u is the state after the points where it is 1
+    module _ {u : State} {o : Handle} (sound : IsSound u)
+        (two : Gives t u (Ok o) (ones_of t.vars (family t lead) (family t points)) (needs_of t Ones lead points.0)) where
+      at_ones : Gives t u (Ok o) ones (working_set t.vars list)
+      at_ones = gives_as ones_are needs_are two
+
+      pub to_u : Found s u ((m ∷ []) ∷ (list ++ ones ∷ []))
+      to_u = found_after s t u ((m ∷ []) ∷ []) (list ++ ones ∷ []) to_t (found_result t u o ones list sound at_ones)
+
+      pub ones_reads : Reads s u
+      ones_reads = to_u.reads
+
+      pub tail_planned : Covers u.plan (working_set u.vars (minus_of u.vars (family u points) (family u o)
+          ∷ interpolation_list u.vars (minus_of u.vars (family u points) (family u o)) (family u o)))
+      tail_planned = values_planned normal_call to_u at_ones.ok
+
+      -- v is the state after the normal form
+      module _ {v : State} {x : Handle} (sound_v : IsSound v)
+          (three : Gives u v (Ok x) (interpolate u.vars (minus_of u.vars (family u points) (family u o)) (family u o))
+          (working_set u.vars (minus_of u.vars (family u points) (family u o)
+          ∷ interpolation_list u.vars (minus_of u.vars (family u points) (family u o)) (family u o)))) where
+        abbrev calls : List Family
+        calls = ((m ∷ []) ∷ (list ++ ones ∷ [])) ++ (forms.needed normal_call ++ normal ∷ [])
+
+        at_tail : Gives s v (Ok x) normal (working_set n calls)
+        at_tail = normal_found normal_call to_u at_ones.ok (Ok x) sound_v three
+
+        to_v : Found s v calls
+        to_v = found_call calls (found_start s) refl at_tail
+
+        element_is : sum_of v.vars (family v lead) (family v x) ≡ element
+        unfolding basis_element_of
+        element_is = rw (
+          to_v.reads.grows.vars,
+          Denotes-family v lead (m ∷ []) (three.grows.known lead.0 (m ∷ []) (two.grows.known lead.0 (m ∷ []) one.ok)),
+          Denotes-family v x normal at_tail.ok,
+        ) refl
+
+        pub element_planned : IsPlanned v (sum_of v.vars (family v lead) (family v x))
+        element_planned = rw (to_v.reads.grows.plan, element_is, to_v.reads.grows.vars)
+            (covers_family n s.plan _ element planned (search (Has-head, Has-tail, Has-append_right)))
+
+        -- w is the state at the end
+        pub element_gives : {w : State} (r : Result Handle Full) → Builds v w r (sum_of v.vars (family v lead) (family v x))
+            → Gives s w r element (working_set n (basis_element_list n m P))
+        element_gives {w = w} r four =
+            let all : Gives s w r element (working_set n (calls ++ element ∷ [])) =
+            found_gives s v w r element calls (element ∷ []) to_v (builds_gives v w r element (rw (← element_is) four)) in
+            rw (list_is, forms.list_is normal_call)
+            (gives_fewer (covers_part n _ (calls ++ element ∷ []) _ (λ f i. i)
+            (in_order (m ∷ []) ones element list (forms.needed normal_call ++ normal ∷ []))) all)

@@ -1,3 +1,4 @@
+mod SplitPoints
 mod NormalForms
 mod LeadElements
 mod AnyElements

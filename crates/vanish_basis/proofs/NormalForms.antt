@@ -1,19 +1,16 @@
--- The normal form of a monomial: the points where it is 1, those where it is 0, and the least polynomial with these values.
-use Rattle.std.proofs.Common.{◌≡◌, ℕ, ◌^◌, ◌<◌, Result, Ok, Err, IfOk, Some, List, [], ◌∷◌, ◌++◌, refl, sym, ◌∙◌, ap, subst}
-use Rattle.std.proofs.lemmas.Bool.{true≢false}
-use Rattle.lattice.specs.Family.{Family, AreDisjoint, Covers, minus_of}
+-- The normal form of a monomial: the points where it is 1, and the least polynomial that is 1 at these points alone.
+use Rattle.std.proofs.Common.{◌≡◌, ℕ, ◌^◌, ◌<◌, Result, Ok, Err, IfOk, List, [], ◌∷◌, ◌++◌, refl, ap}
+use Rattle.lattice.specs.Family.{Family, Covers, minus_of}
 use Rattle.lattice.specs.Interpolation.{IsLeast, interpolate}
 use Rattle.lattice.specs.Basis.{ones_at, zeros_at, normal_form_of}
 use Rattle.lattice.specs.WorkingLists.{working_set, interpolation_list, normal_form_list}
-use Rattle.lattice.specs.declared.op.Op.TheVariants.{Least}
-use Rattle.lattice.proofs.Diagrams.{Has-head, Has-tail, Has-append_left, covers_family, covers_part, covers_head}
-use Rattle.lattice.proofs.Polynomials.{split_at, IsLeast-normal_form_of}
-use Rattle.node_store.specs.Stores.{State, Knows, family, IsSound, IsPlanned, Reads, Gives, Builds, needs_of}
+use Rattle.lattice.proofs.Diagrams.{Has-tail, Has-append_left, covers_part, covers_head}
+use Rattle.lattice.proofs.Polynomials.{IsLeast-normal_form_of}
+use Rattle.node_store.specs.Stores.{State, Knows, Denotes, family, IsSound, IsPlanned, Gives, Builds}
 use Rattle.node_store.specs.declared.store.Handle.{Handle}
 use Rattle.node_store.specs.declared.store.Full.{Full}
 use Rattle.node_store.proofs.StoreLaws.{Found, found_gives, found_result, found_start, found_built, Denotes-family, Grows-family}
-use Rattle.node_store.proofs.StoreLaws.{known_after}
-use Rattle.interp_lex.proofs.InterpolationNeeds.{needs_least}
+use Rattle.node_store.proofs.StoreLaws.{gives_as, known_after}
 
 -- a result that is held beside the families that it needed
 gives_result : {s t : State} {r : Result Handle Full} {f : Family} (list : List Family) → IsSound t
@@ -52,14 +49,14 @@ module _ {s : State} {m : ℕ} {points : Handle} (call : Call s m points) where
   abbrev normal : Family
   normal = normal_form_of n m P
 
-  abbrev list : List Family
-  list = ones ∷ zeros ∷ (interpolation_list n zeros ones ++ (normal ∷ []))
+  abbrev pub needed : List Family
+  needed = zeros ∷ interpolation_list n zeros ones
 
-  list_is : normal_form_list n m P ≡ list
+  pub list_is : normal_form_list n m P ≡ ones ∷ (needed ++ normal ∷ [])
   unfolding normal_form_list
   list_is = refl
 
-  planned : Covers s.plan (working_set n list)
+  planned : Covers s.plan (working_set n (ones ∷ (needed ++ normal ∷ [])))
   planned = rw (← list_is) call.planned
 
   -- what it denotes is the least polynomial with these values
@@ -71,56 +68,42 @@ module _ {s : State} {m : ℕ} {points : Handle} (call : Call s m points) where
   normal_least (Err e) does = tt
 
   pub ones_planned : IsPlanned s ones
-  ones_planned = covers_head n s.plan _ ones planned
+  ones_planned = covers_head n s.plan (needed ++ normal ∷ []) ones planned
 
-  -- t is the state after the points where m is 1
+  -- t is the state after the calls that found the points o where m is 1 and needed the families xs
+  module _ {t : State} {o : Handle} {xs : List Family} (found : Found s t xs) (one : Denotes t o ones) where
+    abbrev Z : Family
+    Z = minus_of t.vars (family t points) (family t o)
+
+    abbrev asked : List Family
+    asked = Z ∷ interpolation_list t.vars Z (family t o)
+
+    asked_is : asked ≡ needed
+    asked_is = rw (found.reads.grows.vars, Grows-family s t points found.reads.grows call.known, Denotes-family t o ones one) refl
+
+    result_is : interpolate t.vars Z (family t o) ≡ normal
+    unfolding normal_form_of
+    result_is = rw (found.reads.grows.vars, Grows-family s t points found.reads.grows call.known, Denotes-family t o ones one) refl
+
+    pub values_planned : Covers t.plan (working_set t.vars asked)
+    values_planned = rw (found.reads.grows.plan, asked_is, found.reads.grows.vars)
+        (covers_part n s.plan (ones ∷ (needed ++ normal ∷ [])) needed planned (λ f i. search (Has-tail, Has-append_left) depth 6))
+
+    -- u is the state at the end
+    pub normal_found : {u : State} (r : Result Handle Full) → IsSound u
+        → Gives t u r (interpolate t.vars Z (family t o)) (working_set t.vars asked)
+        → Gives s u r normal (working_set n (xs ++ (needed ++ normal ∷ [])))
+    normal_found {u = u} r sound two = found_gives s t u r normal xs (needed ++ normal ∷ []) found
+        (gives_result needed sound (gives_as result_is (ap (working_set t.vars) asked_is) two))
+
+  -- t is the state after the points where m is 1, by one call
   module _ {t : State} {o : Handle} (one : Builds s t (Ok o) ones) where
-    to_t : Found s t (ones ∷ [])
-    to_t = found_built ones (found_start s) refl one
+    pub to_ones : Found s t (ones ∷ [])
+    to_ones = found_built ones (found_start s) refl one
 
-    pub ones_read : Reads s t
-    ones_read = to_t.reads
-
-    zeros_is : minus_of t.vars (family t points) (family t o) ≡ zeros
-    zeros_is = rw (one.grows.vars, Grows-family s t points one.grows call.known, Denotes-family t o ones one.ok) refl
-
-    pub zeros_planned : IsPlanned t (minus_of t.vars (family t points) (family t o))
-    zeros_planned = rw (one.grows.plan, zeros_is, one.grows.vars) (covers_family n s.plan list zeros planned (search (Has-head, Has-tail)))
-
-    -- u is the state after those where m is 0
-    module _ {u : State} {z : Handle} (two : Builds t u (Ok z) (minus_of t.vars (family t points) (family t o))) where
-      to_u : Found s u (ones ∷ zeros ∷ [])
-      to_u = found_built zeros to_t zeros_is two
-
-      ones_at_u : family u o ≡ ones
-      ones_at_u = Denotes-family u o ones (two.grows.known o.0 ones one.ok)
-
-      zeros_at_u : family u z ≡ zeros
-      zeros_at_u = Denotes-family u z zeros (two.ok ∙ ap Some zeros_is)
-
-      pub apart : AreDisjoint (family u z) (family u o)
-      apart = rw (ones_at_u, zeros_at_u) (λ a i j.
-          let split = split_at n m P (known_after s points call.sound call.known) in true≢false (sym (split.one a j) ∙ split.zero a i))
-
-      needs_are : needs_of u Least z o.0 ≡ working_set n (interpolation_list n zeros ones)
-      needs_are = needs_least u z o ∙ rw (to_u.reads.grows.vars, zeros_at_u, ones_at_u) refl
-
-      pub least_planned : Covers u.plan (needs_of u Least z o.0)
-      least_planned = rw (to_u.reads.grows.plan, needs_are) (covers_part n s.plan list (interpolation_list n zeros ones) planned
-          (λ f i. search (Has-tail, Has-append_left) depth 6))
-
-      result_is : interpolate u.vars (family u z) (family u o) ≡ normal
-      unfolding normal_form_of
-      result_is = rw (to_u.reads.grows.vars, zeros_at_u, ones_at_u) refl
-
-      -- v is the state at the end
-      pub normal_gives : {v : State} (r : Result Handle Full) → IsSound v
-          → Gives u v r (interpolate u.vars (family u z) (family u o)) (needs_of u Least z o.0)
-          → Gives s v r normal (working_set n (normal_form_list n m P))
-      normal_gives {v = v} r sound three =
-          let here : Gives u v r normal (working_set u.vars (interpolation_list n zeros ones)) =
-          subst (λ f. Gives u v r f (working_set u.vars (interpolation_list n zeros ones))) result_is
-          (subst (Gives u v r (interpolate u.vars (family u z) (family u o)))
-          (needs_are ∙ ap (λ k. working_set k (interpolation_list n zeros ones)) (sym to_u.reads.grows.vars)) three) in
-          rw list_is (found_gives s u v r normal (ones ∷ zeros ∷ []) (interpolation_list n zeros ones ++ (normal ∷ [])) to_u
-          (gives_result (interpolation_list n zeros ones) sound here))
+    pub normal_gives : {u : State} (r : Result Handle Full) → IsSound u
+        → Gives t u r (interpolate t.vars (minus_of t.vars (family t points) (family t o)) (family t o))
+        (working_set t.vars (minus_of t.vars (family t points) (family t o)
+        ∷ interpolation_list t.vars (minus_of t.vars (family t points) (family t o)) (family t o)))
+        → Gives s u r normal (working_set n (normal_form_list n m P))
+    normal_gives r sound two = rw list_is (normal_found to_ones one.ok r sound two)

@@ -1,9 +1,9 @@
 //! The normal form of a monomial on points, and the element of the reduced basis with a given lead.
-ghost use Rattle.std.specs.Prelude.{◌<◌, ◌^◌, IfOk};
-ghost use Rattle.lattice.specs.Family.{Covers};
-ghost use Rattle.lattice.specs.Interpolation.{IsLeast};
+ghost use Rattle.std.specs.Prelude.{◌<◌, ◌^◌, ◌∷◌, IfOk};
+ghost use Rattle.lattice.specs.Family.{Covers, minus_of};
+ghost use Rattle.lattice.specs.Interpolation.{IsLeast, interpolate};
 ghost use Rattle.lattice.specs.Basis.{IsLead, IsBasisElement, ones_at, zeros_at, normal_form_of, basis_element_of};
-ghost use Rattle.lattice.specs.WorkingLists.{working_set, normal_form_list, basis_element_list};
+ghost use Rattle.lattice.specs.WorkingLists.{working_set, interpolation_list, normal_form_list, basis_element_list};
 ghost use Rattle.node_store.specs.Stores.{Knows, family, Gives};
 
 use bool_poly::{SetOps, above};
@@ -11,6 +11,24 @@ use interp_lex::least;
 use lattice::Mono;
 use node_store::{Full, Handle, Store};
 use set_algebra::one;
+
+/// The least polynomial that is 1 at `ones`, some of the points, and 0 at the other points.
+fn least_by<S: Store, O: SetOps<S>>(
+    store: &mut S,
+    ops: &mut O,
+    points: Handle,
+    ones: Handle,
+) -> Result<Handle, Full>
+    requires points { Knows (S.state store.old) points }
+    requires ones { Knows (S.state store.old) ones }
+    requires planned { let s = S.state store.old in let zeros = minus_of s.vars (family s points) (family s ones) in Covers s.plan (working_set s.vars (zeros ∷ interpolation_list s.vars zeros (family s ones))) }
+    requires ready { O.ready ops.old }
+    ensures result { let s = S.state store.old in let zeros = minus_of s.vars (family s points) (family s ones) in Gives s (S.state store.new) result (interpolate s.vars zeros (family s ones)) (working_set s.vars (zeros ∷ interpolation_list s.vars zeros (family s ones))) }
+    ensures ready { O.ready ops.new }
+{
+    let zeros = ops.minus(store, points, ones)?;
+    least(store, ops, zeros, ones)
+}
 
 /// The least polynomial that has the values of `m` on the points. The error comes only where the store had no slot left
 /// for a family that was needed.
@@ -31,8 +49,7 @@ pub fn normal_form_of<S: Store, O: SetOps<S>>(
     ensures ready { O.ready ops.new }
 {
     let ones = above(store, m, points)?;
-    let zeros = ops.minus(store, points, ones)?;
-    least(store, ops, zeros, ones)
+    least_by(store, ops, points, ones)
 }
 
 /// The element of the reduced basis whose lead is `m`, a lead of the points: the sum of `m` and its normal form. The error
@@ -52,7 +69,10 @@ pub fn basis_element<S: Store, O: SetOps<S>>(
     ensures element { let s = S.state store.old in IfOk result (λ h. IsBasisElement s.vars (family s points) m (family (S.state store.new) h)) }
     ensures ready { O.ready ops.new }
 {
-    let tail = normal_form_of(store, ops, m, points)?;
     let lead = one(store, m)?;
+
+    // By the family of the lead and not by `above`, since the store keeps the results of this operation.
+    let ones = ops.ones_of(store, lead, points)?;
+    let tail = least_by(store, ops, points, ones)?;
     ops.xor(store, lead, tail)
 }

@@ -1,33 +1,17 @@
-ghost use Rattle.std.specs.Prelude.{◌≡◌, ◌<◌, ◌≤◌, ◌^◌, IfOk};
+ghost use Rattle.std.specs.Prelude.{◌<◌, ◌≤◌, ◌^◌, IfOk};
 ghost use Rattle.std.specs.List.{All};
 ghost use Rattle.lattice.specs.Family.{has, family_where};
 ghost use Rattle.lattice.specs.Basis.{IsLead};
-ghost use Rattle.node_store.specs.Stores.{Knows, family};
+ghost use Rattle.node_store.specs.Stores.{Knows};
 ghost use Rattle.node_store.specs.AnyFamily.{MayHoldAny};
 
 use crate::{basis_element, normal_form_of};
 use bool_poly::Serial;
 use lattice::{Mono, Monos};
 use node_store::{Full, Handle, PlainStore, Store, any_plan};
-use set_algebra::{one, union, walk_upto};
+use set_algebra::{family_of, walk_upto};
 use std::alloc::Global;
 use std::test::Fail;
-
-// The family of the numbers.
-fn family_of<S: Store>(store: &mut S, vars: u32, numbers: &[u64]) -> Result<Handle, Full>
-    requires any { MayHoldAny vars (S.state store.old) }
-    requires below { All (λ m. m < 2 ^ vars) numbers.now }
-    ensures any { MayHoldAny vars (S.state store.new) }
-    ensures known { IfOk result (Knows (S.state store.new)) }
-    ensures members { IfOk result (λ h. family (S.state store.new) h ≡ family_where vars (has numbers.now)) }
-{
-    let mut all = Handle(0);
-    for &m in numbers {
-        let next = one(store, Mono(m))?;
-        all = union(store, all, next)?;
-    }
-    Ok(all)
-}
 
 // The normal form of the monomial on the points.
 fn normal_form_on<S: Store>(

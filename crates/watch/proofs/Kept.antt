@@ -6,7 +6,7 @@ use Rattle.std.specs.List.{All, slice_index_or, slice_set}
 use Rattle.std.proofs.lemmas.Bool.{cases_lt, lt-ltb}
 use Rattle.std.proofs.lemmas.List.{get_or-map, get_or-set_other, get_or-set_same, length-map, length-set, map-append, take-set, take-set-le}
 use Rattle.std.proofs.lemmas.List.{take_more, take_more_set}
-use Rattle.std.proofs.lemmas.List.Edits.{swap_is}
+use Rattle.std.proofs.lemmas.List.Edits.{length-swap, swap_is}
 use Rattle.std.proofs.lemmas.List.Elements.{filter-append}
 use Rattle.watch.specs.Notes.{WatcherState, after_note, left_after, states_by}
 use Rattle.watch.specs.declared.note.Note.{Note}
@@ -74,11 +74,6 @@ get_or-swap_after xs kept at k d below low high =
     ap (λ (ys : List _). slice_index_or ys k d) (sym (swap_is xs kept at d first low))
     ∙ get_or-set_other (slice_set xs kept (slice_index_or xs at d)) at k (slice_index_or xs kept d) d (λ e. omega arith)
     ∙ get_or-set_other xs kept k (slice_index_or xs at d) d (λ e. omega arith)
-
-length-swap : {W : Type 0} (xs : List W) (i j : ℕ) → length (swap xs i j) ≡ length xs
-length-swap [] i j = refl
-length-swap (d ∷ xs) i j = length-set (slice_set (d ∷ xs) i (slice_index_or (d ∷ xs) j d)) j (slice_index_or (d ∷ xs) i d)
-    ∙ length-set (d ∷ xs) i (slice_index_or (d ∷ xs) j d)
 
 module _ {W : Type 0} {old now : List W} {told : W → List Note} {patience : W → ℕ} {note : Note} {kept at : ℕ}
     (before : IsToldTo old now told patience note kept at) where

@@ -1,7 +1,7 @@
 -- The watchers that are left after several notes.
-use Rattle.std.proofs.Common.{◌≡◌, ◌∙◌, ◌≤◌, ◌<◌, ◌+◌, ◌-◌, ◌++◌, ◌∷◌, [], List, ℕ, ap, ap₂, append_assoc, append-nil, arith, false, inl}
-use Rattle.std.proofs.Common.{inr, length, length-append, refl, subst, sym, true}
-use Rattle.std.specs.Prelude.{filter, nat_le, nat_lt}
+use Rattle.std.proofs.Common.{◌≡◌, ◌∙◌, ◌<◌, ◌+◌, ◌-◌, ◌++◌, ◌∷◌, [], List, ℕ, ap, ap₂, append_assoc, append-nil, arith, inl}
+use Rattle.std.proofs.Common.{inr, length, length-append, refl, subst, sym}
+use Rattle.std.specs.Prelude.{filter, nat_le}
 use Rattle.std.specs.List.{All}
 use Rattle.std.proofs.Math.Dec.{leb-zero}
 use Rattle.std.proofs.lemmas.Bool.{le-leb, le-ltb, lt-leb, lt-ltb}

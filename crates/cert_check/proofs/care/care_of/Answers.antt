@@ -1,7 +1,7 @@
 use Rattle.std.proofs.Common.{rules, tests}
 use Rattle.std.proofs.lemmas.Iterator.{items_from_collect, YieldsList-from_map, YieldsList-from_slice}
 use Rattle.cert_check.specs.Marks.{care_by}
-use Rattle.cert_check.proofs.CareTables.{care_tables}
+use Rattle.cert_check.proofs.Marked.{care_tables}
 use Rattle.cert_check.proofs.care.care_of.Goals as goal
 
 pub returns : goal.returns

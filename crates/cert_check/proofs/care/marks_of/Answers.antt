@@ -13,8 +13,6 @@ loop-row-init c = marks_none c.args.a
 pub loop-row-preserved : goal.loop-row-preserved
 unfolding none
 loop-row-preserved c = elim c.if-a-row.branch [
-  | then-a-row w ↦ marks_next_inside c.args.rows.now c.loop-row.row-index none c.args.a c.loop-row.marks
-      c.if-a-row.marks c.loop-row-test.true w.if-a-row.true c.loop-row.invariant w.marks-is
-  | else-a-row w ↦ marks_next_outside c.args.rows.now c.loop-row.row-index none c.args.a c.loop-row.marks
-      c.if-a-row.marks c.loop-row-test.true w.if-a-row.false c.loop-row.invariant w.marks-is
+  | then-a-row w ↦ marks_next_inside _ _ none _ _ _ c.loop-row-test.true w.if-a-row.true c.loop-row.invariant w.marks-is
+  | else-a-row w ↦ marks_next_outside _ _ none _ _ _ c.loop-row-test.true w.if-a-row.false c.loop-row.invariant w.marks-is
 ]

@@ -1,13 +1,10 @@
 use Rattle.std.proofs.Common.{ℕ, ◌+◌, ap, arith}
 use Rattle.std.proofs.lemmas.Result.{err_from_is_err_and}
-use Rattle.cert_check.specs.Right.{IsOutputOver}
-use Rattle.cert_check.proofs.Elements.{All-at}
-use Rattle.cert_check.proofs.JudgedOutputs.{output_fails, output_fine, outputs_fine}
+use Rattle.cert_check.proofs.Judged.{output_fails, output_fine, outputs_fine}
 use Rattle.cert_check.proofs.checking.judge.Goals as goal
 
 pub judge_output-requires-clause-over : goal.judge_output-requires-clause-over
-judge_output-requires-clause-over c = All-at (IsOutputOver c.args.p.now.inputs) _ _ _ c.requires.answer.polynomials c.loop-given-test.true
-    c.given-item.is
+judge_output-requires-clause-over c = rw c.given-item.is (c.requires.answer.polynomials _ _ c.loop-given-test.true)
 
 pub returns-in_err-judge_output : goal.returns-in_err-judge_output
 returns-in_err-judge_output c =

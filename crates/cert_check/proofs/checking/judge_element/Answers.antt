@@ -1,7 +1,6 @@
 use Rattle.std.proofs.Common.{refl, sym, ◌∙◌}
 use Rattle.cert_check.specs.Faults.{first_verdict}
-use Rattle.cert_check.proofs.FirstFaults.{no_lead_of_zero, no_lead_of, out_of_order_of}
-use Rattle.cert_check.proofs.JudgedElements.{terms_below, value_tested}
+use Rattle.cert_check.proofs.Judged.{no_lead_of_zero, lead_tests, terms_below, value_tested}
 use Rattle.cert_check.proofs.checking.judge_element.Goals as goal
 
 pub counts_of-requires-clause-below : goal.counts_of-requires-clause-below
@@ -29,8 +28,8 @@ returns-then-is_comparable-clause-checks c = λ zeros ones marks.
     (λ f counted. c.is_one_in.ensures _ zeros ones f marks counted) in
     let some = rw c.as_slice-terms.ensures at c.in-len1-up.len_at_least in
     let top = rw c.as_slice-terms.ensures at c.top-item.is in
-    let lead = no_lead_of c.args.earlier.now c.args.element.now.terms c.top-item.result some top in
-    let first = lead ∙ sym c.is_comparable.ensures ∙ c.if-is_comparable.true in
+    let lead = lead_tests c.args.earlier.now c.args.element.now.terms c.top-item.result some top in
+    let first = lead.0 ∙ sym c.is_comparable.ensures ∙ c.if-is_comparable.true in
     rw (c.fault-then-is_comparable.ensures, sym tested ∙ c.if-is_one_in.false, first) refl
 
 pub returns-then-is_below_last-clause-checks : goal.returns-then-is_below_last-clause-checks
@@ -40,10 +39,9 @@ returns-then-is_below_last-clause-checks c = λ zeros ones marks.
     (λ f counted. c.is_one_in.ensures _ zeros ones f marks counted) in
     let some = rw c.as_slice-terms.ensures at c.in-len1-up.len_at_least in
     let top = rw c.as_slice-terms.ensures at c.top-item.is in
-    let lead = no_lead_of c.args.earlier.now c.args.element.now.terms c.top-item.result some top in
-    let order = out_of_order_of c.args.earlier.now c.args.element.now.terms c.top-item.result some top in
-    let first = lead ∙ sym c.is_comparable.ensures ∙ c.if-is_comparable.false in
-    let second = order ∙ sym c.is_below_last.ensures ∙ c.if-is_below_last.true in
+    let lead = lead_tests c.args.earlier.now c.args.element.now.terms c.top-item.result some top in
+    let first = lead.0 ∙ sym c.is_comparable.ensures ∙ c.if-is_comparable.false in
+    let second = lead.1 ∙ sym c.is_below_last.ensures ∙ c.if-is_below_last.true in
     rw (c.fault-then-is_below_last.ensures, sym tested ∙ c.if-is_one_in.false, first, second) refl
 
 pub returns-clause-checks : goal.returns-clause-checks
@@ -53,8 +51,7 @@ returns-clause-checks c = λ zeros ones marks.
     (λ f counted. c.is_one_in.ensures _ zeros ones f marks counted) in
     let some = rw c.as_slice-terms.ensures at c.in-len1-up.len_at_least in
     let top = rw c.as_slice-terms.ensures at c.top-item.is in
-    let lead = no_lead_of c.args.earlier.now c.args.element.now.terms c.top-item.result some top in
-    let order = out_of_order_of c.args.earlier.now c.args.element.now.terms c.top-item.result some top in
-    let first = lead ∙ sym c.is_comparable.ensures ∙ c.if-is_comparable.false in
-    let second = order ∙ sym c.is_below_last.ensures ∙ c.if-is_below_last.false in
+    let lead = lead_tests c.args.earlier.now c.args.element.now.terms c.top-item.result some top in
+    let first = lead.0 ∙ sym c.is_comparable.ensures ∙ c.if-is_comparable.false in
+    let second = lead.1 ∙ sym c.is_below_last.ensures ∙ c.if-is_below_last.false in
     rw (sym tested ∙ c.if-is_one_in.false, first, second) refl

@@ -1,11 +1,7 @@
-use Rattle.std.proofs.Common.{ℕ, List, length, refl, sym, ap, ◌∙◌, subst}
+use Rattle.std.proofs.Common.{ℕ, List, length, refl, sym, ap, ◌∙◌}
 use Rattle.std.proofs.lemmas.Result.{err_from_is_err_and}
-use Rattle.lattice.specs.Family.{union_of}
-use Rattle.cert_check.specs.declared.refusal.Verdict.{Verdict}
-use Rattle.cert_check.specs.Parts.{Judges}
 use Rattle.cert_check.specs.Faults.{first_verdict, greatest_of, output_checks}
-use Rattle.cert_check.proofs.JudgedElements.{terms_below}
-use Rattle.cert_check.proofs.JudgedOutputs.{basis_fails, behind_basis, tops_below, terms_within, elements_within, values_tested}
+use Rattle.cert_check.proofs.Judged.{terms_below, basis_fails, behind_basis, tops_below, terms_within, elements_within, values_tested}
 use Rattle.cert_check.proofs.checking.judge_output.Goals as goal
 
 pub counts_of-requires-clause-below : goal.counts_of-requires-clause-below
@@ -26,9 +22,8 @@ returns-in_err-tops c = λ zeros ones marks.
     let p = err_from_is_err_and c.from_residual-in_err-tops.result c.from_residual-in_err-tops.ensures.1 in
     let tested = values_tested _ _ _ _ _ _ _ _ c.requires.over.poly c.as_slice.ensures c.deref.ensures.value c.in_ok-values.ensures
     (λ f counted. c.misses.ensures _ zeros ones f marks counted) in
-    rw (p.1, p.2) (basis_fails c.args.inputs zeros ones (union_of c.args.inputs zeros ones) c.args.given.now (sym tested
-    ∙ c.if-misses.false) _
-    (rw c.as_slice-2.ensures at (c.in_err-tops.ensures.checks zeros ones marks)))
+    let fails = rw c.as_slice-2.ensures at (c.in_err-tops.ensures.checks zeros ones marks) in
+    rw (p.1, p.2) (basis_fails _ zeros ones _ c.args.given.now (sym tested ∙ c.if-misses.false) _ fails)
 
 pub counts_of-requires-2-clause-below : goal.counts_of-requires-2-clause-below
 counts_of-requires-2-clause-below c =
@@ -42,9 +37,8 @@ returns-then-miscounts c = λ zeros ones marks.
     let tops = c.deref-2.ensures.value ∙ (c.in_ok-tops.ensures.tops ∙ ap greatest_of c.as_slice-2.ensures) in
     let counts = c.miscounts.ensures c.args.inputs zeros ones c.deref-2.result.now marks
     (rw c.deref-3.ensures.value c.in_ok-counts.ensures) in
-    let whole = behind_basis c.args.inputs zeros ones (union_of c.args.inputs zeros ones) c.args.given.now (sym tested ∙ c.if-misses.false)
-    c.deref-2.result.now fine tops in
-    rw c.fault-then-miscounts.ensures (whole ∙ rw (sym counts ∙ c.if-miscounts.true) refl)
+    let whole = behind_basis c.args.inputs zeros ones _ c.args.given.now (sym tested ∙ c.if-misses.false) _ fine tops in
+    rw (c.fault-then-miscounts.ensures, whole, sym counts ∙ c.if-miscounts.true) refl
 
 pub judge_reduced-requires-clause-poly : goal.judge_reduced-requires-clause-poly
 judge_reduced-requires-clause-poly c =
@@ -62,7 +56,6 @@ returns c = λ zeros ones marks.
     let tops = c.deref-2.ensures.value ∙ (c.in_ok-tops.ensures.tops ∙ ap greatest_of c.as_slice-2.ensures) in
     let counts = c.miscounts.ensures c.args.inputs zeros ones c.deref-2.result.now marks
     (rw c.deref-3.ensures.value c.in_ok-counts.ensures) in
-    let whole = behind_basis c.args.inputs zeros ones (union_of c.args.inputs zeros ones) c.args.given.now (sym tested ∙ c.if-misses.false)
-    c.deref-2.result.now fine tops in
+    let whole = behind_basis c.args.inputs zeros ones _ c.args.given.now (sym tested ∙ c.if-misses.false) _ fine tops in
     let last = c.judge_reduced.ensures c.args.inputs c.deref-2.result.now (rw c.deref-4.ensures.value c.in_ok-counts.ensures) in
-    subst (λ (v : Verdict). Judges c.judge_reduced.result v) (sym (whole ∙ rw (sym counts ∙ c.if-miscounts.false) refl)) last
+    rw (whole, sym counts ∙ c.if-miscounts.false) last

@@ -1,9 +1,7 @@
-use Rattle.std.proofs.Common.{◌<◌, List, length, refl, sym, ap, ◌∙◌, arith, drop}
-use Rattle.std.specs.List.{All}
+use Rattle.std.proofs.Common.{List, length, refl, sym, ap, ◌∙◌, arith, drop}
 use Rattle.cert_check.specs.declared.answer.Given.{Given}
 use Rattle.cert_check.specs.Faults.{first_verdict, reduced_checks}
-use Rattle.cert_check.proofs.Elements.{All-at}
-use Rattle.cert_check.proofs.JudgedOutputs.{tail_below, tail_here, tails_fine}
+use Rattle.cert_check.proofs.Judged.{tail_below, tail_here, tails_fine}
 use Rattle.cert_check.proofs.checking.judge_reduced.Goals as goal
 
 pub returns-then-is_reducible : goal.returns-then-is_reducible
@@ -21,10 +19,9 @@ loop-element-init c = λ n tops counted.
 pub is_reducible-requires-in-loop-element : goal.is_reducible-requires-in-loop-element
 is_reducible-requires-in-loop-element c =
     let within = rw c.as_slice-element-items.ensures at c.loop-element-test.true in
-    let here = All-at (λ (e : Given). All (λ m. m < length c.args.counts.now) e.terms) c.args.given.now.basis _ c.element-item.result
-    c.requires.basis
-    within (rw c.as_slice-element-items.ensures at c.element-item.is) in
-    tail_below _ _ _ here (c.tail_of.ensures ∙ ap (drop 1) c.as_slice-in-loop-element.ensures)
+    let item = rw c.as_slice-element-items.ensures at c.element-item.is in
+    tail_below (length c.args.counts.now) c.element-item.result.terms _ (rw item (c.requires.basis _ _ within))
+    (c.tail_of.ensures ∙ ap (drop 1) c.as_slice-in-loop-element.ensures)
 
 pub returns-then-is_reducible-2 : goal.returns-then-is_reducible-2
 returns-then-is_reducible-2 c = λ n tops counted.

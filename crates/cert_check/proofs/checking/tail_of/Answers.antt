@@ -1,4 +1,4 @@
-use Rattle.cert_check.proofs.JudgedOutputs.{tail_is, no_tail}
+use Rattle.cert_check.proofs.Judged.{tail_is, no_tail}
 use Rattle.cert_check.proofs.checking.tail_of.Goals as goal
 
 pub returns-in-len1-up : goal.returns-in-len1-up

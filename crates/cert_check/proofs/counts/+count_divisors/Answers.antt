@@ -1,6 +1,6 @@
 use Rattle.std.proofs.Common.{◌*◌, ◌-◌, ◌^◌, ◌%◌, ◌≤◌, length, ◌∙◌, arith}
 use Rattle.std.proofs.lemmas.List.Elements.{All-drop}
-use Rattle.cert_check.proofs.Halves.{counts_one, counts_whole, sums_fit, half_of}
+use Rattle.cert_check.proofs.CountTables.{counts_one, counts_whole, sums_fit, half_of}
 use Rattle.lattice.proofs.Diagrams.{weight_is}
 use Rattle.cert_check.proofs.counts.+count_divisors.Goals as goal
 
@@ -29,14 +29,12 @@ count_divisors-requires-2 t c =
     )
 
 pub add_each-requires-clause-fits : goal.add_each-requires-clause-fits
-add_each-requires-clause-fits t c = λ k below. sums_fit (c.args.variables - 1) c.split_at_mut-without.result.0.now
-    c.split_at_mut-without.result.1.now c.count_divisors.new.table c.count_divisors-2.new.table k (omega arith)
+add_each-requires-clause-fits t c = λ k below. sums_fit (c.args.variables - 1) _ _ _ _ k (omega arith)
     c.count_divisors.ensures c.count_divisors-2.ensures below
 
 pub returns : goal.returns
 returns t c =
     let weight = weight_is (c.args.variables - 1) (omega arith) in
-    counts_whole c.args.variables c.args.table.now c.split_at_mut-without.result.0.now
-    c.split_at_mut-without.result.1.now c.count_divisors.new.table c.count_divisors-2.new.table c.add_each.new.numbers
-    c.if-variables-eq0.false c.split_at_mut-without.ensures.value (c.split_at_mut-without.ensures.front_len ∙ weight)
-    c.count_divisors.ensures c.count_divisors-2.ensures c.add_each.auto.numbers c.add_each.ensures
+    counts_whole _ _ _ _ _ _ _ c.if-variables-eq0.false c.split_at_mut-without.ensures.value
+    (c.split_at_mut-without.ensures.front_len ∙ weight) c.count_divisors.ensures c.count_divisors-2.ensures c.add_each.auto.numbers
+    c.add_each.ensures

@@ -1,5 +1,5 @@
 use Rattle.std.proofs.Common.{sym, ◌∙◌}
-use Rattle.cert_check.proofs.LineForms.{right_by_sum}
+use Rattle.cert_check.proofs.LinesRead.{right_by_sum}
 use Rattle.cert_check.proofs.form.is_right.Goals as goal
 
 pub returns-else-is_word : goal.returns-else-is_word

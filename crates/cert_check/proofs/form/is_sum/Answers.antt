@@ -1,6 +1,6 @@
 use Rattle.std.proofs.Common.{refl, sym, ◌∙◌}
 use Rattle.cert_check.specs.Reading.{is_sum}
-use Rattle.cert_check.proofs.Sums.{no_sum, sum_step}
+use Rattle.cert_check.proofs.Factors.{no_sum, sum_step}
 use Rattle.cert_check.proofs.form.is_sum.Goals as goal
 
 pub returns-then-not-is_term : goal.returns-then-not-is_term

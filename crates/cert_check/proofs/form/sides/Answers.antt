@@ -1,4 +1,4 @@
-use Rattle.cert_check.proofs.LineForms.{two_words}
+use Rattle.cert_check.proofs.LinesRead.{two_words}
 use Rattle.cert_check.proofs.form.sides.Goals as goal
 
 pub returns-in_err-right : goal.returns-in_err-right

@@ -1,5 +1,5 @@
 use Rattle.std.proofs.Common.{arith}
-use Rattle.cert_check.proofs.LineForms.{element_added, element_alone}
+use Rattle.cert_check.proofs.LinesRead.{element_added, element_alone}
 use Rattle.cert_check.proofs.reading.add_element.Goals as goal
 
 pub returns-in_ok-push-2 : goal.returns-in_ok-push-2

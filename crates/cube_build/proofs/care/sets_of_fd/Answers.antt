@@ -2,10 +2,11 @@ use Rattle.std.proofs.Common.{Some, ap, ◌∙◌, sym, subst}
 use Rattle.std.specs.List.{All}
 use Rattle.lattice.specs.declared.kind.Kind.TheVariants.{Fd}
 use Rattle.node_store.proofs.StoreLaws.{Reads-refl, reads_one, then_call}
+use Rattle.set_algebra.proofs.GivenPoints.{points_failed}
 use Rattle.cube_build.specs.PointSets.{IsRowOver}
 use Rattle.cube_build.proofs.CallsUnderway.{cover_planned, cover_next, cover_is, combined_planned, combined_next}
 use Rattle.cube_build.proofs.CallsUnderway.{combined_is, outside_planned, outside_next, outside_is}
-use Rattle.cube_build.proofs.CareLemmas.{ones_fd, zeros_fd, calls_begin, calls_end, calls_fail}
+use Rattle.cube_build.proofs.CareLemmas.{ones_fd, zeros_fd, calls_begin, calls_end}
 use Rattle.cube_build.proofs.care.sets_of_fd.Goals as goal
 
 pub cover-requires-clause-planned : goal.cover-requires-clause-planned
@@ -14,7 +15,7 @@ cover-requires-clause-planned g c =
 
 pub returns-in_err-on : goal.returns-in_err-on
 returns-in_err-on g c =
-    calls_fail c.from_residual.ensures.0 (Reads-refl (g.S.Store.state c.args.store.now)) c.in_err-on.ensures
+    points_failed c.from_residual.ensures.0 (Reads-refl (g.S.Store.state c.args.store.now)) c.in_err-on.ensures
 
 pub cover-requires-2-clause-rows : goal.cover-requires-2-clause-rows
 cover-requires-2-clause-rows g c =
@@ -26,7 +27,7 @@ cover-requires-2-clause-planned g c =
 
 pub returns-in_err-dc : goal.returns-in_err-dc
 returns-in_err-dc g c =
-    calls_fail c.from_residual-in_err-dc.ensures.0 (reads_one c.in_ok-on.ensures) c.in_err-dc.ensures
+    points_failed c.from_residual-in_err-dc.ensures.0 (reads_one c.in_ok-on.ensures) c.in_err-dc.ensures
 
 pub minus-requires-clause-planned : goal.minus-requires-clause-planned
 minus-requires-clause-planned g c =
@@ -37,7 +38,7 @@ minus-requires-clause-planned g c =
 
 pub returns-in_err-ones : goal.returns-in_err-ones
 returns-in_err-ones g c =
-    calls_fail c.from_residual-in_err-ones.ensures.0 (then_call (reads_one c.in_ok-on.ensures) c.in_ok-dc.ensures) c.in_err-ones.ensures
+    points_failed c.from_residual-in_err-ones.ensures.0 (then_call (reads_one c.in_ok-on.ensures) c.in_ok-dc.ensures) c.in_err-ones.ensures
 
 pub union-requires-clause-planned : goal.union-requires-clause-planned
 union-requires-clause-planned g c =
@@ -51,7 +52,7 @@ union-requires-clause-planned g c =
 
 pub returns-in_err-listed : goal.returns-in_err-listed
 returns-in_err-listed g c =
-    calls_fail c.from_residual-in_err-listed.ensures.0
+    points_failed c.from_residual-in_err-listed.ensures.0
     (then_call (then_call (reads_one c.in_ok-on.ensures) c.in_ok-dc.ensures) c.in_ok-ones.ensures) c.in_err-listed.ensures
 
 pub outside-requires-clause-planned : goal.outside-requires-clause-planned
@@ -69,7 +70,7 @@ outside-requires-clause-planned g c =
 
 pub returns-in_err-zeros : goal.returns-in_err-zeros
 returns-in_err-zeros g c =
-    calls_fail c.from_residual-in_err-zeros.ensures.0
+    points_failed c.from_residual-in_err-zeros.ensures.0
     (then_call (then_call (then_call (reads_one c.in_ok-on.ensures) c.in_ok-dc.ensures) c.in_ok-ones.ensures)
     c.in_ok-listed.ensures) c.in_err-zeros.ensures
 

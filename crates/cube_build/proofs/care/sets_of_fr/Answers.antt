@@ -2,9 +2,10 @@ use Rattle.std.proofs.Common.{Some, ap, ◌∙◌, sym, subst}
 use Rattle.std.specs.List.{All}
 use Rattle.lattice.specs.declared.kind.Kind.TheVariants.{Fr}
 use Rattle.node_store.proofs.StoreLaws.{Reads-refl, reads_one}
+use Rattle.set_algebra.proofs.GivenPoints.{points_failed}
 use Rattle.cube_build.specs.PointSets.{IsRowOver}
 use Rattle.cube_build.proofs.CallsUnderway.{cover_planned, cover_next, cover_is}
-use Rattle.cube_build.proofs.CareLemmas.{ones_fr, zeros_fr, calls_begin, calls_end, calls_fail}
+use Rattle.cube_build.proofs.CareLemmas.{ones_fr, zeros_fr, calls_begin, calls_end}
 use Rattle.cube_build.proofs.care.sets_of_fr.Goals as goal
 
 pub cover-requires-clause-planned : goal.cover-requires-clause-planned
@@ -13,7 +14,7 @@ cover-requires-clause-planned g c =
 
 pub returns-in_err-ones : goal.returns-in_err-ones
 returns-in_err-ones g c =
-    calls_fail c.from_residual.ensures.0 (Reads-refl (g.S.Store.state c.args.store.now)) c.in_err-ones.ensures
+    points_failed c.from_residual.ensures.0 (Reads-refl (g.S.Store.state c.args.store.now)) c.in_err-ones.ensures
 
 pub cover-requires-2-clause-rows : goal.cover-requires-2-clause-rows
 cover-requires-2-clause-rows g c =
@@ -25,7 +26,7 @@ cover-requires-2-clause-planned g c =
 
 pub returns-in_err-zeros : goal.returns-in_err-zeros
 returns-in_err-zeros g c =
-    calls_fail c.from_residual-in_err-zeros.ensures.0 (reads_one c.in_ok-ones.ensures) c.in_err-zeros.ensures
+    points_failed c.from_residual-in_err-zeros.ensures.0 (reads_one c.in_ok-ones.ensures) c.in_err-zeros.ensures
 
 pub returns : goal.returns
 returns g c =

@@ -1,6 +1,6 @@
 use Rattle.std.proofs.Common.{ℕ, arith, Ok}
 use Rattle.node_store.proofs.StoreLaws.{failed, grow_parts, grow_planned, Gives-failed}
-use Rattle.interp_lex.proofs.PointSteps.{failed_points}
+use Rattle.set_algebra.proofs.GivenPoints.{failed_points}
 use Rattle.interp_lex.proofs.LeastStep.{Cut, call_of, is_least, no_ones_gives, no_zeros_gives, looked_gives, kept_result, some_node, cut_at}
 use Rattle.interp_lex.proofs.LeastStep.{upper_planned, at_u, high_falls, high_call, at_v, lower_known, lower_planned, at_w, low_falls}
 use Rattle.interp_lex.proofs.LeastStep.{low_call, halves, grown_gives}

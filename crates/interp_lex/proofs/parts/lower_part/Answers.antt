@@ -1,5 +1,6 @@
+use Rattle.set_algebra.proofs.GivenPoints.{points_failed}
 use Rattle.interp_lex.proofs.PointSteps.{lower_at, first_ones_planned, second_ones_planned, one_reads, both_reads, zeros_known}
-use Rattle.interp_lex.proofs.PointSteps.{lower_zeros_planned, three_reads, ones_known, lower_ones_planned, lower_gives, points_failed}
+use Rattle.interp_lex.proofs.PointSteps.{lower_zeros_planned, three_reads, ones_known, lower_ones_planned, lower_gives}
 use Rattle.interp_lex.proofs.parts.lower_part.Goals as goal
 
 pub ones_of-requires-clause-planned : goal.ones_of-requires-clause-planned

@@ -1,4 +1,5 @@
-use Rattle.interp_lex.proofs.PointSteps.{upper_at, upper_zeros_planned, upper_ones_planned, upper_reads, upper_gives, points_failed}
+use Rattle.set_algebra.proofs.GivenPoints.{points_failed}
+use Rattle.interp_lex.proofs.PointSteps.{upper_at, upper_zeros_planned, upper_ones_planned, upper_reads, upper_gives}
 use Rattle.interp_lex.proofs.parts.upper_part.Goals as goal
 
 pub common-requires-clause-planned : goal.common-requires-clause-planned

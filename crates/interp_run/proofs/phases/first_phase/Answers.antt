@@ -15,6 +15,7 @@ loop-before-init g c = record {
   grows = Grows-refl _;
   found = rw (c.new-found.ensures.items)
       (finds_none (g.S.Store.state c.args.store.now) (description c.args.pla.now) c.args.mode);
+  ready = c.requires.ready;
 }
 
 pub returns-in_err-push-clause-grows : goal.returns-in_err-push-clause-grows
@@ -30,4 +31,5 @@ loop-before-preserved g c =
       found = finds_more t u d c.args.mode c.loop-before.before c.loop-before.found.items c.push.new.self.items c.in_ok-found_of.field-0
           c.in_ok-push.ensures.items
           c.in_ok-found_of.ensures.grows c.loop-before.invariant.found c.in_ok-found_of.ensures.found;
+      ready = c.in_ok-found_of.ensures.ready;
     }

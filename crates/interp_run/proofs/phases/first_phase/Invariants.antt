@@ -8,4 +8,5 @@ abbrev pub invariant-loop-before : goal.invariant-loop-before
 invariant-loop-before g l = record {
   grows : Grows (g.S.Store.state l.fn.store) (g.S.Store.state l.store);
   found : FindsFirst (g.S.Store.state l.store) (description l.pla) l.mode l.before l.found.items;
+  ready : g.O.SetOps.ready l.ops;
 }

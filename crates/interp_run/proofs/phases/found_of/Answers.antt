@@ -22,7 +22,7 @@ least-requires-clause-planned g c =
 
 pub returns-in_err-polynomial-clause-grows : goal.returns-in_err-polynomial-clause-grows
 returns-in_err-polynomial-clause-grows g c =
-    Grows-trans _ _ _ c.in_ok-care.ensures.zeros.grows c.in_err-polynomial.ensures.result.grows
+    Grows-trans _ _ _ c.in_ok-care.ensures.grows c.in_err-polynomial.ensures.result.grows
 
 pub points_and_leads-requires-clause-planned : goal.points_and_leads-requires-clause-planned
 points_and_leads-requires-clause-planned g c =
@@ -32,26 +32,27 @@ points_and_leads-requires-clause-planned g c =
 
 pub returns-in_err-points-in-Basis-clause-grows : goal.returns-in_err-points-in-Basis-clause-grows
 returns-in_err-points-in-Basis-clause-grows g c =
-    Grows-trans _ _ _ (Grows-trans _ _ _ c.in_ok-care.ensures.zeros.grows c.in_ok-polynomial.ensures.result.grows)
-    c.in_err-points-in-Basis.ensures.grows
+    Grows-trans _ _ _ (Grows-trans _ _ _ c.in_ok-care.ensures.grows c.in_ok-polynomial.ensures.result.grows)
+    c.in_err-points-in-Basis.ensures.gives.grows
 
 pub returns-in_ok-points-in-Basis-clause-grows : goal.returns-in_ok-points-in-Basis-clause-grows
 returns-in_ok-points-in-Basis-clause-grows g c =
-    Grows-trans _ _ _ (Grows-trans _ _ _ c.in_ok-care.ensures.zeros.grows c.in_ok-polynomial.ensures.result.grows)
-    c.in_ok-points-in-Basis.ensures.grows
+    Grows-trans _ _ _ (Grows-trans _ _ _ c.in_ok-care.ensures.grows c.in_ok-polynomial.ensures.result.grows)
+    c.in_ok-points-in-Basis.ensures.gives.grows
 
 pub returns-in_ok-points-in-Basis-clause-found : goal.returns-in_ok-points-in-Basis-clause-found
 returns-in_ok-points-in-Basis-clause-found g c =
     found_with_leads _ (description c.args.pla.now) c.args.mode c.args.output c.requires.vars _ _ c.in_ok-care.ensures _ _
     c.in_ok-polynomial.ensures.result
-    (ap is_basis c.in-Basis.is) _ _ _ c.in_ok-points-in-Basis.ensures
+    (ap is_basis c.in-Basis.is) _ _ _ c.in_ok-points-in-Basis.ensures.gives
 
 pub returns-in-Anf : goal.returns-in-Anf
 returns-in-Anf g c = record {
-  grows = Grows-trans _ _ _ c.in_ok-care.ensures.zeros.grows c.in_ok-polynomial.ensures.result.grows;
+  grows = Grows-trans _ _ _ c.in_ok-care.ensures.grows c.in_ok-polynomial.ensures.result.grows;
   found = found_bare _ (description c.args.pla.now) c.args.mode c.args.output c.requires.vars _ _ c.in_ok-care.ensures _ _
       c.in_ok-polynomial.ensures.result
       (g.met.S.Store.sound c.least.new.store) (bare_mode c.args.mode c.in-Anf.is);
-  quiet = c.in_ok-polynomial.ensures.result.quiet ∙ c.in_ok-care.ensures.zeros.quiet;
+  quiet = c.in_ok-polynomial.ensures.result.quiet ∙ c.in_ok-care.ensures.quiet;
   full = tt;
+  ready = c.in_ok-polynomial.ensures.ready;
 }

@@ -8,24 +8,24 @@ union-requires-clause-planned g c =
 
 pub standard-requires-clause-planned : goal.standard-requires-clause-planned
 standard-requires-clause-planned g c =
-    standard_planned _ c.args.care.zeros c.args.care.ones _ _ c.in_ok-points.ensures c.requires.planned
+    standard_planned _ c.args.care.zeros c.args.care.ones _ _ c.in_ok-points.ensures.result c.requires.planned
 
 pub leads-requires-clause-closed : goal.leads-requires-clause-closed
 leads-requires-clause-closed g c =
-    closed _ c.args.care.zeros c.args.care.ones _ _ c.in_ok-points.ensures _ _ c.in_ok-monos.ensures.gives
+    closed _ c.args.care.zeros c.args.care.ones _ _ c.in_ok-points.ensures.result _ _ c.in_ok-monos.ensures.gives
     (g.met.S.Store.sound c.union.new.store) c.in_ok-monos.ensures.standard
 
 pub leads-requires-clause-planned : goal.leads-requires-clause-planned
 leads-requires-clause-planned g c =
-    leads_planned _ c.args.care.zeros c.args.care.ones _ _ c.in_ok-points.ensures _ _ c.in_ok-monos.ensures.gives c.requires.planned
+    leads_planned _ c.args.care.zeros c.args.care.ones _ _ c.in_ok-points.ensures.result _ _ c.in_ok-monos.ensures.gives c.requires.planned
 
-pub returns-in_err-minimal : goal.returns-in_err-minimal
-returns-in_err-minimal g c =
+pub returns-in_err-minimal-clause-gives : goal.returns-in_err-minimal-clause-gives
+returns-in_err-minimal-clause-gives g c =
     leads_failed _ _ _ _ _ c.from_residual-in_err-minimal.ensures.0
-    (Grows-trans _ _ _ c.in_ok-points.ensures.grows c.in_ok-monos.ensures.gives.grows) c.in_err-minimal.ensures.gives.grows
+    (Grows-trans _ _ _ c.in_ok-points.ensures.result.grows c.in_ok-monos.ensures.gives.grows) c.in_err-minimal.ensures.gives.grows
     c.in_err-minimal.ensures.gives.full
 
-pub returns : goal.returns
-returns g c =
-    leads_given _ c.args.care.zeros c.args.care.ones _ _ c.in_ok-points.ensures _ _ c.in_ok-monos.ensures.gives _ _
+pub returns-clause-gives : goal.returns-clause-gives
+returns-clause-gives g c =
+    leads_given _ c.args.care.zeros c.args.care.ones _ _ c.in_ok-points.ensures.result _ _ c.in_ok-monos.ensures.gives _ _
     c.in_ok-minimal.ensures.gives

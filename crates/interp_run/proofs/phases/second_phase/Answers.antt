@@ -35,4 +35,5 @@ loop-output-preserved g c =
           })
           c.loop-output-test.true c.loop-output.invariant.grows c.in_ok-elements_of.ensures.grows c.requires.leads
           c.loop-output.invariant.solved refl c.in_ok-elements_of.ensures.elements c.in_ok-push.ensures.items;
+      ready = c.in_ok-elements_of.ensures.ready;
     }

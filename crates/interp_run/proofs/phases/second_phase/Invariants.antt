@@ -12,4 +12,5 @@ invariant-loop-output g l =
     record {
       grows : Grows s t;
       solved : AllZip (IsSolved s t) (take l.output-index l.found) l.solved.items;
+      ready : g.O.SetOps.ready l.ops;
     }

@@ -20,6 +20,7 @@ second_phase-requires g c =
     let grows = c.in_ok-found.ensures.grows in
     let here = c.in_ok-found.ensures.found in
     record {
+      ready = c.in_ok-found.ensures.ready;
       leads = subst (All (HasLeads t)) (sym c.deref.ensures.value)
           (all_have_leads d mode t found here.0 (grows.vars ∙ c.requires.vars) (grows.plan ∙ c.requires.plan));
       few = subst (All (λ f. length (family t f.leads) ≤ c.args.job.now.terms)) (sym c.deref.ensures.value)

@@ -1,7 +1,8 @@
 use Rattle.std.proofs.Common.{◌∙◌, subst, sym}
 use Rattle.std.specs.Io.KnownBytes.{Appends}
 use Rattle.outside.specs.Causes.{GainsFront, GainsLess}
-use Rattle.interp_run.proofs.Endings.{ends_judged, ends_unjudged, ends_without}
+use Rattle.interp_run.specs.Due.{IsDue, judged}
+use Rattle.interp_run.proofs.Endings.{ends_judged, ends_unjudged, ends_without, has_text, judged_is}
 use Rattle.interp_run.proofs.OneDue.{checked_owed, unjudged_owed}
 use Rattle.interp_run.proofs.top.judged.Goals as goal
 
@@ -23,16 +24,18 @@ returns-in-Ok-write_whole-clause-write g c = λ e. absurd ((checked_owed c.in-Ok
 
 pub returns-in-Ok-write_whole-clause-ends : goal.returns-in-Ok-write_whole-clause-ends
 returns-in-Ok-write_whole-clause-ends g c = λ job words whole states asked checks is.
+    let text = c.as_bytes.ensures.value ∙ c.as_str.ensures.value in
+    let due = subst (IsDue job c.args.bytes.now) (judged_is c.in-Ok.verdict _ c.text_of.ensures) (c.in-Ok.ensures.ok job checks) in
     rw (c.outcome_after.ensures)
     (ends_judged words whole c.args.bytes.now job asked is (g.K.Sink.held c.args.out.now) (g.K.Sink.held c.write_whole.new.out) states
-    c.in-Ok.verdict (c.in-Ok.ensures.ok job checks)
-    (subst (Appends (g.K.Sink.held c.args.out.now) (g.K.Sink.held c.write_whole.new.out)) (c.as_bytes.ensures.value
-    ∙ (c.as_str.ensures.value ∙ c.text_of.ensures)) c.in-Ok-write_whole.ensures.whole))
+    (judged c.in-Ok.verdict).outcome _ due
+    (subst (Appends (g.K.Sink.held c.args.out.now) (g.K.Sink.held c.write_whole.new.out)) text c.in-Ok-write_whole.ensures.whole))
 
 pub returns-in-Err-write_whole-clause-ends : goal.returns-in-Err-write_whole-clause-ends
 returns-in-Err-write_whole-clause-ends g c = λ job words whole states asked checks is.
-    let text = c.as_bytes.ensures.value ∙ (c.as_str.ensures.value ∙ c.text_of.ensures) in
+    let text = c.as_bytes.ensures.value ∙ c.as_str.ensures.value in
+    let due = subst (IsDue job c.args.bytes.now) (judged_is c.in-Ok.verdict _ c.text_of.ensures) (c.in-Ok.ensures.ok job checks) in
     ends_unjudged words whole c.args.bytes.now job asked is (g.K.Sink.held c.args.out.now) (g.K.Sink.held c.write_whole.new.out) states
-    c.in-Ok.verdict (c.in-Ok.ensures.ok job checks)
+    (judged c.in-Ok.verdict).outcome _ due (has_text c.in-Ok.verdict)
     (subst (GainsFront (g.K.Sink.held c.args.out.now) (g.K.Sink.held c.write_whole.new.out)) text c.in-Err-write_whole.ensures.front)
     (subst (GainsLess (g.K.Sink.held c.args.out.now) (g.K.Sink.held c.write_whole.new.out)) text c.in-Err-write_whole.ensures.less)

@@ -2,6 +2,8 @@ use Rattle.std.proofs.Common.{◌∷◌, ◌++◌, ◌∙◌, ◌+◌, ◌≡◌
 use Rattle.std.proofs.lemmas.Slice.Zip.{zip_turn}
 use Rattle.watch.proofs.LeftAfter.{left_after_all-nil}
 use Rattle.interp_run.proofs.Written.{appends_nothing, page_begun, page_written, on_err, room_for_more, stopped_at, told_more}
+use Rattle.interp_run.specs.Due.{Due}
+use Rattle.interp_run.specs.declared.outcome.Outcome.TheVariants as ends
 use Rattle.interp_run.proofs.top.write_pages.Goals as goal
 
 pub loop-page-init : goal.loop-page-init
@@ -25,10 +27,11 @@ returns-in_err-write_whole-clause-stopped g c =
     let turn = zip_turn c.args.pages.now c.args.notes.now c.loop-page.yielded c.into_iter-page-iterator.result c.loop-page.page-iterator
     c.next.new.self c.next.result (search rules) (search rules) c.loop-page.yielded_by (c.in-Some.page, c.in-Some.note) c.in-Some.is
     c.next.ensures.steps in
+    let due : Due = record { outcome = ends.Done; pages = c.args.pages.now; notes = c.args.notes.now } in
     on_err c.from_residual.result _ c.from_residual.ensures.0
-    (stopped_at (g.K.Sink.held c.args.out.now) (g.K.Sink.held c.loop-page.out) (g.K.Sink.held c.write_whole.new.out) c.args.pages.now
-    c.args.notes.now (length c.loop-page.yielded) c.as_slice.result.now _ _ turn.0 (c.as_slice.ensures
-    ∙ turn.2 c.as_slice.result.now) c.loop-page.invariant.gained c.in_err-write_whole.ensures.less c.loop-page.invariant.told)
+    (stopped_at (g.K.Sink.held c.args.out.now) (g.K.Sink.held c.loop-page.out) (g.K.Sink.held c.write_whole.new.out) due
+    (length c.loop-page.yielded) c.as_slice.result.now _ _ turn.0 (c.as_slice.ensures ∙ turn.2 c.as_slice.result.now)
+    c.loop-page.invariant.gained c.in_err-write_whole.ensures.less c.loop-page.invariant.told)
 
 pub tell-requires : goal.tell-requires
 tell-requires g c =

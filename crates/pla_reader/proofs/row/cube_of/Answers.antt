@@ -1,5 +1,5 @@
 use Rattle.std.proofs.Common.{sym, refl, ap, ◌∙◌, arith, codes}
-use Rattle.pla_reader.specs.Grammar.{symbols, is_input_symbol, is_one_of}
+use Rattle.pla_reader.specs.Grammar.{symbols, is_one_of}
 use Rattle.pla_reader.specs.Reading.{input_mask}
 use Rattle.pla_reader.proofs.Symbols.{symbols_same}
 use Rattle.pla_reader.proofs.Masks.{bit, bit_is, bit_at_most, all_more, not_all, input_more, input_room}
@@ -12,8 +12,8 @@ loop-byte-init c = record { good = refl; care = refl; value = refl }
 
 pub returns-then-not-is_input_symbol : goal.returns-then-not-is_input_symbol
 returns-then-not-is_input_symbol c =
-    rw (not_all is_input_symbol _ _ c.loop-byte-test.true (sym c.is_symbol.ensures ∙ c.if-is_symbol.true) (sym c.is_input_symbol.ensures
-    ∙ c.if-not-is_input_symbol.true)) refl
+    rw (not_all (is_one_of (codes "01-2")) _ _ c.loop-byte-test.true (sym c.is_symbol.ensures ∙ c.if-is_symbol.true)
+    (sym c.is_input_symbol.ensures ∙ c.if-not-is_input_symbol.true)) refl
 
 pub overflow_mul-cube : goal.overflow_mul-cube
 overflow_mul-cube c =
@@ -61,8 +61,8 @@ loop-byte-preserved c =
           let fixed = w.from.ensures ∙ bit_is w.is_fixed.result ∙ ap bit w.is_fixed.ensures in
           let one = w.from-then-is_symbol.ensures ∙ bit_is w.fixes_to_one.result ∙ ap bit w.fixes_to_one.ensures in
           rw w.cube-is (record {
-            good = all_more is_input_symbol _ _ c.loop-byte-test.true here c.loop-byte.invariant.good (sym w.is_input_symbol.ensures
-                ∙ w.if-not-is_input_symbol.false);
+            good = all_more (is_one_of (codes "01-2")) _ _ c.loop-byte-test.true here c.loop-byte.invariant.good
+                (sym w.is_input_symbol.ensures ∙ w.if-not-is_input_symbol.false);
             care = rw fixed (input_more (is_one_of (codes "01")) _ _ _ c.loop-byte-test.true here c.loop-byte.invariant.care);
             value = rw one (input_more (is_one_of (codes "1")) _ _ _ c.loop-byte-test.true here c.loop-byte.invariant.value);
           })

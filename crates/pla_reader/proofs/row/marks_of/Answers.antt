@@ -1,7 +1,7 @@
 use Rattle.pla_reader.specs.Description.{has_off, has_dc}
 use Rattle.std.proofs.Common.{sym, refl, ap, ◌∙◌, arith, codes, ◌&&◌}
 use Rattle.std.proofs.lemmas.List.{take_all}
-use Rattle.pla_reader.specs.Grammar.{symbols, is_output_symbol, is_one_of}
+use Rattle.pla_reader.specs.Grammar.{symbols, is_one_of}
 use Rattle.pla_reader.specs.Reading.{output_mask}
 use Rattle.pla_reader.proofs.Symbols.{symbols_same, counted_more_yes}
 use Rattle.pla_reader.proofs.Masks.{bit, bit_is, few_yes, all_more, not_all, output_more}
@@ -14,8 +14,8 @@ loop-byte-init c = record { good = refl; place = refl; on = refl; off = refl; dc
 
 pub returns-then-not-is_output_symbol : goal.returns-then-not-is_output_symbol
 returns-then-not-is_output_symbol c =
-    rw (not_all is_output_symbol _ _ c.loop-byte-test.true (sym c.is_symbol.ensures ∙ c.if-is_symbol.true) (sym c.is_output_symbol.ensures
-    ∙ c.if-not-is_output_symbol.true)) refl
+    rw (not_all (is_one_of (codes "01-~24")) _ _ c.loop-byte-test.true (sym c.is_symbol.ensures ∙ c.if-is_symbol.true)
+    (sym c.is_output_symbol.ensures ∙ c.if-not-is_output_symbol.true)) refl
 
 pub overflow_shl-marks : goal.overflow_shl-marks
 overflow_shl-marks c =
@@ -63,8 +63,8 @@ loop-byte-preserved c =
           let off = w.from-then-is_symbol.ensures ∙ bit_is w.is_off.result ∙ ap bit w.is_off.ensures in
           let dc = w.from-then-is_symbol-2.ensures ∙ bit_is w.is_dc.result ∙ ap bit w.is_dc.ensures in
           rw (w.marks-is, w.place-is) (record {
-            good = all_more is_output_symbol _ _ c.loop-byte-test.true here c.loop-byte.invariant.good (sym w.is_output_symbol.ensures
-                ∙ w.if-not-is_output_symbol.false);
+            good = all_more (is_one_of (codes "01-~24")) _ _ c.loop-byte-test.true here c.loop-byte.invariant.good
+                (sym w.is_output_symbol.ensures ∙ w.if-not-is_output_symbol.false);
             place = omega (arith, counted_more_yes _ _ c.loop-byte-test.true here);
             on = rw on (output_more (is_one_of (codes "14")) _ _ _ _ c.loop-byte-test.true c.requires here c.loop-byte.invariant.place
                 c.loop-byte.invariant.on);

@@ -7,8 +7,8 @@ pub least-requires-clause-disjoint : goal.least-requires-clause-disjoint
 least-requires-clause-disjoint g c =
     listed_apart c.args.inputs (g.S.Store.state c.family_of-2.new.store) c.in_ok-zeros.zeros c.in_ok-ones.ones
     c.args.zeros.now c.args.ones.now
-    (c.family_of-2.ensures.grows.known c.in_ok-zeros.zeros.0 _ c.in_ok-zeros.ensures.members)
-    c.in_ok-ones.ensures.members c.requires.points.disjoint
+    (c.family_of-2.ensures.grows.known c.in_ok-zeros.zeros.0 _ c.in_ok-zeros.ensures.ok)
+    c.in_ok-ones.ensures.ok c.requires.points.disjoint
 
 pub least-requires-clause-planned : goal.least-requires-clause-planned
 least-requires-clause-planned g c =

@@ -4,5 +4,5 @@ use Rattle.unique_table.proofs.TestedStores.{any_first}
 use Rattle.unique_table.proofs.tests.full_after_the_last_slot.Goals as goal
 
 pub handles-requires : goal.handles-requires
-handles-requires g c = any_first (pass_state c.pass-pass.result) _ 4 3 _ (c.pass-pass.ensures ∙ c.in_ok-table.ensures.state)
+handles-requires g c = any_first (pass_state c.pass-pass.result) _ 4 3 _ (c.pass-pass.ensures.state ∙ c.in_ok-table.ensures.state)
     c.any_plan.ensures

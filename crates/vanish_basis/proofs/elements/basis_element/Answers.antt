@@ -1,29 +1,42 @@
 use Rattle.node_store.proofs.StoreLaws.{failed}
-use Rattle.vanish_basis.proofs.LeadElements.{call_of, normal_planned, normal_reads, lead_planned, element_planned, element_gives}
-use Rattle.vanish_basis.proofs.LeadElements.{element_right}
+use Rattle.vanish_basis.proofs.LeadElements.{call_of, lead_planned, ones_planned, lead_reads, tail_planned, ones_reads}
+use Rattle.vanish_basis.proofs.LeadElements.{element_planned, element_gives, element_right}
 use Rattle.vanish_basis.proofs.elements.basis_element.Goals as goal
-
-pub normal_form_of-requires-clause-planned : goal.normal_form_of-requires-clause-planned
-normal_form_of-requires-clause-planned g c =
-    normal_planned (call_of c.args.m c.args.points (g.met.S.Store.sound c.args.store.now) c.requires)
 
 pub one-requires-clause-planned : goal.one-requires-clause-planned
 one-requires-clause-planned g c =
-    lead_planned (call_of c.args.m c.args.points (g.met.S.Store.sound c.args.store.now) c.requires) c.in_ok-tail.ensures.gives
+    lead_planned (call_of c.args.m c.args.points (g.met.S.Store.sound c.args.store.now) c.requires)
 
-pub returns-in_err-lead-clause-gives : goal.returns-in_err-lead-clause-gives
-returns-in_err-lead-clause-gives g c =
+pub ones_of-requires-clause-planned : goal.ones_of-requires-clause-planned
+ones_of-requires-clause-planned g c =
+    ones_planned (call_of c.args.m c.args.points (g.met.S.Store.sound c.args.store.now) c.requires) c.in_ok-lead.ensures
+
+pub returns-in_err-ones-clause-gives : goal.returns-in_err-ones-clause-gives
+returns-in_err-ones-clause-gives g c =
     let call = call_of c.args.m c.args.points (g.met.S.Store.sound c.args.store.now) c.requires in
-    failed c.from_residual-in_err-lead.ensures.0 (normal_reads call c.in_ok-tail.ensures.gives)
-    c.in_err-lead.ensures
+    failed c.from_residual-in_err-ones.ensures.0 (lead_reads call c.in_ok-lead.ensures) c.in_err-ones.ensures.result
+
+pub least_by-requires-clause-planned : goal.least_by-requires-clause-planned
+least_by-requires-clause-planned g c =
+    let call = call_of c.args.m c.args.points (g.met.S.Store.sound c.args.store.now) c.requires in
+    tail_planned call c.in_ok-lead.ensures (g.met.S.Store.sound c.ones_of.new.store) c.in_ok-ones.ensures.result
+
+pub returns-in_err-tail-clause-gives : goal.returns-in_err-tail-clause-gives
+returns-in_err-tail-clause-gives g c =
+    let call = call_of c.args.m c.args.points (g.met.S.Store.sound c.args.store.now) c.requires in
+    failed c.from_residual-in_err-tail.ensures.0
+    (ones_reads call c.in_ok-lead.ensures (g.met.S.Store.sound c.ones_of.new.store) c.in_ok-ones.ensures.result)
+    c.in_err-tail.ensures.result
 
 pub xor-requires-clause-planned : goal.xor-requires-clause-planned
 xor-requires-clause-planned g c =
     let call = call_of c.args.m c.args.points (g.met.S.Store.sound c.args.store.now) c.requires in
-    element_planned call c.in_ok-tail.ensures.gives c.in_ok-lead.ensures
+    element_planned call c.in_ok-lead.ensures (g.met.S.Store.sound c.ones_of.new.store) c.in_ok-ones.ensures.result
+    (g.met.S.Store.sound c.least_by.new.store) c.in_ok-tail.ensures.result
 
 pub returns : goal.returns
 returns g c =
     let call = call_of c.args.m c.args.points (g.met.S.Store.sound c.args.store.now) c.requires in
-    let gives = element_gives call c.in_ok-tail.ensures.gives c.in_ok-lead.ensures c.xor.result c.xor.ensures.result in
+    let gives = element_gives call c.in_ok-lead.ensures (g.met.S.Store.sound c.ones_of.new.store) c.in_ok-ones.ensures.result
+    (g.met.S.Store.sound c.least_by.new.store) c.in_ok-tail.ensures.result c.xor.result c.xor.ensures.result in
     record { gives = gives; element = element_right call c.xor.result gives; ready = c.xor.ensures.ready }

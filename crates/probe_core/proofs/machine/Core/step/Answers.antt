@@ -12,3 +12,11 @@ returns-in-Split-clause-sound c = stays_sound _ _ _ _ _ c.in-Split.is c.requires
 
 pub returns-in-Join-clause-sound : goal.returns-in-Join-clause-sound
 returns-in-Join-clause-sound c = stays_sound _ _ _ _ _ c.in-Join.is c.requires c.join.ensures.after c.join.ensures.memory
+
+pub returns-in-CacheLoad-clause-sound : goal.returns-in-CacheLoad-clause-sound
+returns-in-CacheLoad-clause-sound c = stays_sound _ _ _ _ _ c.in-CacheLoad.is c.requires c.cache_load.ensures.after
+    c.cache_load.ensures.memory
+
+pub returns-in-CacheStore-clause-sound : goal.returns-in-CacheStore-clause-sound
+returns-in-CacheStore-clause-sound c = stays_sound _ _ _ _ _ c.in-CacheStore.is c.requires c.cache_store.ensures.after
+    c.cache_store.ensures.memory

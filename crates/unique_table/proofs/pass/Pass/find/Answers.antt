@@ -7,7 +7,7 @@ use Rattle.unique_table.proofs.pass.Pass.find.Goals as goal
 
 pub loop-steps-init : goal.loop-steps-init
 loop-steps-init c = (
-  record { id = refl; bits = refl; vars = refl },
+  record { id = refl; bits = refl; vars = refl; steps = refl },
   walked_none c.args.self.now.seat.me.0 c.args.word
       c.args.self.now.sound,
 )
@@ -40,7 +40,7 @@ loop-steps-preserved c =
     let one = c.loop-steps.invariant.0 in
     let two = c.visit-slot.ensures.same in
     let bits = p.sizes.0 ∙ sym one.bits in (
-      record { id = two.id ∙ one.id; bits = two.bits ∙ one.bits; vars = two.vars ∙ one.vars },
+      record { id = two.id ∙ one.id; bits = two.bits ∙ one.bits; vars = two.vars ∙ one.vars; steps = two.steps ∙ one.steps },
       walked_more p.seat.me.0 c.args.word d (d + 1 == 2 ^ q.bits) q.seat.me.0 c.visit-slot.new.self.seat.me.0 less
           (at_end p.seat.me.0.terms.bits q.bits d bits)
           (before_end p.seat.me.0.terms.bits q.bits d bits less)

@@ -2,8 +2,8 @@ use Rattle.unique_table.proofs.Probed.{inside_words}
 use Rattle.std.proofs.Common.{rules, ap, ◌∙◌, sym}
 use Rattle.std.proofs.lemmas.Nat.{pow_pos}
 use Rattle.unique_table.specs.Views.{view_state}
-use Rattle.unique_table.specs.PassOf.{pass_state}
-use Rattle.unique_table.proofs.Unions.{unites, table_same, joined_is}
+use Rattle.unique_table.specs.PassOf.{pass_state, pass_steps}
+use Rattle.unique_table.proofs.Unions.{unites, table_same, joined_is, joined_steps}
 use Rattle.unique_table.proofs.Steps.{checks}
 use Rattle.unique_table.proofs.pass.Pass.join.Goals as goal
 
@@ -24,6 +24,10 @@ load-requires c = (
   checks _ _ (search rules) _ _ _,
 )
 
-pub returns : goal.returns
+pub returns-clause-joined : goal.returns-clause-joined
 unfolding pass_state
-returns c = joined_is _ _ _ _ _ _ (search rules) (search rules) (search rules)
+returns-clause-joined c = joined_is _ _ _ _ _ _ (search rules) (search rules) (search rules)
+
+pub returns-clause-steps : goal.returns-clause-steps
+unfolding pass_steps
+returns-clause-steps c = joined_steps c.args.self.now.seat.me.0 c.args.other.seat.me.0 c.load.new.seat.me.0 (search rules)

@@ -1,6 +1,6 @@
 use Rattle.std.proofs.Common.{refl}
 use Rattle.unique_table.specs.Views.{name_of}
-use Rattle.unique_table.specs.PassOf.{pass_state}
+use Rattle.unique_table.specs.PassOf.{pass_state, pass_steps}
 use Rattle.unique_table.proofs.Interning.{packable, asked_for, found_builds, found_same, found_entries, full_builds, full_entries}
 use Rattle.unique_table.proofs.pass.PassStore.intern.Goals as goal
 
@@ -43,3 +43,11 @@ unfolding pass_state
 returns-in-None-clause-history c = let p = c.args.self.now in let q = c.find.new.self in
     full_entries p.seat.table_id q.seat.table_id p.seat.me.0 q.seat.me.0 c.args.n.now c.in-None.ensures.same.id p.sound c.requires.node
     c.pack-word.result c.pack-word.ensures c.in-None.ensures.none
+
+pub returns-in-Some-clause-steps : goal.returns-in-Some-clause-steps
+unfolding pass_steps
+returns-in-Some-clause-steps c = c.in-Some.ensures.same.steps
+
+pub returns-in-None-clause-steps : goal.returns-in-None-clause-steps
+unfolding pass_steps
+returns-in-None-clause-steps c = c.in-None.ensures.same.steps

@@ -1,6 +1,6 @@
 use Rattle.node_store.specs.Stores.{family}
 use Rattle.unique_table.specs.Views.{view_state, name_of}
-use Rattle.unique_table.specs.PassOf.{pass_state}
+use Rattle.unique_table.specs.PassOf.{pass_state, pass_steps}
 use Rattle.unique_table.proofs.Nodes.{known_of, node_reads, node_constant, node_found, node_family_is, node_met, node_nothing}
 use Rattle.unique_table.proofs.pass.PassStore.node.Goals as goal
 
@@ -47,3 +47,7 @@ unfolding pass_state
 returns-clause-nothing c = let p = c.args.self.now in let q = c.word_at-word.new.self in
     node_nothing p.seat.table_id q.seat.table_id p.seat.me.0 q.seat.me.0 c.args.h c.word_at-word.ensures.same.id c.if-h-lt2.false
     c.requires c.word_at-word.result c.word_at-word.ensures.meets c.unpack.result c.unpack.ensures.some c.unpack.ensures.none
+
+pub returns-clause-steps : goal.returns-clause-steps
+unfolding pass_steps
+returns-clause-steps c = c.word_at-word.ensures.same.steps

@@ -1,0 +1,113 @@
+#!/usr/bin/env python3
+"""Measures interp beside BRiAl, and compares what they print.
+
+    run.py [--runs N] [--workers N,N..] [--program PATH] [--also PATH] [FILE..]
+
+It makes the files (make_files.py), builds the driver (brial_driver.cpp) where Debian's packages libbrial-dev and
+libbrial-groebner-dev are installed, runs each program on each file in turn, N times, and prints a table: the least time of
+each in milliseconds, start and reading included, the peak memory of the first column, and the answer's bytes. --also names a
+second build of interp, to compare with.
+"""
+
+import argparse
+import hashlib
+import os
+import pathlib
+import subprocess
+import sys
+import tempfile
+import time
+
+import make_files
+
+HERE = pathlib.Path(__file__).resolve().parent
+LIMIT = 120
+
+
+def driver(folder):
+    """The driver's path, or None where BRiAl is not installed."""
+    path = folder / "brial"
+    words = ["g++", "-O2", "-std=c++14", "-w", str(HERE / "brial_driver.cpp"), "-o", str(path)]
+    words += ["-lbrial_groebner", "-lbrial", "-lm4ri"]
+    built = subprocess.run(words, stderr=subprocess.PIPE, check=False)
+    return path if built.returncode == 0 else None
+
+
+def run(words, file):
+    """The milliseconds, kilobytes, status, and the bytes with their sum, of one run."""
+    with tempfile.TemporaryFile() as out, open(file, "rb") as text:
+        begun = time.monotonic()
+        child = subprocess.Popen(words, stdin=text, stdout=out, stderr=subprocess.DEVNULL)
+        while True:
+            ended, status, used = os.wait4(child.pid, os.WNOHANG)
+            if ended:
+                break
+            if time.monotonic() - begun > LIMIT:
+                child.kill()
+            time.sleep(0.0005)
+        spent = (time.monotonic() - begun) * 1000
+        child.returncode = os.waitstatus_to_exitcode(status)
+        out.seek(0)
+        answer = out.read()
+    return spent, used.ru_maxrss, child.returncode, len(answer), hashlib.sha256(answer).hexdigest()
+
+
+def commands(options, mode, brial):
+    """The columns of the table: a name and the words of a command."""
+    found = [(f"interp, {n}", [options.program, mode, "--workers", n]) for n in options.workers.split(",")]
+    if options.also:
+        found.append(("also", [options.also, mode]))
+    if brial:
+        found.append(("BRiAl", [str(brial), mode]))
+    return found
+
+
+def measure(columns, file, runs):
+    """For each column the least time, and the first run's other results."""
+    results = [run(words, file) for _, words in columns]
+    times = [result[0] for result in results]
+    for _ in range(runs - 1):
+        times = [min(least, run(words, file)[0]) for least, (_, words) in zip(times, columns)]
+    return times, results
+
+
+def row(name, mode, times, results):
+    """A line of the table, and whether all that solved the file printed the same."""
+    cells = [f"{spent:.0f}" if result[2] == 0 else f"status {result[2]}" for spent, result in zip(times, results)]
+    sums = {result[4] for result in results if result[2] == 0}
+    memory, answer = results[0][1] / 1024, results[0][3]
+    print(f"| `{name}` | {mode} | {' | '.join(cells)} | {memory:.0f} | {answer} |", flush=True)
+    return len(sums) <= 1
+
+
+def main():
+    parser = argparse.ArgumentParser()
+    parser.add_argument("--runs", type=int, default=3)
+    parser.add_argument("--workers", default="1,2,4")
+    parser.add_argument("--program", default=str(HERE.parent / "interp"))
+    parser.add_argument("--also")
+    parser.add_argument("files", nargs="*")
+    options = parser.parse_args()
+    with tempfile.TemporaryDirectory() as folder:
+        folder = pathlib.Path(folder)
+        brial = driver(folder)
+        if brial is None:
+            print("BRiAl is not installed: the table is without it", file=sys.stderr)
+        heads = [name for name, _ in commands(options, "", brial)]
+        print(f"| file | mode | {' | '.join(heads)} | MB | bytes |\n|{'---|' * (len(heads) + 4)}")
+        different = []
+        for name, (mode, make) in make_files.FILES.items():
+            if options.files and name not in options.files:
+                continue
+            path = folder / f"{name}.pla"
+            path.write_text(make())
+            columns = commands(options, mode, brial)
+            if not row(name, mode, *measure(columns, path, options.runs)):
+                different.append(name)
+    for name in different:
+        print(f"{name}: what is printed differs", file=sys.stderr)
+    return 1 if different else 0
+
+
+if __name__ == "__main__":
+    sys.exit(main())

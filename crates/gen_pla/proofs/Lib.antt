@@ -1,0 +1,2 @@
+mod Progression
+mod Consistency

@@ -1,0 +1,11 @@
+//! A counter whose numbers threads draw, each once.
+#![tactic(auto)]
+
+mod counter;
+mod plays;
+mod view;
+
+pub use crate::counter::{Counter, Drawer};
+
+#[cfg(test)]
+mod tests;
