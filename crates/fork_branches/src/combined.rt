@@ -96,8 +96,8 @@ fn combine_on<R: Threads + Sync, G: Gate + Sync>(
     (pass.end().end(), r)
 }
 
-// Both halves: in two branches where there are workers for them and no operation met a later variable before, and else one after
-// the other.
+// Both halves: in two branches where there are workers for them and each operation before began at a later variable, and else
+// one after the other.
 #[cycle(combined)]
 fn combine_halves<R: Threads + Sync, G: Gate + Sync>(
     rt: &R,
@@ -114,14 +114,14 @@ fn combine_halves<R: Threads + Sync, G: Gate + Sync>(
     requires high { Asks op (cached_state store.old) c.a_high c.b_high }
     ensures { CombinesBoth op (cached_state store.old) (cached_state store.new) c.a_low c.b_low c.a_high c.b_high result }
 {
-    if workers < 2 || *first < c.var {
+    if workers < 2 || *first <= c.var {
         return combine_in_row(store, op, c);
     }
     *first = c.var;
     combine_both(rt, gate, workers, store, op, c)
 }
 
-/// The result of a pointwise operation, by as many workers. It forks where its first variable is at most `first`, which it
+/// The result of a pointwise operation, by as many workers. It forks where its first variable is before `first`, which it
 /// lowers to that variable then.
 #[cycle(combined)]
 pub(crate) fn combine_in<R: Threads + Sync, G: Gate + Sync>(

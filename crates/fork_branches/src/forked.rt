@@ -12,9 +12,9 @@ use std::thread::Threads;
 
 /// The set operations, each in as many branches as there are workers.
 ///
-/// An operation forks where there are two workers or more, it goes on into two halves, and its first variable is at most the first
-/// variable of every operation that went on into halves before it. So the first such operation forks, and of a recursion over the
-/// variables only the operations of its first level do: a fork costs as much as some thousand nodes. Of the workers the first
+/// An operation forks where there are two workers or more, it goes on into two halves, and its first variable is before the first
+/// variable of every operation that went on into halves before it. So the first such operation forks, and few others do, at most
+/// one for each variable: a fork costs as much as some thousand nodes. Of the workers the first
 /// half gets those that the second half, with half of them rounded down, leaves. Each branch works on a pass of its own, which
 /// was split from that of the caller and is joined to it after both branches, and enters the gate first: place 0 in the first
 /// branch, and place 1 in the second. It takes no memory.

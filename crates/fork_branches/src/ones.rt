@@ -134,8 +134,8 @@ fn with_in<R: Threads + Sync, G: Gate + Sync>(
     ones_in(rt, gate, workers, &mut first, store, with, points)
 }
 
-// Both halves: in two branches where there are workers for them and no operation met a later variable before, and else one after
-// the other.
+// Both halves: in two branches where there are workers for them and each operation before began at a later variable, and else
+// one after the other.
 #[cycle(ones)]
 fn ones_halves<R: Threads + Sync, G: Gate + Sync>(
     rt: &R,
@@ -150,14 +150,14 @@ fn ones_halves<R: Threads + Sync, G: Gate + Sync>(
     requires high { AsksWith (cached_state store.old) c.a_low c.a_high c.b_high }
     ensures { FindsBoth (cached_state store.old) (cached_state store.new) c.a_low c.b_low c.a_high c.b_high result }
 {
-    if workers < 2 || *first < c.var {
+    if workers < 2 || *first <= c.var {
         return ones_in_row(store, c);
     }
     *first = c.var;
     ones_both(rt, gate, workers, store, c)
 }
 
-/// The points of `set` at which the polynomial `h` is 1, by as many workers. It forks where the first variable of both is at most
+/// The points of `set` at which the polynomial `h` is 1, by as many workers. It forks where the first variable of both is before
 /// `first`, which it lowers to that variable then.
 #[cycle(ones)]
 pub(crate) fn ones_in<R: Threads + Sync, G: Gate + Sync>(

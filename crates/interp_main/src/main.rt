@@ -7,7 +7,7 @@ ghost use Rattle.watch.specs.Notes.{states_by};
 
 use interp_run::{Outcome, report, run};
 use lattice::{Memory, Words};
-use outside::{StdSink, StdSource};
+use outside::{Rendezvous, StdSink, StdSource};
 use std::alloc::Global;
 use std::io::Stderr;
 use std::process::ExitCode;
@@ -44,29 +44,31 @@ fn alone(alloc: Global, watcher: Box<dyn Watch>) -> Result<Vec<Box<dyn Watch>>, 
     Ok(watchers)
 }
 
-// Runs on the standard streams, with one watcher that writes lines of progress to standard error; or there was no memory
-// before the run.
-fn run_on(rt: &HostRuntime, err: &mut StdSink<Stderr>) -> Result<u8, Memory> {
-    let words = words_of(rt)?;
+// There was no memory before the run.
+fn without_memory(err: &mut StdSink<Stderr>) -> ExitCode {
+    ExitCode::from(report(err, Outcome::Memory))
+}
+
+// Runs on the standard streams, with one watcher that writes lines of progress to standard error. Its branches wait at no gate.
+fn main(rt: HostRuntime) -> ExitCode {
+    let mut err = StdSink::new(rt.stderr());
     let lines = Lines::new(StdSink::new(rt.stderr()), PATIENCE);
-    let mut watchers = alone(rt.alloc(), Box::new(rt.alloc(), lines)?)?;
+    let Ok(lines) = Box::new(rt.alloc(), lines) else {
+        return without_memory(&mut err);
+    };
+    let (Ok(words), Ok(mut watchers)) = (words_of(&rt), alone(rt.alloc(), lines)) else {
+        return without_memory(&mut err);
+    };
     let mut source = StdSource::new(rt.stdin());
     let mut out = StdSink::new(rt.stdout());
-    Ok(run(
+    ExitCode::from(run(
+        &rt,
         rt.alloc(),
         &words,
         &mut source,
         &mut out,
-        err,
+        &mut err,
+        &Rendezvous::open(),
         &mut watchers,
     ))
-}
-
-fn main(rt: HostRuntime) -> ExitCode {
-    let mut err = StdSink::new(rt.stderr());
-    let status = match run_on(&rt, &mut err) {
-        Ok(status) => status,
-        Err(Memory) => report(&mut err, Outcome::Memory),
-    };
-    ExitCode::from(status)
 }

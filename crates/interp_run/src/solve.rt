@@ -20,13 +20,16 @@ use crate::phases::{Found, Solved, Stop, first_phase, second_phase};
 use crate::plan::run_plan;
 use crate::printed::shown_of;
 use anf_printer::Shown;
-use bool_poly::{Serial, SetOps};
+use bool_poly::SetOps;
 use cli_words::Job;
 use computed_cache::CachedPass;
+use fork_branches::Forked;
 use lattice::Memory;
 use node_store::Store;
+use outside::Rendezvous;
 use pla_reader::Pla;
 use std::alloc::Global;
+use std::thread::Threads;
 use unique_table::Shared;
 
 // What phase 1 finds of each output, where its terms are within the limit.
@@ -97,9 +100,17 @@ fn solve_in<S: Store, O: SetOps<S>>(
     Ok(shown)
 }
 
-/// What is printed of each output of a consistent description, or how the run ends without it.
-pub(crate) fn solve(alloc: Global, pla: &Pla, job: &Job) -> Result<Vec<Shown>, Outcome>
+/// What is printed of each output of a consistent description, or how the run ends without it. The set operations are done by
+/// the job's number of workers, whose branches enter the gate.
+pub(crate) fn solve<R: Threads + Sync>(
+    rt: &R,
+    alloc: Global,
+    gate: &Rendezvous,
+    pla: &Pla,
+    job: &Job,
+) -> Result<Vec<Shown>, Outcome>
     requires mode { (job.now.mode ≡ Anf) ⊎ (job.now.mode ≡ Basis) }
+    requires workers { (1 ≤ job.now.workers) × (job.now.workers ≤ 16) }
     requires nodes { (MIN_BITS ≤ job.now.nodes) × (job.now.nodes ≤ MAX_BITS) }
     requires consistent { IsConsistent pla.now.inputs pla.now.outputs pla.now.rows }
     ensures ok { IfOk result (λ shown. AreAnswers (description pla.now) job.now.mode (map answer_of shown.items) × IsDueSolving job.now (description pla.now) (solved job.now (description pla.now) (map answer_of shown.items))) }
@@ -110,7 +121,8 @@ pub(crate) fn solve(alloc: Global, pla: &Pla, job: &Job) -> Result<Vec<Shown>, O
         return Err(Outcome::Memory);
     };
     let mut pass = CachedPass::new(table.pass(token));
-    match solve_in(alloc, &mut pass, &mut Serial, pla, job) {
+    let mut ops = Forked::new(rt, gate, job.workers);
+    match solve_in(alloc, &mut pass, &mut ops, pla, job) {
         Ok(shown) => Ok(shown),
         Err(Stop::Full) => Err(Outcome::Exhausted {
             nodes: 1 << job.nodes,

@@ -3,13 +3,20 @@ ghost use Rattle.watch.specs.Notes.{states_by};
 
 use crate::run;
 use lattice::Words;
-use outside::{MemSink, MemSource};
+use outside::{MemSink, MemSource, Rendezvous};
 use std::alloc::{AllocError, Global};
 use std::process::Abort;
 use std::test::Fail;
+use std::thread::Threads;
 use watch::{Tally, Watch};
 
 const NEVER: u64 = 1_000_000;
+
+const ADDER: &str =
+    "# full adder\n.i 3\n.o 2\n.ilb a b cin\n.ob s c\n.p 7\n001 10\n010 10\n100 10\n111 11\n011 01\n101 01\n110 01\n.e\n";
+
+// The answer of the full adder.
+const SUMS: &str = "s = a + b + cin\nc = a*b + a*cin + b*cin\n";
 
 fn words_of(alloc: Global, line: &str) -> Result<Words, Fail> {
     let mut words = Words::new(alloc);
@@ -19,10 +26,12 @@ fn words_of(alloc: Global, line: &str) -> Result<Words, Fail> {
     Ok(words)
 }
 
-// Runs the words on a text, of which one read and one write may fail, and compares the status, the answer and the message.
-fn check(
-    rt: &impl Abort,
+// Runs the words on a text with a gate, where one read and one write may fail, and compares the status, the answer and the
+// message.
+fn check_at<R: Threads + Abort + Sync>(
+    rt: &R,
     alloc: Global,
+    gate: &Rendezvous,
     line: &str,
     text: &str,
     fails: (u64, u64),
@@ -33,11 +42,13 @@ fn check(
     let mut out = MemSink::make(alloc, 200, 4, &[fails.1]).map_err(|_| "memory")?;
     let mut err = MemSink::make(alloc, 200, 7, &[]).map_err(|_| "memory")?;
     let status = run(
+        rt,
         alloc,
         &words,
         &mut source,
         &mut out,
         &mut err,
+        gate,
         &mut Vec::new(alloc),
     );
     assert_eq!(rt; status, want.0, "{line} at {text}");
@@ -46,8 +57,20 @@ fn check(
     Ok(())
 }
 
-fn answers(
-    rt: &impl Abort,
+// The same with a gate where nobody waits.
+fn check<R: Threads + Abort + Sync>(
+    rt: &R,
+    alloc: Global,
+    line: &str,
+    text: &str,
+    fails: (u64, u64),
+    want: (u8, &str, &str),
+) -> Result<(), Fail> {
+    check_at(rt, alloc, &Rendezvous::open(), line, text, fails, want)
+}
+
+fn answers<R: Threads + Abort + Sync>(
+    rt: &R,
     alloc: Global,
     line: &str,
     text: &str,
@@ -124,21 +147,52 @@ fn bases(rt: HostRuntime) -> Result<(), Fail> {
 #[test]
 fn names_and_many_outputs(rt: HostRuntime) -> Result<(), Fail> {
     let alloc = rt.alloc();
-    let adder =
-        "# full adder\n.i 3\n.o 2\n.ilb a b cin\n.ob s c\n.p 7\n001 10\n010 10\n100 10\n111 11\n011 01\n101 01\n110 01\n.e\n";
     let carriage_returns =
         "# full adder\r\n.i 3\r\n.o 2\r\n.ilb a b cin\r\n.ob s c\r\n.p 7\r\n001 10\r\n010 10\r\n100 10\r\n111 11\r\n011 01\r\n101 01\r\n110 01\r\n.e\r\n";
-    let sums = "s = a + b + cin\nc = a*b + a*cin + b*cin\n";
-    for text in [adder, carriage_returns] {
-        answers(&rt, alloc, "interp anf", text, sums)?;
+    for text in [ADDER, carriage_returns] {
+        answers(&rt, alloc, "interp anf", text, SUMS)?;
     }
-    answers(&rt, alloc, "interp anf --workers 8", adder, sums)?;
     let pair = ".i 2\n.o 2\n.type fr\n11 1-\n00 00\n10 -1\n";
     answers(&rt, alloc, "interp anf", pair, "f1 = x2\nf2 = x1\n")?;
     let numbers = ".i 2\n.o 1\n.ilb 0 1\n10 1\n01 1\n";
     answers(&rt, alloc, "interp anf", numbers, "f1 = x1 + x2\n")?;
     let unknown = ".i 2\n.o 1 # one\n.type fr\n.topology x\n1 1 | 1\n";
     answers(&rt, alloc, "interp anf", unknown, "f1 = 1\n")
+}
+
+#[test]
+fn any_number_of_workers(rt: HostRuntime) -> Result<(), Fail> {
+    let alloc = rt.alloc();
+    for line in [
+        "interp anf --workers 1",
+        "interp anf --workers 2",
+        "interp anf --workers 8",
+        "interp anf --workers 16",
+    ] {
+        answers(&rt, alloc, line, ADDER, SUMS)?;
+    }
+    Ok(())
+}
+
+// With two workers the branches of an operation are at their starts at one time: each waits at the gate until it has seen the
+// other. A body that runs both branches on one thread, or that drops the workers or the gate, gives the same text and fails here.
+#[test]
+fn branches_meet(rt: HostRuntime) -> Result<(), Fail> {
+    let parity = ".i 3\n.o 1\n001 1\n010 1\n100 1\n111 1\n";
+    for (text, answer) in [(ADDER, SUMS), (parity, "f1 = x1 + x2 + x3\n")] {
+        let gate = Rendezvous::waiting(100_000_000);
+        check_at(
+            &rt,
+            rt.alloc(),
+            &gate,
+            "interp anf --workers 2",
+            text,
+            (NEVER, NEVER),
+            (0, answer, ""),
+        )?;
+        assert!(rt; gate.met(), "branches of {text}");
+    }
+    Ok(())
 }
 
 #[test]
@@ -378,11 +432,13 @@ fn too_long(rt: HostRuntime) -> Result<(), Fail> {
     let mut err = MemSink::make(alloc, 200, 7, &[]).map_err(|_| "memory")?;
     assert_eq!(rt;
         run(
+            &rt,
             alloc,
             &words,
             &mut source,
             &mut out,
             &mut err,
+            &Rendezvous::open(),
             &mut Vec::new(alloc)
         ),
         10
@@ -412,8 +468,8 @@ fn pair(
 
 // Runs on two outputs with two watchers, of which one has patience for one output and one for five, where one write may
 // fail, and compares the status, the number of watchers that are left and the terms that the last of them was told.
-fn check_told(
-    rt: &impl Abort,
+fn check_told<R: Threads + Abort + Sync>(
+    rt: &R,
     alloc: Global,
     fails: u64,
     want: (u8, usize, u64),
@@ -427,11 +483,13 @@ fn check_told(
     let second = Box::new(alloc, Tally::new(5))?;
     let mut watchers = pair(alloc, first, second)?;
     let status = run(
+        rt,
         alloc,
         &words,
         &mut source,
         &mut out,
         &mut err,
+        &Rendezvous::open(),
         &mut watchers,
     );
     assert_eq!(rt; status, want.0);

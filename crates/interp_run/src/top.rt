@@ -23,8 +23,9 @@ use crate::solve::solve;
 use anf_printer::{Shown, answer_text};
 use cli_words::{Job, WordsRefusal, read_words};
 use lattice::{Memory, Mode, Pages, Text, Words};
-use outside::{Failed, ReadStop, Sink, Source, read_up_to, write_whole};
+use outside::{Failed, ReadStop, Rendezvous, Sink, Source, read_up_to, write_whole};
 use std::alloc::{AllocError, Global};
+use std::thread::Threads;
 use watch::{Note, Watch, tell};
 
 /// The texts of the outputs, and what the watchers are told of each.
@@ -51,8 +52,15 @@ fn notes_of(alloc: Global, shown: &[Shown]) -> Result<Vec<Note>, AllocError>
 }
 
 // The answer to a job on the bytes, or how the run ends without it.
-fn answer_to(alloc: Global, job: &Job, bytes: &[u8]) -> Result<Writing, Outcome>
+fn answer_to<R: Threads + Sync>(
+    rt: &R,
+    alloc: Global,
+    gate: &Rendezvous,
+    job: &Job,
+    bytes: &[u8],
+) -> Result<Writing, Outcome>
     requires mode { (job.now.mode ≡ Anf) ⊎ (job.now.mode ≡ Basis) }
+    requires workers { (1 ≤ job.now.workers) × (job.now.workers ≤ 16) }
     requires nodes { (MIN_BITS ≤ job.now.nodes) × (job.now.nodes ≤ MAX_BITS) }
     ensures ok { IfOk result (λ w. IsDue job.now bytes.now (record { outcome = outcomes.Done; pages = w.pages; notes = w.notes.items })) }
     ensures few { IfOk result (λ w. (length w.notes.items ≡ length w.pages) × (length w.pages ≤ 64)) }
@@ -62,7 +70,7 @@ fn answer_to(alloc: Global, job: &Job, bytes: &[u8]) -> Result<Writing, Outcome>
     if let Some(outcome) = contradiction_of(&pla) {
         return Err(outcome);
     }
-    let shown = solve(alloc, &pla, job)?;
+    let shown = solve(rt, alloc, gate, &pla, job)?;
     let Ok(notes) = notes_of(alloc, &shown) else {
         return Err(Outcome::Memory);
     };
@@ -96,14 +104,17 @@ fn write_pages<K: Sink>(
 }
 
 // Solves the description, and writes the answer.
-fn solved<K: Sink>(
+fn solved<R: Threads + Sync, K: Sink>(
+    rt: &R,
     alloc: Global,
+    gate: &Rendezvous,
     job: &Job,
     bytes: &[u8],
     out: &mut K,
     watchers: &mut Vec<Box<dyn Watch>>,
 ) -> Outcome
     requires mode { (job.now.mode ≡ Anf) ⊎ (job.now.mode ≡ Basis) }
+    requires workers { (1 ≤ job.now.workers) × (job.now.workers ≤ 16) }
     requires nodes { (MIN_BITS ≤ job.now.nodes) × (job.now.nodes ≤ MAX_BITS) }
     requires untold { All (λ s. s.told ≡ []) (states_by told patience watchers.old.items) }
     ensures read { (result ≢ outcomes.Usage) × (result ≢ outcomes.ReadFault) }
@@ -111,7 +122,7 @@ fn solved<K: Sink>(
     ensures ends { (words : List (List ℕ)) (whole : List ℕ) → IsAsked words job.now → bytes.now ≡ take (MOST_BYTES + 1) whole
         → Ends words whole (K.held out.old) (K.held out.new) (states_by told patience watchers.old.items) (states_by told patience watchers.new.items) result }
 {
-    let answer = match answer_to(alloc, job, bytes) {
+    let answer = match answer_to(rt, alloc, gate, job, bytes) {
         Ok(answer) => answer,
         Err(outcome) => return outcome,
     };
@@ -139,11 +150,13 @@ fn judged<K: Sink>(alloc: Global, bytes: &[u8], out: &mut K) -> Outcome
 }
 
 // All but the line on err.
-fn outcome_of<S: Source, K: Sink>(
+fn outcome_of<R: Threads + Sync, S: Source, K: Sink>(
+    rt: &R,
     alloc: Global,
     words: &Words,
     source: &mut S,
     out: &mut K,
+    gate: &Rendezvous,
     watchers: &mut Vec<Box<dyn Watch>>,
 ) -> Outcome
     requires untold { All (λ s. s.told ≡ []) (states_by told patience watchers.old.items) }
@@ -165,7 +178,7 @@ fn outcome_of<S: Source, K: Sink>(
     };
     match job.mode {
         Mode::Check => judged(alloc, &bytes, out),
-        Mode::Anf | Mode::Basis | Mode::Gen => solved(alloc, &job, &bytes, out, watchers),
+        Mode::Anf | Mode::Basis | Mode::Gen => solved(rt, alloc, gate, &job, &bytes, out, watchers),
     }
 }
 
@@ -178,14 +191,17 @@ pub fn report<E: Sink>(err: &mut E, outcome: Outcome) -> u8
     outcome.status()
 }
 
-/// Does all that the program does, and answers its status. The watchers are told of each output as soon as its text was
-/// written whole; those whose patience ends are dropped.
-pub fn run<S: Source, K: Sink, E: Sink>(
+/// Does all that the program does, and answers its status. Each output is solved by the job's number of workers, whose branches
+/// enter the gate at their starts. The watchers are told of each output as soon as its text was written whole; those whose
+/// patience ends are dropped.
+pub fn run<R: Threads + Sync, S: Source, K: Sink, E: Sink>(
+    rt: &R,
     alloc: Global,
     words: &Words,
     source: &mut S,
     out: &mut K,
     err: &mut E,
+    gate: &Rendezvous,
     watchers: &mut Vec<Box<dyn Watch>>,
 ) -> u8
     requires untold { All (λ s. s.told ≡ []) (states_by told patience watchers.old.items) }
@@ -212,6 +228,6 @@ pub fn run<S: Source, K: Sink, E: Sink>(
     ensures few { LosesAtMost (S.left source.old) (S.left source.new) (MOST_BYTES + 1) }
     ensures untouched { result ≡ 2 → (S.left source.new ≡ S.left source.old) × (S.faults source.new ≡ S.faults source.old) }
 {
-    let outcome = outcome_of(alloc, words, source, out, watchers);
+    let outcome = outcome_of(rt, alloc, words, source, out, gate, watchers);
     report(err, outcome)
 }

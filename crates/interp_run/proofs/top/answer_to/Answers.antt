@@ -11,12 +11,12 @@ use Rattle.interp_run.proofs.Endings.{if_err, contradiction_ends, unsolved_ends}
 use Rattle.interp_run.proofs.top.answer_to.Goals as goal
 
 pub answer_text-requires-clause-families : goal.answer_text-requires-clause-families
-answer_text-requires-clause-families c =
+answer_text-requires-clause-families g c =
     subst (All (λ s. IsAnswer c.in_ok-pla.pla.inputs (answer_of s))) (sym c.deref-2.ensures.value)
     (are_answers (description c.in_ok-pla.pla) c.args.job.now.mode c.in_ok-shown.shown.items c.in_ok-shown.ensures.ok.0)
 
 pub returns-in-Ok-answer_text-clause-ok : goal.returns-in-Ok-answer_text-clause-ok
-returns-in-Ok-answer_text-clause-ok c =
+returns-in-Ok-answer_text-clause-ok g c =
     let d = description c.in_ok-pla.pla in
     let pages : texts d c.args.job.now.mode (map answer_of c.in_ok-shown.shown.items) ≡ c.in-Ok-answer_text.pages = sym (search rules) in
     let notes : notes_from 1 (map answer_of c.in_ok-shown.shown.items) ≡ c.in-Ok.notes.items = sym (search rules) in
@@ -25,22 +25,22 @@ returns-in-Ok-answer_text-clause-ok c =
     c.in_ok-shown.ensures.ok.1)
 
 pub returns-in-Ok-answer_text-clause-few : goal.returns-in-Ok-answer_text-clause-few
-returns-in-Ok-answer_text-clause-few c =
+returns-in-Ok-answer_text-clause-few g c =
     counts_fit c.in_ok-pla.pla c.args.job.now.mode (map answer_of c.in_ok-shown.shown.items) c.in-Ok-answer_text.pages c.in-Ok.notes.items
     c.in_ok-shown.ensures.ok.0 (search rules) (search rules)
 
 pub returns-in-Some-clause-err : goal.returns-in-Some-clause-err
-returns-in-Some-clause-err c = contradiction_ends c.args.job.now c.args.bytes.now _ (c.in_ok-pla.ensures.ok c.args.job.now) c.requires.mode
-    c.in-Some.ensures.some
+returns-in-Some-clause-err g c =
+    contradiction_ends c.args.job.now c.args.bytes.now _ (c.in_ok-pla.ensures.ok c.args.job.now) c.requires.mode c.in-Some.ensures.some
 
 pub returns-in_err-shown-clause-err : goal.returns-in_err-shown-clause-err
-returns-in_err-shown-clause-err c =
+returns-in_err-shown-clause-err g c =
     if_err c.from_residual-in_err-shown.result c.in_err-shown.field-0.0 (EndsWithout c.args.job.now c.args.bytes.now)
     c.from_residual-in_err-shown.ensures.1
     (unsolved_ends c.args.job.now c.args.bytes.now _ (c.in_ok-pla.ensures.ok c.args.job.now) c.requires.mode c.in_err-shown.ensures.err)
 
 pub returns-in_default-notes_of-clause-err : goal.returns-in_default-notes_of-clause-err
-returns-in_default-notes_of-clause-err c = no_memory
+returns-in_default-notes_of-clause-err g c = no_memory
 
 pub returns-clause-err : goal.returns-clause-err
-returns-clause-err c = no_memory
+returns-clause-err g c = no_memory
