@@ -13,6 +13,7 @@ import argparse
 import hashlib
 import os
 import pathlib
+import shutil
 import subprocess
 import sys
 import tempfile
@@ -26,6 +27,8 @@ LIMIT = 120
 
 def driver(folder):
     """The driver's path, or None where BRiAl is not installed."""
+    if not shutil.which("g++"):
+        return None
     path = folder / "brial"
     words = ["g++", "-O2", "-std=c++14", "-w", str(HERE / "brial_driver.cpp"), "-o", str(path)]
     words += ["-lbrial_groebner", "-lbrial", "-lm4ri"]
