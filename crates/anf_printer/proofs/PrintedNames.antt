@@ -1,5 +1,5 @@
 -- How many names are printed.
-use Rattle.std.proofs.Common.{◌≡◌, ◌≢◌, ℕ, ◌+◌, ◌++◌, true, false, List, [], ◌∷◌, length, ap, ◌∙◌, ⊎_elim}
+use Rattle.std.proofs.Common.{◌≡◌, ◌≢◌, ℕ, ◌+◌, ◌++◌, true, List, [], ◌∷◌, length, ap, ◌∙◌, arith, rules}
 use Rattle.std.proofs.lemmas.Bool.{cases_Bool, false≢true}
 use Rattle.std.proofs.lemmas.List.{length-map}
 use Rattle.std.specs.Prelude.{decimal}
@@ -21,9 +21,7 @@ some_from_plain (name ∷ names) plain is = cc
 length-printed_names : (letter : List ℕ) (count : ℕ) (given : List (List ℕ)) → CountsNames count given
     → length (printed_names letter count given) ≡ count
 unfolding printed_names
-length-printed_names letter count given counts = ⊎_elim
-    (λ (plain : are_plain given ≡ true). rw plain (counts (some_from_plain given plain)))
-    (λ (other : are_plain given ≡ false). rw other (length-numbered letter count)) (cases_Bool (are_plain given))
+length-printed_names letter count given counts = search (rules, arith, some_from_plain, length-numbered, cases_Bool)
 
 -- the names at hand are those that are printed
 pub count_printed : (letter : List ℕ) (count : ℕ) (given names chosen : List (List ℕ)) → CountsNames count given → names ≡ chosen

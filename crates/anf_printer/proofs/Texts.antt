@@ -1,5 +1,6 @@
 -- The parts of the answer's text, as the code puts them together.
-use Rattle.std.proofs.Common.{◌≡◌, ◌≢◌, ℕ, zero, suc, ◌+◌, ◌-◌, ◌^◌, ◌<◌, ◌≤◌, List, [], ◌∷◌, ◌++◌, length, get_or, take, drop, map}
+use Rattle.std.proofs.lemmas.Grind.{common_steps}
+use Rattle.std.proofs.Common.{◌≡◌, ◌≢◌, ℕ, zero, suc, ◌+◌, ◌-◌, ◌^◌, ◌<◌, ◌≤◌, List, [], ◌∷◌, ◌++◌, length, get_or, take, drop, map, rules}
 use Rattle.std.proofs.Common.{reverse, codes, refl, sym, ap, ◌∙◌, subst, arith, add-one, ne_eqb}
 use Rattle.std.specs.Prelude.{decimal}
 use Rattle.std.specs.List.{All, flat_map}
@@ -17,9 +18,7 @@ numbered_none letter = refl
 
 pub numbered_more : (letter : List ℕ) (i : ℕ) → numbered letter (i + 1) ≡ numbered letter i ++ (letter ++ decimal (i + 1)) ∷ []
 unfolding numbered numbers_below
-numbered_more letter i =
-    let name : ℕ → List ℕ = λ k. letter ++ decimal (k + 1) in
-    ap (λ k. map name (numbers_below k)) (add-one i) ∙ map-append name (numbers_below i) (i ∷ [])
+numbered_more letter i = search (rules, arith, add-one, map-append)
 
 pub monomial_text_one : (names : List (List ℕ)) → monomial_text names 0 ≡ codes "1"
 unfolding monomial_text
@@ -42,9 +41,7 @@ pub polynomial_text_some : (names : List (List ℕ)) (terms : List ℕ) (m : ℕ
     (take (length terms - 1) (drop 1 terms))
 unfolding sum_text
 polynomial_text_some names [] first some is = absurd (omega arith)
-polynomial_text_some names (m ∷ terms) first some is =
-    let all : take (length (m ∷ terms) - 1) terms ≡ terms = take_all (length (m ∷ terms) - 1) terms (omega arith) in
-    rw (all, is) (ap (sum_text names) (reverse-reverse (m ∷ terms)))
+polynomial_text_some names (m ∷ terms) first some is = grind (arith, common_steps, take_all, reverse-reverse)
 
 All-from_reverse : {X : Type 0} (P : X → Type 0) (xs : List X) → All P (reverse xs) → All P xs
 All-from_reverse P xs all k d less =
@@ -57,8 +54,7 @@ pub terms_below : (n : ℕ) (terms : List ℕ) → IsFamily n (reverse terms) �
 terms_below n terms family = All-from_reverse (λ m. m < 2 ^ n) terms family.below
 
 pub others_below : (n : ℕ) (terms : List ℕ) → IsFamily n (reverse terms) → All (λ m. m < 2 ^ n) (take (length terms - 1) (drop 1 terms))
-others_below n terms family = All-take (λ m. m < 2 ^ n) (length terms - 1) (drop 1 terms)
-    (All-drop (λ m. m < 2 ^ n) 1 terms (terms_below n terms family))
+others_below n terms family = search (rules, arith, All-take, All-drop, terms_below)
 
 pub element_is_family : (n : ℕ) (elements : List (List ℕ)) (i : ℕ) (e : List ℕ) → All (IsFamily n) (map reverse elements)
     → i < length elements → e ≡ get_or elements i e → IsFamily n (reverse e)
@@ -80,14 +76,11 @@ texts_of_more mode names [] answers i name a less short is same = absurd (omega 
 texts_of_more mode names (n ∷ outputs) [] i name a less short is same = absurd (omega arith)
 texts_of_more mode names (n ∷ outputs) (b ∷ answers) zero name a less short is same = cc
 texts_of_more mode names (n ∷ outputs) (b ∷ answers) (suc i) name a less short is same =
-    rw (add-one (suc i)) (ap (λ ts. output_text mode names n b ∷ ts)
-    (rw add-one at (texts_of_more mode names outputs answers i name a (omega arith) (omega arith) is same)))
+    search (rules, arith, add-one, texts_of_more mode names outputs answers i name a (omega arith) (omega arith) is same)
 
 -- one more pair of a name and what is shown
 pub texts_of_next : (mode : Mode) (names outputs : List (List ℕ)) (shown : List Shown) (i j : ℕ) (name : List ℕ) (s : Shown)
     → i < length outputs → i < length shown → name ≡ get_or outputs i name → s ≡ get_or shown i s → j ≡ i + 1
     → texts_of mode names (take j outputs) (take j (map answer_of shown)) ≡ texts_of mode names (take i outputs)
     (take i (map answer_of shown)) ++ output_text mode names name (answer_of s) ∷ []
-texts_of_next mode names outputs shown i j name s less short is same next =
-    rw next (texts_of_more mode names outputs (map answer_of shown) i name (answer_of s) less (rw (length-map shown answer_of) short) is
-    (ap answer_of same ∙ sym (get_or-map answer_of shown i s (answer_of s) short)))
+texts_of_next mode names outputs shown i j name s less short is same next = search (rules, arith, texts_of_more, length-map, get_or-map)

@@ -1,6 +1,6 @@
 -- The variables of a monomial from its first one on.
-use Rattle.std.proofs.Common.{◌≡◌, ◌≢◌, ℕ, suc, ◌+◌, ◌-◌, ◌*◌, ◌^◌, ◌<◌, ◌≤◌, true, false, cond, List, [], ◌∷◌, length, get_or, refl, sym}
-use Rattle.std.proofs.Common.{ap, ◌∙◌, subst, arith, add-zero, ⊎_elim}
+use Rattle.std.proofs.Common.{◌≡◌, ◌≢◌, ℕ, suc, ◌+◌, ◌-◌, ◌*◌, ◌^◌, ◌<◌, ◌≤◌, true, false, List, [], ◌∷◌, length, get_or, refl, sym}
+use Rattle.std.proofs.Common.{ap, ◌∙◌, subst, arith, add-zero, ⊎_elim, rules}
 use Rattle.std.proofs.lemmas.Nat.{pow_pos}
 use Rattle.std.proofs.lemmas.Grind.{pow_more}
 use Rattle.std.proofs.lemmas.Bool.{cases_eq, cases_lt}
@@ -19,9 +19,7 @@ variables_behind : (names : List (List ℕ)) (d a : ℕ) → length names ≤ d 
 unfolding variables_of
 variables_behind [] d a few less = refl
 variables_behind (name ∷ names) d a few less =
-    ap (λ t. cond t (name ∷ variables_of names (2 ^ d + a)) (variables_of names (2 ^ d + a)))
-    (divides_high_point d (2 ^ length names) a (pow-lt (omega arith)) less)
-    ∙ ap (λ vs. cond (divides (2 ^ length names) a) (name ∷ vs) vs) (variables_behind names d a (omega arith) less)
+    search (rules, arith, divides_high_point, pow-lt, variables_behind names d a (omega arith) less)
 
 -- the first variable is that of the greatest weight
 first_and_rest : (names : List (List ℕ)) (d a : ℕ) (name : List ℕ) → a < 2 ^ d → d < length names
@@ -53,8 +51,7 @@ variables_of_first names d m name from below few is =
 
 -- a weight that is no greater than a monomial of n variables is that of a variable
 pub weight_is_below : (d m n : ℕ) → 2 ^ d ≤ m → m < 2 ^ n → d < n
-weight_is_below d m n from below = ⊎_elim (λ less. less)
-    (λ (few : n ≤ d). let more : 2 ^ n ≤ 2 ^ d = pow-le-pow_right (omega arith) few in absurd (omega arith)) (cases_lt d n)
+weight_is_below d m n from below = search (rules, arith, pow-le-pow_right, cases_lt)
 
 pub variables_of_none : (names : List (List ℕ)) → variables_of names 0 ≡ []
 unfolding variables_of

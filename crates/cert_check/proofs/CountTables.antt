@@ -1,6 +1,6 @@
 -- Tables of all points by halves, without the greatest variable and with it, and tables in which monomials are marked.
-use Rattle.std.proofs.Common.{◌≡◌, ◌≢◌, ℕ, zero, suc, ◌+◌, ◌-◌, ◌^◌, ◌<◌, ◌≤◌, Bool, ◌==◌, List, [], ◌∷◌, ◌++◌, length, get_or, filter}
-use Rattle.std.proofs.Common.{refl, sym, ap, ◌∙◌, subst, ⊎_elim, arith, length-append, cond, take, All, count_by}
+use Rattle.std.proofs.Common.{◌≡◌, ◌≢◌, ℕ, zero, suc, ◌+◌, ◌-◌, ◌^◌, ◌<◌, ◌≤◌, Bool, ◌==◌, List, [], ◌∷◌, ◌++◌, length, get_or}
+use Rattle.std.proofs.Common.{refl, sym, ap, ◌∙◌, subst, ⊎_elim, arith, length-append, cond, take, All, count_by, rules}
 use Rattle.std.proofs.lemmas.Bool.{cases_lt}
 use Rattle.std.proofs.lemmas.Grind.{pow_more}
 use Rattle.std.proofs.lemmas.List.{get_or_append_left, get_or-append-add, length-replicate, get_or-replicate, length-set, get_or-set_same}
@@ -27,13 +27,7 @@ has-marked n table x below = has-family_where_below n (λ m. get_or table m 0 ==
 -- no more monomials divide a point than there are
 marked_few : (n : ℕ) (table : List ℕ) (a : ℕ) → count_by (λ m. divides m a) (marked n table) ≤ 2 ^ n
 unfolding marked family_where
-marked_few n table a =
-    let test = λ (m : ℕ). get_or table m 0 == 1 in
-    let one = count_by-le-length (λ m. divides m a) (filter test (numbers_below (2 ^ n))) in
-    let two = length-filter test (numbers_below (2 ^ n)) in
-    let three = count_by-le-length test (numbers_below (2 ^ n)) in
-    let four = length-numbers_below (2 ^ n) in
-    omega (arith, one, two, three, four)
+marked_few n table a = search (rules, arith, count_by-le-length, length-filter, length-numbers_below)
 
 -- one point
 alone : (x a : ℕ) → x ≤ 1 → a < 1 → get_or (x ∷ []) a 0 ≡ count_by (λ m. divides m a) (marked 0 (x ∷ []))
@@ -52,14 +46,7 @@ counts_one n table none size marks = rw none (counts_alone table (rw none at siz
 
 module _ (d : ℕ) (lo hi : List ℕ) (size : length lo ≡ 2 ^ d) where
   marked_low : (x : ℕ) → x < 2 ^ d → has (marked (d + 1) (lo ++ hi)) x ≡ has (join d (marked d lo) (marked d hi)) x
-  marked_low x below =
-      let double = pow_more 2 d in
-      rw (
-        has-marked (d + 1) (lo ++ hi) x (omega arith),
-        get_or_append_left lo hi 0 x (omega arith),
-        has-join_low d (marked d lo) (marked d hi) x below,
-        has-marked d lo x below,
-      ) refl
+  marked_low x below = search (rules, arith, pow_more, has-marked, get_or_append_left, has-join_low)
 
   marked_high : (x : ℕ) → x < 2 ^ d → has (marked (d + 1) (lo ++ hi)) (2 ^ d + x) ≡ has (join d (marked d lo) (marked d hi)) (2 ^ d + x)
   marked_high x below =
@@ -138,29 +125,18 @@ pub record MarksMonomials (n : ℕ) (monomials table : List ℕ) : Type 0 where
   pub each : (x : ℕ) → x < 2 ^ n → get_or table x 0 ≡ cond (has monomials x) 1 0
 
 pub marks_nothing : (n size : ℕ) (table : List ℕ) → size ≡ 2 ^ n → table ≡ replicate size 0 → MarksMonomials n [] table
-marks_nothing n size table is zeros = record {
-  size = ap length zeros ∙ (length-replicate size 0 ∙ is);
-  each = λ x below. ap (λ (t : List ℕ). get_or t x 0) zeros ∙
-      (get_or-replicate size x 0 0 (omega arith) ∙ sym (ap (λ (b : Bool). cond b 1 0) (has-nil x)));
-}
+marks_nothing n size table is zeros = search (rules, arith, length-replicate, get_or-replicate, has-nil)
 
 pub marks_more : (n i m : ℕ) (monomials table : List ℕ) → MarksMonomials n (take i monomials) table → i < length
     monomials → m ≡ get_or monomials i m → m < 2 ^ n → MarksMonomials n (take (i + 1) monomials) (set table m 1)
-marks_more n i m monomials table so_far within is below = record {
-  size = length-set table m 1 ∙ so_far.size;
-  each = λ x less.
-      let same = get_or-set_same table m 1 0 (omega (arith, so_far.size)) in
-      let other = get_or-set_other table m x 1 0 in
-      grind (arith, same, other, so_far.each x less, has_more_same monomials i m within is, has_more_other monomials i m x within is);
-}
+marks_more n i m monomials table so_far within is below =
+    search (rules, arith, length-set, get_or-set_same, get_or-set_other, has_more_same, has_more_other)
 
 mark_le : (b : Bool) → cond b 1 0 ≤ 1
 mark_le b = grind arith
 
 pub marks_small : (n : ℕ) (monomials table : List ℕ) → MarksMonomials n monomials table → All (λ mark. mark ≤ 1) table
-marks_small n monomials table marks k d below =
-    let few = mark_le (has monomials k) in
-    omega (arith, few, marks.each k (omega (arith, marks.size)), get_or_default table k d 0 below)
+marks_small n monomials table marks k d below = search (rules, arith, mark_le, get_or_default)
 
 mark_tells : (b : Bool) → (cond b 1 0 == 1) ≡ b
 mark_tells b = grind arith

@@ -1,5 +1,5 @@
 -- A text cut at a byte of one kind.
-use Rattle.std.proofs.Common.{◌≡◌, ℕ, ◌+◌, ◌-◌, ◌<◌, ◌≤◌, cond, ltb, eqb, List, [], ◌∷◌, length, take, drop, Option, Some, None, Bor}
+use Rattle.std.proofs.Common.{◌≡◌, ℕ, ◌+◌, ◌-◌, ◌<◌, ◌≤◌, cond, ltb, eqb, List, [], ◌∷◌, length, take, drop, Option, Some, None, Bor, rules}
 use Rattle.std.proofs.Common.{⊎_elim, arith}
 use Rattle.std.specs.List.{position_or_len}
 use Rattle.std.proofs.lemmas.Bool.{cases_lt, lt-ltb, le-ltb}
@@ -28,10 +28,4 @@ parts_whole byte text found is none = ⊎_elim
 
 pub parts_first : (byte : ℕ) (text : List ℕ) (found : Option ℕ) (end : ℕ) → FindsByte byte text found → found ≡ Some end
     → parts byte text ≡ take end text ∷ parts byte (take (length text - (end + 1)) (drop (end + 1) text))
-parts_first byte text found end is some = ⊎_elim (λ (lt : place byte text < length text).
-    let at = rw (lt-ltb (place byte text) (length text) lt) at is in
-    let same : place byte text ≡ end = cc in
-    let rest = take_all (length text - (end + 1)) (drop (end + 1) text) (omega (arith, length-drop (end + 1) text)) in
-    rw (rest, ← same) (slice_split_first (λ b. eqb b byte) text 0 lt))
-    (λ (le : length text ≤ place byte text). let none = rw (le-ltb (place byte text) (length text) le) at is in cc)
-    (cases_lt (place byte text) (length text))
+parts_first byte text found end is some = search (rules, arith, place, lt-ltb, take_all, length-drop, slice_split_first, le-ltb, cases_lt)

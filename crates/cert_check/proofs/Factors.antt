@@ -1,7 +1,7 @@
 -- The terms and the factors on the right side of a line, read one after the other.
 use Rattle.std.proofs.Common.{◌≡◌, ℕ, ◌+◌, ◌-◌, ◌*◌, ◌^◌, ◌<◌, ◌≤◌, Bool, true, false, not, ◌||◌, List, [], ◌∷◌, length, codes, refl, sym}
-use Rattle.std.proofs.Common.{ap, ◌∙◌, arith, ◌&&◌, ltb, ◌++◌, map, append_assoc, bytes_eq}
-use Rattle.std.specs.List.{list_all, list_any, position_or_len, filter}
+use Rattle.std.proofs.Common.{ap, ◌∙◌, arith, ◌&&◌, ltb, ◌++◌, append_assoc, bytes_eq, rules}
+use Rattle.std.specs.List.{list_all, list_any, position_or_len}
 use Rattle.std.proofs.lemmas.Bool.{false≢true, and_parts, lt-leb, le-leb, lt-ltb, le-ltb}
 use Rattle.std.proofs.lemmas.List.Sums.{sum_by-cons}
 use Rattle.std.proofs.lemmas.Grind.{pow_more}
@@ -102,11 +102,7 @@ module _ (names words rest : List (List ℕ)) (word : List ℕ) (limit : ℕ) (m
     (so_far : ReadsTerms names words (word ∷ rest) limit monos) where
   pub terms_skip : is_term word ≡ false → ReadsTerms names words rest limit monos
   unfolding terms_in monomials_of
-  terms_skip other = record {
-    known = rw other at so_far.known;
-    ordered = rw other at so_far.ordered;
-    monos_are = rw other at so_far.monos_are;
-  }
+  terms_skip other = search (rules, arith)
 
   module _ (term : is_term word ≡ true) where
     both_known : (list_all (includes names) (factors_of word) ≡ true) × (are_known names (terms_in rest) ≡ true)
@@ -130,12 +126,7 @@ module _ (names words rest : List (List ℕ)) (word : List ℕ) (limit : ℕ) (m
 
       pub terms_more : (new : List ℕ) → m < limit → new ≡ monos ++ m ∷ [] → ReadsTerms names words rest m new
       unfolding terms_in monomials_of
-      terms_more new less new_is = record {
-        known = both_known.1;
-        ordered = sym (ordered_here ∙ rw (ascends, ← is, lt-ltb m limit less) refl);
-        monos_are = rw (new_is, append_assoc monos (m ∷ []) (map (monomial_of names) (filter is_term rest)), is)
-            (rw term at so_far.monos_are);
-      }
+      terms_more new less new_is = search (rules, arith, both_known, ordered_here, lt-ltb, append_assoc)
 
 pub terms_whole : (names words : List (List ℕ)) (limit : ℕ) (monos : List ℕ) → ReadsTerms names words [] limit monos
     → (are_ordered names (2 ^ length names) (terms_in words) ≡ true) × (monos ≡ monomials_of names words)

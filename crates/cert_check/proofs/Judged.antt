@@ -1,7 +1,6 @@
 -- The first check that fails, and the verdicts on elements and on outputs in turn.
-use Rattle.std.proofs.Common.{◌≡◌, ℕ, suc, ◌-◌, ◌<◌, ◌≤◌, Bool, true, false, ◌||◌, ◌==◌, ltb, List, [], ◌∷◌, ◌++◌, length, get_or, reverse}
-use Rattle.std.proofs.Common.{refl, sym, ap, ap₂, ◌∙◌, arith, zero, ◌+◌, ◌^◌, take, drop, subst, add-one, append_assoc, append-nil, map}
-use Rattle.std.proofs.Common.{cond}
+use Rattle.std.proofs.Common.{◌≡◌, ℕ, suc, ◌-◌, ◌<◌, ◌≤◌, Bool, true, false, ◌==◌, ltb, List, [], ◌∷◌, ◌++◌, length, get_or, reverse, refl}
+use Rattle.std.proofs.Common.{sym, ap, ◌∙◌, arith, zero, ◌+◌, ◌^◌, take, drop, subst, add-one, append_assoc, append-nil, map, cond, rules}
 use Rattle.std.specs.List.{slice_get, All, list_any}
 use Rattle.std.specs.Option.{option_map_or}
 use Rattle.std.proofs.lemmas.List.{take_more, drop_all, take_all}
@@ -66,11 +65,7 @@ module _ (n : ℕ) (terms : List ℕ) (family : IsFamily n (reverse terms)) wher
 
   pub misses_where : (zeros ones : Family) → misses zeros ones (family_where n (has terms)) ≡ misses zeros ones terms
   unfolding misses
-  misses_where zeros ones = ap₂ (λ (b c : Bool). b || c)
-      (any-agree (λ a. value (family_where n (has terms)) a == 1) (λ a. value terms a == 1) zeros
-      (λ a h. ap (λ (v : ℕ). v == 1) (value_where a)))
-      (any-agree (λ a. value (family_where n (has terms)) a == 0) (λ a. value terms a == 0) ones
-      (λ a h. ap (λ (v : ℕ). v == 0) (value_where a)))
+  misses_where zeros ones = search (rules, arith, any-agree, value_where)
 
 -- ---- the greatest monomial of an element
 

@@ -1,4 +1,5 @@
 -- Tests of values and what they say, and the leads of a list of points.
+use Rattle.std.proofs.lemmas.Grind.{common_steps}
 use Rattle.std.proofs.Common.{◌≡◌, ℕ, Bool, true, false, ◌||◌, ◌==◌, List, ◌++◌, reverse, refl, sym, ap₂, ◌∙◌, arith, ◌≢◌, ◌↔◌, zero, suc}
 use Rattle.std.proofs.Common.{◌^◌, ◌<◌, not, ◌&&◌, eqb, ltb, [], ◌∷◌, length, filter, ap, subst, ⊎_elim, inl, inr}
 use Rattle.std.specs.List.{list_any, list_all}
@@ -32,14 +33,7 @@ module _ (terms : List ℕ) where
 
   pub fits_from : (zeros ones : Family) → misses zeros ones terms ≡ false → Fits zeros ones (reverse terms)
   unfolding misses
-  fits_from zeros ones none =
-      let both = or_parts (list_any (λ a. value terms a == 1) zeros) (list_any (λ a. value terms a == 0) ones) none in
-      record {
-        zero_at = All-from_has (λ a. value (reverse terms) a ≡ 0) zeros
-            (λ a h. (is_zero_at a).0 (none_of (λ b. value terms b == 1) zeros both.0 a h));
-        one_at = All-from_has (λ a. value (reverse terms) a ≡ 1) ones
-            (λ a h. (is_one_at a).0 (none_of (λ b. value terms b == 0) ones both.1 a h));
-      }
+  fits_from zeros ones none = grind (arith, common_steps, or_parts, All-from_has, is_zero_at, none_of, is_one_at)
 
   pub misses_from : (zeros ones : Family) → Fits zeros ones (reverse terms) → misses zeros ones terms ≡ false
   unfolding misses

@@ -1,4 +1,5 @@
 -- The form of a line, the lines of an answer in turn, and that what they give fits the description.
+use Rattle.std.proofs.Common.{rules}
 use Rattle.std.proofs.Common.{◌≡◌, ℕ, Bool, true, false, ◌||◌, eqb, List, [], ◌∷◌, ◌++◌, length, codes, Some, None, refl, sym, ap, ◌∙◌}
 use Rattle.std.proofs.Common.{⊎_elim, arith, ◌+◌, ◌<◌, ◌≤◌, cond, ltb, Ok, Err, zero, suc, ◌^◌, map, reverse, Option, Result, subst, IfOk}
 use Rattle.std.specs.Str.{bytes_eq}
@@ -39,11 +40,7 @@ zero_from (b ∷ right) [] cut = absurd (omega (arith, length-slice_split (λ x.
 zero_from right (w ∷ []) cut =
     let back : w ≡ right = sym (ap (join_with_byte 32) cut) ∙ join_with_byte-slice_split 32 right in
     ap (λ (t : List ℕ). bytes_eq t (codes "0") || is_sum (w ∷ [])) back
-zero_from right (w ∷ v ∷ ws) cut = ⊎_elim (λ (same : bytes_eq right (codes "0") ≡ true).
-    let is : right ≡ codes "0" = (bytes_eq-Decides right (codes "0")).0 same in
-    let two : codes "0" ∷ [] ≡ w ∷ v ∷ ws = sym (ap words is) ∙ cut in
-    cc) (λ (other : bytes_eq right (codes "0") ≡ false). rw other refl)
-    (cases_Bool (bytes_eq right (codes "0")))
+zero_from right (w ∷ v ∷ ws) cut = search (rules, arith, bytes_eq-Decides, cases_Bool)
 
 pub right_by_sum : (right : List ℕ) (sum : Bool) → bytes_eq right (codes "0") ≡ false → sum ≡ is_sum (words right) →
     sum ≡ is_right (words right)
@@ -179,8 +176,7 @@ module _ (names : List (List ℕ)) where
       (map (monomial_of names) terms) x ≡ true → x < limit
   ordered_below limit [] ordered x h = has_none x h
   ordered_below limit (term ∷ terms) ordered x h =
-      let cases = has_cases (monomial_of names term) (map (monomial_of names) terms) x h in
-      grind (arith, cases, ordered-parts limit term terms ordered, ordered_below (monomial_of names term) terms)
+      search (rules, arith, has_cases, ordered-parts, ordered_below (monomial_of names term) terms)
 
   ordered_ascends : (limit : ℕ) (terms : List (List ℕ)) → are_ordered names limit terms ≡ true → IsStrictlyIncreasing
       (reverse (map (monomial_of names) terms))
@@ -190,7 +186,7 @@ module _ (names : List (List ℕ)) where
       ascends_below (monomial_of names term) (map (monomial_of names) terms) (ordered_ascends (monomial_of names term) terms parts.1)
       (ordered_below (monomial_of names term) terms parts.1)
 
-  ordered_family : (n : ℕ) (right : List (List ℕ)) → are_ordered names (2 ^ n) (terms_in right) ≡ true → IsFamily n
+  pub ordered_family : (n : ℕ) (right : List (List ℕ)) → are_ordered names (2 ^ n) (terms_in right) ≡ true → IsFamily n
       (reverse (monomials_of names right))
   unfolding monomials_of
   ordered_family n right ordered =

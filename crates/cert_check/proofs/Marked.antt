@@ -1,7 +1,8 @@
 -- The marks of points: what one more row adds, the points with a value, and the care points as a table.
+use Rattle.std.proofs.lemmas.Grind.{common_steps}
 use Rattle.std.proofs.Common.{◌≡◌, ℕ, zero, suc, ◌+◌, ◌-◌, ◌*◌, ◌^◌, ◌<◌, ◌≤◌, Bool, true, false, ◌&&◌, ◌||◌, ◌==◌, List, [], ◌∷◌, ◌++◌}
-use Rattle.std.proofs.Common.{length, take, get_or, filter, max, bit_and, bit_or, Some, refl, sym, ◌∙◌, ap, subst, ⊎_elim, arith}
-use Rattle.std.proofs.Common.{length-append, eq-eqb, ne_eqb, map, Vec, Global, slice_get, Result, Ok, Err, IfOk, ◌⊎◌, inl, inr}
+use Rattle.std.proofs.Common.{length, take, get_or, filter, max, bit_and, bit_or, Some, refl, sym, ◌∙◌, ap, ⊎_elim, arith, rules}
+use Rattle.std.proofs.Common.{length-append, eq-eqb, map, Vec, Global, slice_get, Result, Ok, Err, IfOk, ◌⊎◌, inl, inr}
 use Rattle.std.specs.Int.{bit_at}
 use Rattle.std.specs.List.{list_any}
 use Rattle.std.proofs.lemmas.Nat.Bits.{and_pow, bit_at_or, bit_at-lt, bit_at-zero}
@@ -34,9 +35,7 @@ max_is_one : (a b : ℕ) → a < 2 → b < 2 → (max a b == 1) ≡ ((a == 1) ||
 max_is_one a b h k = grind (arith, h, k)
 
 divides-or : (j x y : ℕ) → divides (2 ^ j) (bit_or x y) ≡ (divides (2 ^ j) x || divides (2 ^ j) y)
-divides-or j x y =
-    rw (divides-pow j (bit_or x y), bit_at_or x y j, divides-pow j x, divides-pow j y)
-    (max_is_one (bit_at x j) (bit_at y j) (bit_at-lt x j) (bit_at-lt y j))
+divides-or j x y = search (rules, arith, divides-pow, bit_at_or, max_is_one, bit_at-lt)
 
 divides-zero : (j : ℕ) → divides (2 ^ j) 0 ≡ false
 divides-zero j = divides-pow j 0 ∙ ap (λ (z : ℕ). z == 1) (bit_at-zero j)
@@ -73,9 +72,7 @@ any_filter p q (r ∷ rows) = grind (arith, any_filter p q rows)
 covered : (mask : Row → ℕ) (n output a m : ℕ) (rows : List Row) → 1 ≤ output → output ≤ 64 → a < 2 ^ n → IsMark mask rows a m
     → has (cover n (rows_with mask output rows)) a ≡ divides (2 ^ (output - 1)) m
 unfolding cover rows_with
-covered mask n output a m rows first last below mark =
-    has-family_where_below n (λ x. list_any (λ r. in_cube r x) (filter (λ r. divides (2 ^ (output - 1)) (mask r)) rows)) a below
-    ∙ (any_filter (λ r. in_cube r a) (λ r. divides (2 ^ (output - 1)) (mask r)) rows ∙ sym (mark (output - 1) (omega arith)))
+covered mask n output a m rows first last below mark = search (rules, arith, has-family_where_below, any_filter)
 
 pub is_care_of : (n output a : ℕ) (kind : Kind) (value : Bool) (rows : List Row) (m : Marks) → 1 ≤ output → output ≤
     64 → a < 2 ^ n → MarksPoint rows a m → has_value kind value (has (on_set n rows output) a) (has (off_set n rows output) a)
@@ -101,12 +98,7 @@ pub record MarksBelow (size : ℕ) (rows : List Row) (marks : List Marks) : Type
 
 pub marked_more : (size : ℕ) (rows : List Row) (marks next : List Marks) (m : Marks) → MarksBelow size rows marks →
     MarksPoint rows size m → next ≡ marks ++ m ∷ [] → MarksBelow (size + 1) rows next
-marked_more size rows marks next m before here is = record {
-  size_is = ap length is ∙ (length-append marks (m ∷ []) ∙ omega (arith, before.size_is));
-  each = λ a n e. ⊎_elim (before.each a n) (λ last. subst (MarksPoint rows a) last.1
-      (subst (λ (k : ℕ). MarksPoint rows k m) (sym (last.0 ∙ before.size_is)) here))
-      (get_cases marks m a n (sym (ap (λ (xs : List Marks). slice_get xs a) is) ∙ e));
-}
+marked_more size rows marks next m before here is = search (rules, arith, length-append, get_cases)
 
 -- one more row of a list
 pub marks_next_inside : (rows : List Row) (i : ℕ) (d : Row) (a : ℕ) (m n : Marks) → i < length rows → bit_and a
@@ -129,14 +121,7 @@ pub marks_next_outside : (rows : List Row) (i : ℕ) (d : Row) (a : ℕ) (m n : 
     (bit_and a (get_or rows i d).care ≡ (get_or rows i d).value → ⊥) → MarksPoint (take i rows) a m
     → n ≡ m → MarksPoint (take (i + 1) rows) a n
 unfolding in_cube
-marks_next_outside rows i d a m n within outside before is =
-    let r = get_or rows i d in
-    let there : in_cube r a ≡ false = ne_eqb (bit_and a r.care) r.value outside in
-    rw (take_more rows i d within, is) (record {
-      on = mark_outside (λ s. s.on) (take i rows) r a m.on there before.on;
-      off = mark_outside (λ s. s.off) (take i rows) r a m.off there before.off;
-      dc = mark_outside (λ s. s.dc) (take i rows) r a m.dc there before.dc;
-    })
+marks_next_outside rows i d a m n within outside before is = grind (arith, common_steps, take_more, mark_outside)
 
 -- ==== The care points of an output, as a table over all points
 

@@ -1,6 +1,7 @@
 -- Tests and counts over all points, by tables over them.
-use Rattle.std.proofs.Common.{◌≡◌, ℕ, zero, suc, ◌+◌, ◌^◌, ◌%◌, ◌<◌, ◌≤◌, Bool, true, false, not, ◌&&◌, ◌||◌, ◌==◌, eqb, cond, ltb, List}
-use Rattle.std.proofs.Common.{[], ◌∷◌, length, ◌++◌, get_or, take, map, filter, count_by, refl, sym, ap, ap₂, ◌∙◌, ⊎_elim, arith, add-one}
+use Rattle.std.proofs.lemmas.Grind.{common_steps}
+use Rattle.std.proofs.Common.{rules, ◌≡◌, ℕ, zero, suc, ◌^◌, ◌%◌, ◌<◌, ◌≤◌, Bool, true, false, not, ◌&&◌, ◌||◌, ◌==◌, eqb, cond, ltb, List}
+use Rattle.std.proofs.Common.{[], ◌∷◌, length, get_or, take, map, filter, count_by, refl, sym, ap, ap₂, ◌∙◌, ⊎_elim, arith, add-one}
 use Rattle.std.specs.List.{All, list_any, zip}
 use Rattle.std.proofs.lemmas.Bool.{false≢true, or_cases, and_parts, ltb-true}
 use Rattle.std.proofs.lemmas.List.{take_all, take_more, map-append}
@@ -21,9 +22,7 @@ use Rattle.std.proofs.lemmas.Option.{slice_get-get_or}
 places : {X : Type 0} (xs : List X) (d : X) (n : ℕ) → n ≤ length xs → take n xs ≡ map (λ k. get_or xs k d) (numbers_below n)
 unfolding numbers_below
 places xs d zero most = refl
-places xs d (suc n) most =
-    rw add-one at (take_more xs n d (omega arith)) ∙ (ap (λ ys. ys ++ get_or xs n d ∷ []) (places xs d n (omega arith))
-    ∙ sym (map-append (λ k. get_or xs k d) (numbers_below n) (n ∷ [])))
+places xs d (suc n) most = search (rules, arith, add-one, take_more, map-append, places xs d n (omega arith))
 
 whole : {X : Type 0} (xs : List X) (d : X) → xs ≡ map (λ k. get_or xs k d) (numbers_below (length xs))
 whole xs d = sym (take_all (length xs) xs (omega arith)) ∙ places xs d (length xs) (omega arith)
@@ -53,10 +52,7 @@ any-agree p q (x ∷ xs) same = rw (same x (has_head x xs), any-agree p q xs (λ
 
 count-agree : (p q : ℕ → Bool) (xs : List ℕ) → ((x : ℕ) → has xs x ≡ true → p x ≡ q x) → count_by p xs ≡ count_by q xs
 count-agree p q [] same = refl
-count-agree p q (x ∷ xs) same =
-    let later = count-agree p q xs (λ y h. same y (has_tail x xs y h)) in
-    let cons : (t : ℕ → Bool) → count_by t (x ∷ xs) ≡ cond (t x) 1 0 + count_by t xs = λ t. sum_by-cons (λ y. cond (t y) 1 0) x xs in
-    grind (arith, later, cons p, cons q, same x (has_head x xs))
+count-agree p q (x ∷ xs) same = grind (arith, common_steps, has_tail, has_head, count-agree p q xs (λ y h. same y (has_tail x xs y h)))
 
 below_from : (n x : ℕ) → has (numbers_below n) x ≡ true → x < n
 below_from n x h = ltb-true x n (sym (has-numbers_below n x) ∙ h)
@@ -133,10 +129,7 @@ module _ (n : ℕ) (zeros ones : Family) (care : List Care) (marks : MarksCare n
     pub ones_by_table : list_any (λ (p : Care × ℕ). p.1 % 2 == 1 && (p.0.zero || p.0.one)) (zip care counts) ≡
         is_one_in (union_of n zeros ones) terms
     unfolding is_one_in combine
-    ones_by_table =
-        by_points (λ (p : Care × ℕ). p.1 % 2 == 1 && (p.0.zero || p.0.one)) (λ a. (has zeros a || has ones a) && value terms a == 1)
-        (λ a below. grind (arith, odd_at a below, either_at a below))
-        ∙ sym (any_where n (λ a. has zeros a || has ones a) (λ a. value terms a == 1))
+    ones_by_table = search (rules, arith, by_points, odd_at, either_at, any_where)
 
 -- ---- what greatest monomials divide
 

@@ -1,6 +1,6 @@
 -- An output, and so an answer, is right exactly where no check of it fails.
 use Rattle.std.proofs.Common.{◌≡◌, ℕ, ◌<◌, ◌≤◌, Bool, true, false, ◌||◌, List, [], ◌∷◌, ◌++◌, reverse, refl, sym, ap, ◌∙◌, subst, ⊎_elim}
-use Rattle.std.proofs.Common.{arith, ◌^◌, map, ap₂, drop, append_assoc, append-nil, take, ◌↔◌, zero, suc, ◌+◌, Some, slice_get}
+use Rattle.std.proofs.Common.{arith, ◌^◌, map, ap₂, drop, append_assoc, append-nil, take, ◌↔◌, zero, suc, ◌+◌, Some, slice_get, rules}
 use Rattle.std.specs.List.Sorted.{IsStrictlyIncreasing}
 use Rattle.std.specs.List.{All, AllZip, list_any}
 use Rattle.std.proofs.lemmas.Bool.{or_parts, ltb-false, false≢true, false_from_ne_true, le-ltb, or_from, or_left, or_right}
@@ -135,11 +135,7 @@ module _ (points : Family) where
       → first_verdict (basis_checks points earlier (record { terms = terms; line = line } ∷ elements)) ≡ Yes
       → AreSpread earlier → Passes earlier (record { terms = terms; line = line } ∷ elements)
   unfolding basis_checks greatest_of
-  pass_one earlier [] line elements again fine spread =
-      let both = passed_both (element_checks points earlier (record { terms = []; line = line }))
-      (basis_checks points (earlier ++ []) elements) fine in
-      let two = passed true line Leads ((false, line, Order) ∷ []) (passed (is_one_in points []) line NotZero _ both.0).1 in
-      absurd (false≢true (sym two.0))
+  pass_one earlier [] line elements again fine spread = search (rules, arith, passed_both, points, passed, false≢true)
   pass_one earlier (t ∷ tail) line elements again fine spread =
       let e : Given = record { terms = t ∷ tail; line = line } in
       let both = passed_both (element_checks points earlier e) (basis_checks points (earlier ++ t ∷ []) elements) fine in
@@ -305,12 +301,7 @@ module _ (n : ℕ) (zeros ones : Family) (zf : IsFamily n zeros) (of : IsFamily 
 
   pass_from : first_verdict (output_checks n zeros ones points given) ≡ Yes → Pass
   unfolding output_checks reduced_checks
-  pass_from fine =
-      let one = passed (misses zeros ones given.poly.terms) _ _ _ fine in
-      let two = passed_both (basis_checks points [] given.basis) _ one.1 in
-      let three = passed (miscounts n points tops) _ _ _ two.1 in
-      let four = passed (list_any (is_divided tops) given.poly.terms) _ _ _ three.1 in
-      record { value = one.0; basis = two.0; count = three.0; poly = four.0; tails = four.1 }
+  pass_from fine = search (rules, arith, passed, passed_both, points, tops)
 
   pass_to : Pass → first_verdict (output_checks n zeros ones points given) ≡ Yes
   unfolding first_verdict output_checks reduced_checks

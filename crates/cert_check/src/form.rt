@@ -69,7 +69,7 @@ fn is_left(left: &[u8]) -> bool
 
 /// The left and the right side of a line; None where it is not of the form.
 #[tactic(auto, unfolding(crate::specs::Reading::is_line))]
-pub(crate) fn sides(line: &[u8]) -> Option<(&[u8], &[u8])>
+pub fn sides(line: &[u8]) -> Option<(&[u8], &[u8])>
     ensures { MatchOption result (is_line (words line.now) ≡ false)
         (λ r. (is_line (words line.now) ≡ true) × (words line.now ≡ r.0.now ∷ codes "=" ∷ words r.1.now)) }
 {

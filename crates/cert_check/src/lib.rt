@@ -13,8 +13,11 @@ mod terms;
 
 pub use crate::answer::{Given, GivenAnswer, GivenOutput};
 pub use crate::checking::{MOST_INPUTS, check};
+pub use crate::form::sides;
+pub use crate::lines::bare;
 pub use crate::reading::read_answer;
 pub use crate::refusal::{AnswerRefusal, AnswerWhy, CheckRefusal, Fault, Verdict};
+pub use crate::terms::{are_known, monomials_of, place_of};
 
 #[cfg(test)]
 mod tests;

@@ -7,7 +7,7 @@ use pla_reader::without_last;
 
 /// What stands on a line: no line feed, and no carriage return before it.
 #[tactic(auto, unfolding(crate::specs::Reading::bare))]
-pub(crate) fn bare(line: &[u8]) -> &[u8]
+pub fn bare(line: &[u8]) -> &[u8]
     ensures { result.now ≡ bare line.now }
 {
     without_last(without_last(line, b'\n'), b'\r')

@@ -14,7 +14,7 @@ use pla_reader::{LineRefusal, includes, is_word};
 use std::alloc::Global;
 
 /// The place of a name, or the number of names.
-fn place_of(names: &[Name], name: &[u8]) -> usize
+pub fn place_of(names: &[Name], name: &[u8]) -> usize
     ensures { result ≡ place_of names.now name.now }
 {
     names
@@ -35,7 +35,7 @@ fn is_known(names: &[Name], term: &[u8]) -> bool
 }
 
 /// Whether each factor on the right side of a line is one of the names.
-fn are_known(names: &[Name], right: &[u8]) -> bool
+pub fn are_known(names: &[Name], right: &[u8]) -> bool
     ensures { result ≡ are_known names.now (terms_in (words right.now)) }
 {
     right
@@ -80,7 +80,7 @@ fn monomial_of(names: &[Name], term: &[u8]) -> Option<u64>
 }
 
 /// The monomials of the right side of a line, whose factors are all known.
-fn monomials_of(
+pub fn monomials_of(
     alloc: Global,
     names: &[Name],
     right: &[u8],

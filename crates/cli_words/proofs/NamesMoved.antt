@@ -27,7 +27,6 @@ use Rattle.clap.specs.declared.builder.value_parser.ValueParser.{ValueParser}
 use Rattle.clap.proofs.WalkLemmas.{find-map, list_any-map}
 use Rattle.clap.specs.Words.{built, fault_of, matches_of}
 use Rattle.cli_words.specs.CommandLine.{IsModeNames, NameList, at_zero, interp_command, interp_command_at, mode_name, modes}
-use Rattle.clap.specs.declared.builder.action.ArgAction.TheVariants as act
 use Rattle.clap.specs.declared.error.kind.ErrorKind.TheVariants as kind
 use Rattle.clap.specs.declared.builder.value_parser.ValueParser.TheVariants as vp
 

@@ -1,5 +1,5 @@
 -- The declared command, and what its matches say.
-use Rattle.std.specs.Prelude.{◌≡◌, ◌∷◌, [], ◌≤◌, Any, Contains, List, ℕ, map, true, Option, Some, option_map, codes, fold}
+use Rattle.std.specs.Prelude.{◌≡◌, ◌∷◌, [], ◌≤◌, Any, List, ℕ, map, true, Option, Some, option_map, codes, fold}
 use Rattle.std.specs.Borrow.{Bor}
 use Rattle.std.specs.Str.Parse.{digits_value, without_leading_plus}
 use Rattle.clap.specs.Words.{App, IsUnsignedIn, Row, Rule, Text, first_of, first_value, new_app, new_rule, one_of, one_text, with_rule}
@@ -20,7 +20,7 @@ mode_name Gen = codes "gen"
 
 -- the values of MODE, in order
 abbrev pub modes : List Mode
-modes = Anf ∷ Basis ∷ Check ∷ []
+modes = Anf ∷ Basis ∷ Check ∷ Gen ∷ []
 
 -- a list of names at its address
 abbrev pub NameList : Type 0
@@ -69,17 +69,19 @@ interp_command = interp_command_at (at_zero (map (λ mode. at_zero (mode_name mo
 abbrev pub number_of : Text → List Row → Option ℕ
 number_of id rows = option_map (λ text. digits_value 10 (without_leading_plus text)) (one_of id rows)
 
--- the job is what the matches say, within the ranges
+-- the job is what the matches say
 pub record IsJob (rows : List Row) (job : Job) : Type 0 where
   pub mode : first_of (codes "mode") rows ≡ Some (mode_name job.mode)
   pub workers : number_of (codes "workers") rows ≡ Some job.workers
   pub nodes : number_of (codes "nodes") rows ≡ Some job.nodes
   pub terms : number_of (codes "terms") rows ≡ Some job.terms
   pub seed : number_of (codes "seed") rows ≡ Some job.seed
-  pub mode_in : Contains modes job.mode
-  pub workers_in : (1 ≤ job.workers) × (job.workers ≤ 16)
-  pub nodes_in : (MIN_BITS ≤ job.nodes) × (job.nodes ≤ MAX_BITS)
-  pub terms_in : (1 ≤ job.terms) × (job.terms ≤ 1000000)
+
+-- its numbers are within the ranges of the options
+pub record IsWithin (job : Job) : Type 0 where
+  pub workers : (1 ≤ job.workers) × (job.workers ≤ 16)
+  pub nodes : (MIN_BITS ≤ job.nodes) × (job.nodes ≤ MAX_BITS)
+  pub terms : (1 ≤ job.terms) × (job.terms ≤ 1000000)
 
 -- a parse found a value of MODE
 abbrev pub HasMode : Found → Type 0

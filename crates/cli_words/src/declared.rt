@@ -11,7 +11,7 @@ use lattice::{MAX_BITS, MIN_BITS};
 use std::alloc::{AllocError, Global};
 
 /// The values of MODE.
-static MODES: [&str; 3] = ["anf", "basis", "check"];
+static MODES: [&str; 4] = ["anf", "basis", "check", "gen"];
 
 fn mode<'a>(alloc: Global) -> Arg<'a>
     ensures rule { (list : NameList) × IsModeNames list × (rule_of result ≡ mode_rule list) }

@@ -1,7 +1,7 @@
 // What the words ask for.
-ghost use Rattle.std.specs.Prelude.{◌≡◌, ◌≢◌, [], Contains, IfOk, IsErrOf, OnOk, Some, codes};
+ghost use Rattle.std.specs.Prelude.{◌≡◌, ◌≢◌, [], IfOk, IsErrOf, OnOk, Some, codes};
 ghost use Rattle.clap.specs.Words.{fault_of, first_of, found_of, matches_of, rows_of};
-ghost use Rattle.cli_words.specs.CommandLine.{HasEach, HasMode, HasNumber, IsJob, interp_command, mode_name, modes, number_of};
+ghost use Rattle.cli_words.specs.CommandLine.{HasEach, HasMode, HasNumber, IsJob, IsWithin, interp_command, mode_name, number_of};
 ghost use Rattle.cli_words.specs.declared.job.WordsRefusal.TheVariants.{Memory};
 
 use crate::declared::command;
@@ -49,13 +49,13 @@ impl From<AllocError> for WordsRefusal {
 #[tactic(auto, using(crate::proofs::Taken::first_is))]
 fn mode_of(matches: &ArgMatches<'_>) -> Mode
     requires { HasMode (found_of matches.now) }
-    ensures name { first_of (codes "mode") (rows_of (found_of matches.now)) ≡ Some (mode_name result) }
-    ensures known { Contains modes result }
+    ensures { first_of (codes "mode") (rows_of (found_of matches.now)) ≡ Some (mode_name result) }
 {
     match matches.get_str("mode") {
         Some("anf") => Mode::Anf,
         Some("basis") => Mode::Basis,
         Some("check") => Mode::Check,
+        Some("gen") => Mode::Gen,
         _ => unreachable!(),
     }
 }
@@ -71,7 +71,8 @@ fn number(matches: &ArgMatches<'_>, id: &str) -> u64
 // The job that a parse found.
 fn job_of(matches: &ArgMatches<'_>) -> Job
     requires { HasEach (found_of matches.now) }
-    ensures { IsJob (rows_of (found_of matches.now)) result }
+    ensures job { IsJob (rows_of (found_of matches.now)) result }
+    ensures within { IsWithin result }
 {
     Job {
         mode: mode_of(matches),
@@ -83,12 +84,13 @@ fn job_of(matches: &ArgMatches<'_>) -> Job
 }
 
 /// Reads the words, the program's name first, by the declared command
-/// `interp MODE [--workers N] [--nodes B] [--terms T] [--seed S]`, where MODE is `anf`, `basis` or `check`.
+/// `interp MODE [--workers N] [--nodes B] [--terms T] [--seed S]`, where MODE is `anf`, `basis`, `check` or `gen`.
 /// Which words it takes, and with which values, is the rule of `clap` for a simple command.
 pub fn read_words(alloc: Global, words: &Words) -> Result<Job, WordsRefusal>
     ensures usage { IsErrOf result WordsRefusal.Usage → fault_of interp_command words.now ≢ [] }
     ensures taken { OnOk result (fault_of interp_command words.now ≡ []) }
     ensures job { IfOk result (IsJob (matches_of interp_command words.now)) }
+    ensures within { IfOk result IsWithin }
 {
     let command = command(alloc)?;
     match command.try_get_matches_from(words.all()) {

@@ -37,6 +37,11 @@ fn words_that_are_taken(rt: HostRuntime) -> Result<(), Fail> {
         mode: Mode::Check,
         ..plain
     };
+    let generated = Job {
+        mode: Mode::Gen,
+        seed: 12_345,
+        ..plain
+    };
     let each = Job {
         mode: Mode::Basis,
         workers: 16,
@@ -51,6 +56,7 @@ fn words_that_are_taken(rt: HostRuntime) -> Result<(), Fail> {
         ("interp anf --", plain),
         ("interp basis", basis),
         ("interp check", check),
+        ("interp gen --seed 12345", generated),
         ("interp anf --nodes 23", large),
         ("interp anf --workers 8", eight),
         ("interp anf --workers=8", eight),
@@ -78,7 +84,7 @@ fn words_that_are_refused(rt: HostRuntime) -> Result<(), Fail> {
         "interp ANF",
         "interp an",
         "interp chec",
-        "interp gen",
+        "interp generate",
         "interp anf basis",
         "interp anf --nodes 3",
         "interp anf --nodes 24",

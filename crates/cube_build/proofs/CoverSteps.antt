@@ -1,15 +1,23 @@
--- One more row of a union of cubes.
-use Rattle.std.proofs.Common.{◌≡◌, ℕ, Ok, Some, List, [], ◌∷◌, ◌++◌, refl, sym, ◌∙◌, ap, ap₂, subst, ⊎_elim}
-use Rattle.lattice.specs.Family.{union_of, Has, Covers}
+-- One more row of a union of cubes, and the end of the rows.
+use Rattle.std.proofs.Common.{◌≡◌, ℕ, ◌+◌, ◌-◌, ◌^◌, ◌<◌, ◌≤◌, Bool, true, false, Ok, Some, List, [], ◌∷◌, ◌++◌}
+use Rattle.std.proofs.Common.{length, take, drop, get_or, min, refl, sym, ◌∙◌, ap, ap₂, subst, ⊎_elim, arith}
+use Rattle.std.proofs.lemmas.List.{take_all}
+use Rattle.std.proofs.lemmas.Slice.Zip.{AllZip-long}
+use Rattle.lattice.specs.Family.{union_of, Has, Covers, divides}
 use Rattle.lattice.specs.Cofactors.{sub}
-use Rattle.lattice.specs.Rows.{cube, cover}
+use Rattle.lattice.specs.Rows.{cube, cover, rows_with}
 use Rattle.lattice.specs.WorkingLists.{working_set, cover_list}
 use Rattle.lattice.specs.declared.row.Row.{Row}
-use Rattle.node_store.specs.Stores.{State, family, Denotes, IsSound, IsPlanned, Reads, Gives, Builds}
+use Rattle.node_store.specs.Stores.{State, family, Knows, Denotes, IsSound, IsPlanned, Gives, Builds}
 use Rattle.node_store.specs.declared.store.Handle.{Handle}
-use Rattle.node_store.proofs.StoreLaws.{Denotes-family, Gives-reads, Grows-refl, Grows-trans, Reads-trans}
+use Rattle.node_store.proofs.StoreLaws.{Denotes-family, Denotes-knows, Grows-refl, Grows-trans}
 use Rattle.lattice.proofs.Diagrams.{covers_each, covers_family, covers_nil}
-use Rattle.cube_build.proofs.CoverLemmas.{cover-nil, cover-push, cover_list-push, cover_list-cube, cover_list-cover}
+use Rattle.cube_build.specs.PointSets.{mask_of}
+use Rattle.cube_build.specs.UsedCubes.{used_cube, AreCubes}
+use Rattle.cube_build.specs.declared.covers.PointSet.{PointSet}
+use Rattle.cube_build.proofs.CoverLemmas.{no_row, cover-nil, cover-push, cover_list-push, cover_list-cover}
+use Rattle.cube_build.proofs.CoverLemmas.{rows_with-more, rows_with-same, rows_with-rest}
+use Rattle.cube_build.proofs.UsedCubeLemmas.{used_cube-some, names_where, cube_at}
 
 -- the union of no cubes
 pub cover_start : (s : State) → IsSound s → Gives s s (Ok (record { 0 = 0 })) (cover s.vars []) (working_set s.vars (cover_list s.vars []))
@@ -22,59 +30,92 @@ cover_start s ok = record {
   full = tt;
 }
 
--- s is the state before, t the one after the rows so far, r the row and `after` what comes after it
-module _ (s t : State) (n : ℕ) (rows after : List Row) (r : Row) (all : Handle) (n_is : n ≡ s.vars)
-    (before : Gives s t (Ok all) (cover n rows) (working_set n (cover_list n rows))) where
+-- s is the state before, t the one after the rows so far, r the row, whose cube is known, and `after` what comes after it
+module _ (s t : State) (n : ℕ) (rows after : List Row) (r : Row) (all here : Handle) (n_is : n ≡ s.vars) (ok : IsSound t)
+    (before : Gives s t (Ok all) (cover n rows) (working_set n (cover_list n rows))) (here_is : Denotes t here (cube n r)) where
   t_vars : t.vars ≡ n
   t_vars = before.grows.vars ∙ sym n_is
 
-  pub row_planned : Covers s.plan (working_set n (cover_list n ((rows ++ r ∷ []) ++ after))) → IsPlanned t (cube t.vars r)
-  row_planned planned = rw (t_vars, before.grows.plan)
-      (covers_family n s.plan (cover_list n ((rows ++ r ∷ []) ++ after)) (cube n r) planned (cover_list-cube n rows after r))
+  united : union_of t.vars (family t all) (family t here) ≡ cover n (rows ++ r ∷ [])
+  united =
+      ap (λ (v : ℕ). union_of v (family t all) (family t here)) t_vars
+      ∙ (ap₂ (union_of n) (Denotes-family t all (cover n rows) before.ok) (Denotes-family t here (cube n r) here_is)
+      ∙ sym (cover-push n rows r))
 
-  -- u is the state after the row's cube
-  module _ (u : State) (here : Handle) (cubed : Builds t u (Ok here) (cube t.vars r)) where
-    u_vars : u.vars ≡ n
-    u_vars = cubed.grows.vars ∙ t_vars
+  pub union_planned : Covers s.plan (working_set n (cover_list n ((rows ++ r ∷ []) ++ after)))
+      → IsPlanned t (union_of t.vars (family t all) (family t here))
+  union_planned planned =
+      rw (united, t_vars, before.grows.plan)
+      (covers_family n s.plan (cover_list n ((rows ++ r ∷ []) ++ after)) (cover n (rows ++ r ∷ [])) planned
+      (cover_list-cover n rows after r))
 
-    all_is : Denotes u all (cover n rows)
-    all_is = cubed.grows.known all.0 (cover n rows) before.ok
+  pub cover_next : (u : State) (new : Handle) → Builds t u (Ok new) (union_of t.vars (family t all) (family t here))
+      → Gives s u (Ok new) (cover n (rows ++ r ∷ [])) (working_set n (cover_list n (rows ++ r ∷ [])))
+  cover_next u new is = record {
+    grows = Grows-trans s t u before.grows is.grows;
+    ok = is.ok ∙ ap Some united;
+    held = covers_each n u.held (cover_list n (rows ++ r ∷ []))
+        (λ f listed g has. ⊎_elim
+        (λ old. is.grows.held g (covers_family n t.held (cover_list n rows) f before.held old g has))
+        (λ added. ⊎_elim
+        (λ e. is.grows.held g
+        (ok.subs here.0 (cube n r) here_is g
+        (subst (λ x. Has (sub t.vars x) g) (sym e) (subst (λ (k : ℕ). Has (sub k f) g) (sym t_vars) has))))
+        (λ e. is.held g (subst (λ x. Has (sub t.vars x) g) (sym (united ∙ e)) (subst (λ (k : ℕ). Has (sub k f) g) (sym t_vars) has)))
+        added)
+        (cover_list-push n rows r f listed));
+    quiet = is.quiet ∙ before.quiet;
+    full = tt;
+  }
 
-    here_is : Denotes u here (cube n r)
-    here_is = cubed.ok ∙ ap (λ (v : ℕ). Some (cube v r)) t_vars
+-- ---- the loop over the rows and their cubes: s is the state before it, t the one after i rows
 
-    united : union_of u.vars (family u all) (family u here) ≡ cover n (rows ++ r ∷ [])
-    united =
-        ap (λ (v : ℕ). union_of v (family u all) (family u here)) u_vars
-        ∙ (ap₂ (union_of n) (Denotes-family u all (cover n rows) all_is) (Denotes-family u here (cube n r) here_is)
-        ∙ sym (cover-push n rows r))
+-- what is given by a list of rows
+abbrev GivesRows : State → State → Handle → List Row → Type 0
+GivesRows s t points chosen = Gives s t (Ok points) (cover s.vars chosen) (working_set s.vars (cover_list s.vars chosen))
 
-    pub union_planned : Covers s.plan (working_set n (cover_list n ((rows ++ r ∷ []) ++ after)))
-        → IsPlanned u (union_of u.vars (family u all) (family u here))
-    union_planned planned =
-        rw (united, u_vars, cubed.grows.plan, before.grows.plan)
-        (covers_family n s.plan (cover_list n ((rows ++ r ∷ []) ++ after)) (cover n (rows ++ r ∷ [])) planned
-        (cover_list-cover n rows after r))
+module _ (s t : State) (rows : List Row) (cubes : List Handle) (set : PointSet) (output i : ℕ) (points : Handle)
+    (before : GivesRows s t points (rows_with (mask_of set) output (take i rows))) (are : AreCubes s rows cubes) where
+  -- the pair of the turn, and whether the row is chosen
+  module _ (less : i < length rows) (row : Row) (here : Handle) (row_is : row ≡ get_or rows i no_row) (here_is : here ≡ get_or cubes i here)
+      (chosen : Bool) (says : chosen ≡ divides (2 ^ (output - 1)) (mask_of set row)) where
+    bit : divides (2 ^ (output - 1)) (mask_of set (get_or rows i no_row)) ≡ chosen
+    bit = subst (λ r. divides (2 ^ (output - 1)) (mask_of set r) ≡ chosen) row_is (sym says)
 
-    pub before_union : Reads s u
-    before_union = Reads-trans s t u (Gives-reads s t all (cover n rows) (working_set n (cover_list n rows)) before)
-        (Gives-reads t u here (cube t.vars r) (sub t.vars (cube t.vars r)) cubed)
+    module _ (ok : IsSound t) (yes' : chosen ≡ true) where
+      bit_is : divides (2 ^ (output - 1)) (mask_of set (get_or rows i no_row)) ≡ true
+      bit_is = bit ∙ yes'
 
-    pub cover_next : (v : State) (new : Handle) → Builds u v (Ok new) (union_of u.vars (family u all) (family u here))
-        → Gives s v (Ok new) (cover n (rows ++ r ∷ [])) (working_set n (cover_list n (rows ++ r ∷ [])))
-    cover_next v new is = record {
-      grows = Grows-trans s u v before_union.grows is.grows;
-      ok = is.ok ∙ ap Some united;
-      held = covers_each n v.held (cover_list n (rows ++ r ∷ []))
-          (λ f listed g has. ⊎_elim
-          (λ old. is.grows.held g (cubed.grows.held g (covers_family n t.held (cover_list n rows) f before.held old g has)))
-          (λ added. ⊎_elim
-          (λ e. is.grows.held g
-          (cubed.held g (subst (λ x. Has (sub t.vars x) g) (sym (ap (λ (k : ℕ). cube k r) t_vars ∙ e))
-          (subst (λ (k : ℕ). Has (sub k f) g) (sym t_vars) has))))
-          (λ e. is.held g (subst (λ x. Has (sub u.vars x) g) (sym (united ∙ e)) (subst (λ (k : ℕ). Has (sub k f) g) (sym u_vars) has)))
-          added)
-          (cover_list-push n rows r f listed));
-      quiet = is.quiet ∙ before_union.quiet;
-      full = tt;
-    }
+      known : Denotes t here (cube s.vars (get_or rows i no_row))
+      known =
+          let used = used_cube-some s.vars (get_or rows i no_row) (names_where set (get_or rows i no_row) (output - 1) bit_is) in
+          before.grows.known here.0 (cube s.vars (get_or rows i no_row))
+          (subst (λ h. Denotes s h (cube s.vars (get_or rows i no_row))) (sym here_is)
+          (subst (λ f. Denotes s (get_or cubes i here) f) used (cube_at s rows cubes i here less are)))
+
+      pub turn_known : Knows t here
+      turn_known = Denotes-knows t here (cube s.vars (get_or rows i no_row)) known
+
+      pub turn_planned : Covers s.plan (working_set s.vars (cover_list s.vars (rows_with (mask_of set) output rows)))
+          → IsPlanned t (union_of t.vars (family t points) (family t here))
+      turn_planned planned =
+          union_planned s t s.vars (rows_with (mask_of set) output (take i rows)) (rows_with (mask_of set) output (drop (i + 1) rows))
+          (get_or rows i no_row) points here refl ok before known
+          (subst (λ rs. Covers s.plan (working_set s.vars (cover_list s.vars rs))) (rows_with-rest (mask_of set) output rows i less bit_is)
+          planned)
+
+      pub turn_chosen : (u : State) (new : Handle) → Builds t u (Ok new) (union_of t.vars (family t points) (family t here))
+          → GivesRows s u new (rows_with (mask_of set) output (take (i + 1) rows))
+      turn_chosen u new is =
+          subst (GivesRows s u new) (sym (rows_with-more (mask_of set) output rows i less bit_is))
+          (cover_next s t s.vars (rows_with (mask_of set) output (take i rows)) (rows_with (mask_of set) output (drop (i + 1) rows))
+          (get_or rows i no_row) points here refl ok before known u new is)
+
+    pub turn_other : chosen ≡ false → GivesRows s t points (rows_with (mask_of set) output (take (i + 1) rows))
+    turn_other no' = subst (GivesRows s t points) (sym (rows_with-same (mask_of set) output rows i less (bit ∙ no'))) before
+
+  -- after the last row
+  pub turn_end : i ≡ min (length rows) (length cubes) → GivesRows s t points (rows_with (mask_of set) output rows)
+  turn_end e =
+      let all : length rows ≤ i = omega (arith, AllZip-long (λ r h. Denotes s h (used_cube s.vars r)) rows cubes are) in
+      subst (λ rs. GivesRows s t points (rows_with (mask_of set) output rs)) (take_all i rows all) before

@@ -1,3 +1,4 @@
 pub mod PartialCubes
 pub mod PointSets
+pub mod UsedCubes
 pub mod GivenCareSets

@@ -1,13 +1,12 @@
 //! The points of the rows that say the same of an output.
 ghost use Rattle.std.specs.Prelude.{◌≡◌, ◌≤◌, ◌-◌, ◌^◌, true};
-ghost use Rattle.std.specs.List.{All};
 ghost use Rattle.lattice.specs.Family.{divides, Covers};
 ghost use Rattle.lattice.specs.Rows.{cover, rows_with};
 ghost use Rattle.lattice.specs.WorkingLists.{working_set, cover_list};
 ghost use Rattle.node_store.specs.Stores.{Gives};
-ghost use Rattle.cube_build.specs.PointSets.{mask_of, IsRowOver};
+ghost use Rattle.cube_build.specs.PointSets.{mask_of};
+ghost use Rattle.cube_build.specs.UsedCubes.{AreCubes};
 
-use crate::cubes::cube;
 use lattice::Row;
 use node_store::{Full, Handle, Store};
 use set_algebra::union;
@@ -38,19 +37,19 @@ fn is_in(row: &Row, set: PointSet, output: u32) -> bool
 pub fn cover<S: Store>(
     store: &mut S,
     rows: &[Row],
+    cubes: &[Handle],
     set: PointSet,
     output: u32,
 ) -> Result<Handle, Full>
-    requires rows { All (IsRowOver (S.state store.old).vars) rows.now }
+    requires cubes { AreCubes (S.state store.old) rows.now cubes.now }
     requires output { (1 ≤ output) × (output ≤ 64) }
     requires planned { let s = S.state store.old in Covers s.plan (working_set s.vars (cover_list s.vars (rows_with (mask_of set) output rows.now))) }
     ensures { let s = S.state store.old in let chosen = rows_with (mask_of set) output rows.now in Gives s (S.state store.new) result (cover s.vars chosen) (working_set s.vars (cover_list s.vars chosen)) }
 {
     let mut points = Handle(0);
-    for row in rows {
+    for (row, cube) in rows.iter().zip(cubes) {
         if is_in(row, set, output) {
-            let here = cube(store, row)?;
-            points = union(store, points, here)?;
+            points = union(store, points, *cube)?;
         }
     }
     Ok(points)

@@ -4,9 +4,11 @@
 mod care;
 mod covers;
 mod cubes;
+mod rows;
 
 pub use crate::care::{care_sets, ones, zeros};
 pub use crate::cubes::cube;
+pub use crate::rows::{CubesRefusal, row_cubes};
 
 #[cfg(test)]
 mod tests;

@@ -1,12 +1,12 @@
 ghost use Rattle.std.specs.Prelude.{◌≡◌, ◌≤◌, ◌<◌, ◌^◌, IfOk, true, [], ◌∷◌, length};
+ghost use Rattle.std.specs.List.{flat_map};
 ghost use Rattle.lattice.specs.Family.{divides};
 ghost use Rattle.lattice.specs.Rows.{cube};
-ghost use Rattle.lattice.specs.WorkingLists.{working_set, care_list};
+ghost use Rattle.lattice.specs.WorkingLists.{working_set, care_list, output_numbers};
 ghost use Rattle.lattice.proofs.Diagrams.{working_set_is_node_list};
 ghost use Rattle.node_store.specs.PlainOf.{state_of};
-ghost use Rattle.cube_build.specs.GivenCareSets.{care_needs};
 
-use crate::{cube, ones, zeros};
+use crate::{CubesRefusal, cube, ones, row_cubes, zeros};
 use lattice::{Memory, Mono, Monos, Planned, Row, plan_of};
 use node_store::{Full, Handle, PlainStore};
 use pla_reader::{Pla, read};
@@ -24,14 +24,14 @@ impl Planned for CubeOf {
     ghost node_list = { λ c. working_set_is_node_list c.0 (cube c.0 c.1 ∷ []) };
 }
 
-// The care sets of an output.
+// The care sets of all outputs.
 #[derive(Drop)]
-struct CareOf<'a>(&'a Pla, u32);
+struct AllCares<'a>(&'a Pla);
 
-impl Planned for CareOf<'_> {
-    ghost families = { λ c. care_needs c.0.now.inputs c.0.now.kind c.0.now.rows c.1 };
+impl Planned for AllCares<'_> {
+    ghost families = { λ c. let p = c.0.now in working_set p.inputs (flat_map (care_list p.inputs p.kind p.rows) (output_numbers p.outputs)) };
 
-    ghost node_list = { λ c. working_set_is_node_list c.0.now.inputs (care_list c.0.now.inputs c.0.now.kind c.0.now.rows c.1) };
+    ghost node_list = { λ c. let p = c.0.now in working_set_is_node_list p.inputs (flat_map (care_list p.inputs p.kind p.rows) (output_numbers p.outputs)) };
 }
 
 // A store of 16 slots with this plan.
@@ -86,9 +86,10 @@ fn points_of_cubes(rt: HostRuntime) -> Result<(), Fail> {
 fn care_points_of(alloc: Global, p: &Pla, output: u32) -> Result<(Monos, Monos), Fail>
     requires { (1 ≤ output) × (output ≤ p.now.outputs) }
 {
-    let mut store = store_for(alloc, p.inputs, &CareOf(p, output))?;
-    let zeros = zeros(&mut store, p, output)?;
-    let ones = ones(&mut store, p, output)?;
+    let mut store = store_for(alloc, p.inputs, &AllCares(p))?;
+    let cubes = row_cubes(alloc, &mut store, p)?;
+    let zeros = zeros(&mut store, p, &cubes, output)?;
+    let ones = ones(&mut store, p, &cubes, output)?;
     let zero_points = walk_upto(alloc, &mut store, zeros, 4)?;
     let one_points = walk_upto(alloc, &mut store, ones, 4)?;
     Ok((zero_points, one_points))
@@ -97,7 +98,7 @@ fn care_points_of(alloc: Global, p: &Pla, output: u32) -> Result<(Monos, Monos),
 // Files of each type with an output, and its care points.
 #[test]
 fn points_of_outputs(rt: HostRuntime) -> Result<(), Fail> {
-    let cases: [(&[u8], u32, &[Mono], &[Mono]); 5] = [
+    let cases: [(&[u8], u32, &[Mono], &[Mono]); 6] = [
         (
             b".i 2\n.o 1\n.type f\n1- 1\n01 1\n",
             1,
@@ -106,6 +107,12 @@ fn points_of_outputs(rt: HostRuntime) -> Result<(), Fail> {
         ),
         (
             b".i 2\n.o 1\n.type fd\n1- 1\n11 -\n",
+            1,
+            &[Mono(1), Mono(0)],
+            &[Mono(2)],
+        ),
+        (
+            b".i 2\n.o 1\n.type fd\n01 0\n1- 1\n11 -\n",
             1,
             &[Mono(1), Mono(0)],
             &[Mono(2)],
@@ -140,13 +147,35 @@ fn points_of_outputs(rt: HostRuntime) -> Result<(), Fail> {
     Ok(())
 }
 
+// Why the cubes of the file's rows were not built, if they were not.
+fn refused(alloc: Global, bytes: &[u8]) -> Result<Option<CubesRefusal>, Fail>
+    requires { length bytes.now < 100 }
+{
+    let (p, _) = read(alloc, bytes)?;
+    let mut store = store_for(alloc, p.inputs, &AllCares(&p))?;
+    Ok(row_cubes(alloc, &mut store, &p).err())
+}
+
+// A cube of one point needs as many families as the point has bits set, up to the last variable.
+#[test]
+fn cubes_one_slot_short(rt: HostRuntime) -> Result<(), Fail> {
+    let fits = refused(rt.alloc(), b".i 16\n.o 1\n.type fr\n1111111111111111 1\n")?;
+    assert_eq!(rt; fits, None);
+    let unused = refused(rt.alloc(), b".i 17\n.o 1\n.type f\n11111111111111111 0\n")?;
+    assert_eq!(rt; unused, None);
+    let short = refused(rt.alloc(), b".i 17\n.o 1\n.type fr\n11111111111111111 1\n")?;
+    assert_eq!(rt; short, Some(CubesRefusal::Full));
+    Ok(())
+}
+
 // The zeros where the file has so many inputs and no rows: all points.
 fn zeros_without_rows(alloc: Global, bytes: &[u8]) -> Result<Result<Handle, Full>, Fail>
     requires { length bytes.now < 100 }
 {
     let (p, _) = read(alloc, bytes)?;
-    let mut store = store_for(alloc, p.inputs, &CareOf(&p, 1))?;
-    Ok(zeros(&mut store, &p, 1))
+    let mut store = store_for(alloc, p.inputs, &AllCares(&p))?;
+    let cubes = row_cubes(alloc, &mut store, &p)?;
+    Ok(zeros(&mut store, &p, &cubes, 1))
 }
 
 // All points over the last variables are needed: as many families as there are inputs.

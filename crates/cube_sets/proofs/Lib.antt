@@ -2,3 +2,4 @@ mod SharedPoints
 mod Pairs
 mod Search
 mod Consistent
+mod Marks

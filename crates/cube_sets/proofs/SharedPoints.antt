@@ -41,7 +41,7 @@ together a b first second agree =
         omega arith
 
 -- where a point is in both cubes, the values agree
-agree_where_shared : (n : ℕ) (a b : Row) → SharePoint n a b → Agree a b
+pub agree_where_shared : (n : ℕ) (a b : Row) → SharePoint n a b → Agree a b
 unfolding in_cube
 agree_where_shared n a b shared = same_from_bits (bit_and a.value b.care) (bit_and b.value a.care) each
   where

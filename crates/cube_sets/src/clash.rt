@@ -1,10 +1,13 @@
 //! Rows that contradict each other.
-ghost use Rattle.std.specs.Prelude.{◌≡◌, ◌↔◌, ◌^◌, ◌<◌, ℕ, true, IsTrue, IfSome, IsNone};
-ghost use Rattle.std.specs.List.{Contains};
+ghost use Rattle.std.specs.Prelude.{◌≡◌, ◌↔◌, ◌^◌, ◌<◌, ℕ, true, IsTrue, IfSome, IsNone, length};
+ghost use Rattle.std.specs.List.{All, Contains};
 ghost use Rattle.lattice.specs.Family.{divides};
 ghost use Rattle.lattice.specs.Rows.{IsConsistent};
+ghost use Rattle.cube_sets.specs.declared.buckets.TheConstants.{BUCKETS};
+ghost use Rattle.cube_sets.specs.Buckets.{IsMarked};
 ghost use Rattle.cube_sets.specs.Clashes.{SharePoint, IsClashOf, IsAmong, IsClash, IsLeastOf, AnswersUpTo};
 
+use crate::buckets::{BUCKETS, common_care, mark_offs, may_clash};
 use lattice::{Kind, Row};
 use pla_reader::Pla;
 
@@ -52,12 +55,16 @@ fn clash_of(a: &Row, b: &Row, outputs: u32) -> Option<Clash>
     })
 }
 
-/// The least clash of the on-row `a` with an off-row of `p`, of those at an output up to `outputs`.
-fn least_with(p: &Pla, a: &Row, outputs: u32) -> Option<Clash>
-    requires { Contains p.now.rows a.now }
+/// The least clash of the on-row `a` with an off-row of `p`, of those at an output up to `outputs`. The outputs of value 0 are
+/// marked in the buckets of their rows.
+fn least_with(p: &Pla, offs: &[u64], common: u64, a: &Row, outputs: u32) -> Option<Clash>
+    requires row { Contains p.now.rows a.now }
+    requires length { length offs.now ≡ BUCKETS }
+    requires fixed { All (λ r. divides common r.care ≡ true) p.now.rows }
+    requires marked { All (IsMarked common offs.now) p.now.rows }
     ensures { AnswersUpTo outputs (IsAmong (IsClashOf p.now.inputs a.now) p.now.rows) result }
 {
-    if a.on == 0 || outputs == 0 {
+    if outputs == 0 || !may_clash(a, offs, common) {
         return None;
     }
     let mut least = None;
@@ -76,11 +83,14 @@ fn least_with(p: &Pla, a: &Row, outputs: u32) -> Option<Clash>
 fn least_clash(p: &Pla) -> Option<Clash>
     ensures { AnswersUpTo p.now.outputs (IsAmong (λ a. IsAmong (IsClashOf p.now.inputs a) p.now.rows) p.now.rows) result }
 {
+    let common = common_care(p.rows.as_slice());
+    let mut offs = [0; BUCKETS];
+    mark_offs(&mut offs, p.rows.as_slice(), common);
     let mut least = None;
     // Lines ascend, so after a clash only one at a lesser output can be less.
     let mut outputs = p.outputs;
     for a in p.rows.as_slice() {
-        if let Some(clash) = least_with(p, a, outputs) {
+        if let Some(clash) = least_with(p, &offs, common, a, outputs) {
             outputs = clash.output - 1;
             least = Some(clash);
         }

@@ -115,7 +115,7 @@ fn clash(output: u32, on_line: u32, off_line: u32) -> Option<Clash> {
 fn cases(rt: HostRuntime) -> Result<(), Fail> {
     let alloc = rt.alloc();
     let first = row(4, 2, 2, 1, 0, 0);
-    let cases: [(Kind, u32, &[Row], Option<Clash>); 7] = [
+    let cases: [(Kind, u32, &[Row], Option<Clash>); 8] = [
         // The cubes 1- and -1 share the point 11.
         (Kind::Fr, 1, &[first, row(5, 1, 1, 0, 1, 0)], clash(1, 4, 5)),
         (Kind::Fr, 1, &[first, row(5, 2, 0, 0, 1, 0)], None),
@@ -154,6 +154,17 @@ fn cases(rt: HostRuntime) -> Result<(), Fail> {
                 row(6, 3, 1, 0, 3, 0),
             ],
             clash(1, 5, 6),
+        ),
+        // Two rows of one point that say 0 of different outputs.
+        (
+            Kind::Fr,
+            2,
+            &[
+                row(4, 3, 3, 0, 1, 0),
+                row(5, 3, 3, 0, 2, 0),
+                row(6, 3, 3, 1, 0, 0),
+            ],
+            clash(1, 6, 4),
         ),
         // The shared point is in a row of don't cares.
         (

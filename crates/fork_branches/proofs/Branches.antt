@@ -10,21 +10,21 @@ use Rattle.unique_table.specs.Passes.{IsJoined, twin_of}
 use Rattle.fork_branches.specs.Branches.{GivesBoth, pair_of}
 
 -- s is the state, whose twin went on to y, and t, a later state of s, took in what y knows, which gives u
-module _ {s y t u : State} {f : Family} {needed : List Family} (later : Grows s t) (joined : IsJoined t y u) where
-  branch_full : {e : Full} → Gives (twin_of s) y (Err e) f needed → IsFull s u
-  branch_full gives =
-      let rose : Rose 0 y.refusals = gives.full.rose in
+module _ {s y t u : State} (later : Grows s t) (joined : IsJoined t y u) where
+  pub branch_full : Grows (twin_of s) y → IsFull (twin_of s) y → IsFull s u
+  branch_full grows full =
+      let rose : Rose 0 y.refusals = full.rose in
       record {
         rose = omega (arith, rose, later.refusals, joined.refusals);
         over = rw (joined.grows.capacity, later.capacity, joined.grows.plan, later.plan)
-            (rw (gives.grows.capacity, gives.grows.plan) at gives.full.over);
+            (rw (grows.capacity, grows.plan) at full.over);
       }
 
-  branch_quiet : {h : Handle} → IsSound t → Gives (twin_of s) y (Ok h) f needed → u.refusals ≡ t.refusals
-  branch_quiet sound gives = omega (arith, joined.refusals, gives.quiet, sound.counted)
+  pub branch_quiet : IsSound t → y.refusals ≡ 0 → u.refusals ≡ t.refusals
+  branch_quiet sound quiet = omega (arith, joined.refusals, quiet, sound.counted)
 
 -- a state after a refusal
-full_later : {s t u : State} → IsSound u → Grows t u → IsFull s t → IsFull s u
+pub full_later : {s t u : State} → IsSound u → Grows t u → IsFull s t → IsFull s u
 full_later sound grows full = record {
   rose = omega (arith, full.rose, grows.refusals);
   over = rw (grows.capacity, grows.plan) full.over;
@@ -41,7 +41,7 @@ module _ {s y u w v : State} {f g : Family} {needed more : List Family} (oks : I
     high = two.known hi.0 g high.ok;
     low_held = λ k i. two.grows.held k (one.held k (low.held k i));
     high_held = λ k i. two.held k (high.held k i);
-    quiet = branch_quiet one.grows two oku high ∙ branch_quiet (Grows-refl s) one oks low;
+    quiet = branch_quiet one.grows two oku high.quiet ∙ branch_quiet (Grows-refl s) one oks low.quiet;
     full = tt;
   }
   both_gives (Err e) hi low high = record {
@@ -51,7 +51,7 @@ module _ {s y u w v : State} {f g : Family} {needed more : List Family} (oks : I
     low_held = tt;
     high_held = tt;
     quiet = tt;
-    full = full_later okv two.grows (branch_full (Grows-refl s) one low);
+    full = full_later okv two.grows (branch_full (Grows-refl s) one low.grows low.full);
   }
   both_gives (Ok lo) (Err e) low high = record {
     grows = Grows-trans s u v one.grows two.grows;
@@ -60,7 +60,7 @@ module _ {s y u w v : State} {f g : Family} {needed more : List Family} (oks : I
     low_held = tt;
     high_held = tt;
     quiet = tt;
-    full = branch_full one.grows two high;
+    full = branch_full one.grows two high.grows high.full;
   }
 
 -- ---- two calls one after the other

@@ -1,1 +1,5 @@
 mod Branches
+mod Halving
+mod Works
+mod Solving
+mod Tested

@@ -1,9 +1,21 @@
-//! Set operations in two branches, which threads run beside each other on one shared table.
+//! Set operations in two branches, and jobs that threads draw, on one shared table.
 #![tactic(auto)]
 
 mod combined;
+mod crew;
+mod crews;
 mod forked;
+mod jobs;
 mod ones;
 mod pairs;
+mod pool;
+mod solve;
+mod work;
 
 pub use crate::forked::Forked;
+pub use crate::jobs::Jobs;
+pub use crate::pool::{Drawn, Pool, Solved};
+pub use crate::solve::{SolveRefusal, solve_all};
+
+#[cfg(test)]
+mod tests;

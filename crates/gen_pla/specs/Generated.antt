@@ -4,7 +4,7 @@ use Rattle.std.specs.List.{count_by, range_with_len}
 use Rattle.lattice.specs.Family.{divides, numbers_below}
 use Rattle.lattice.specs.declared.row.Row.{Row}
 use Rattle.lattice.specs.declared.kind.Kind.TheVariants.{Fr}
-use Rattle.pla_reader.specs.declared.pla.Pla.{Pla}
+use Rattle.pla_reader.specs.Reading.{Description}
 
 -- the points of a seed are those of an arithmetic progression, by 2^16: its step, which is odd, and its first member
 abbrev pub step_of : ℕ → ℕ
@@ -47,10 +47,6 @@ unfoldable pub generated_rows : ℕ → ℕ → List Row
 generated_rows seed count = map (generated_row seed) (range_with_len 0 count)
 
 -- the description of a seed
-pub record IsGenerated (seed : ℕ) (p : Pla) : Type 0 where
-  pub inputs : p.inputs ≡ 16
-  pub outputs : p.outputs ≡ 2
-  pub kind : p.kind ≡ Fr
-  pub rows : p.rows ≡ generated_rows seed 256
-  pub in_names : p.in_names ≡ []
-  pub out_names : p.out_names ≡ []
+abbrev pub generated : ℕ → Description
+generated seed = record
+    { inputs = 16; outputs = 2; kind = Fr; rows = generated_rows seed 256; in_names = []; out_names = [] }

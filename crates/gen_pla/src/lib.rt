@@ -3,7 +3,8 @@
 
 ghost use Rattle.std.specs.Prelude.{◌≡◌, ◌<◌, ◌*◌, ◌^◌, IfOk};
 ghost use Rattle.lattice.specs.Family.{divides};
-ghost use Rattle.gen_pla.specs.Generated.{point, is_odd, has_odd_pairs, outputs_at, generated_row, generated_rows, IsGenerated};
+ghost use Rattle.gen_pla.specs.Generated.{point, is_odd, has_odd_pairs, outputs_at, generated, generated_row, generated_rows};
+ghost use Rattle.pla_reader.specs.Reading.{description};
 ghost use Rattle.lattice.specs.Rows.{IsConsistent};
 
 use lattice::{Kind, Memory, Names, Row};
@@ -89,7 +90,7 @@ fn generated_row(seed: u64, k: u32) -> Row
 /// set, and output 2 where an odd number of pairs of neighbouring bits are both set.
 #[tactic(auto, using(crate::proofs::Progression::row_rules))]
 pub fn generate(alloc: Global, seed: u64) -> Result<Pla, Memory>
-    ensures file { IfOk result (IsGenerated seed) }
+    ensures file { IfOk result (λ p. description p ≡ generated seed) }
 
     // Its rows do not contradict each other.
     ensures consistent { IsConsistent 16 2 (generated_rows seed 256) }

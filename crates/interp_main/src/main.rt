@@ -5,6 +5,7 @@
 ghost use Rattle.std.specs.Prelude.{◌≡◌, [], All, IfOk};
 ghost use Rattle.watch.specs.Notes.{states_by};
 
+use fork_branches::Drawn;
 use interp_run::{Outcome, report, run};
 use lattice::{Memory, Words};
 use outside::{Rendezvous, StdSink, StdSource};
@@ -68,6 +69,7 @@ fn main(rt: HostRuntime) -> ExitCode {
         &mut source,
         &mut out,
         &mut err,
+        &mut Drawn::new(),
         &Rendezvous::open(),
         &mut watchers,
     ))

@@ -3,14 +3,13 @@ use Rattle.std.proofs.Common.{◌≡◌, ℕ, ◌+◌, ◌<◌, ◌≤◌, List,
 use Rattle.std.proofs.Common.{ap₂, ◌∙◌}
 use Rattle.std.specs.List.{All, sum_by}
 use Rattle.std.proofs.lemmas.List.Sums.{sum_by-cons, sum_by_more, sum_by_more_le}
-use Rattle.std.proofs.lemmas.List.Elements.{All-get_or, All-head, All-tail, All-weaker}
-use Rattle.node_store.specs.Stores.{State, Knows, family, Grows}
-use Rattle.node_store.proofs.StoreLaws.{Grows-family, Grows-knows}
+use Rattle.std.proofs.lemmas.List.Elements.{All-get_or, All-head, All-push, All-tail, All-weaker}
+use Rattle.node_store.specs.Stores.{State, Denotes, Knows, family, Grows}
+use Rattle.node_store.proofs.StoreLaws.{Denotes-family, Denotes-knows, Grows-family, Grows-knows}
 use Rattle.node_store.specs.declared.store.Handle.{Handle}
-use Rattle.interp_run.specs.Phases.{KnowsFound, KnowsSolved, first_terms, second_terms, terms_of, answer_in}
-use Rattle.interp_run.specs.declared.phases.Found.{Found}
+use Rattle.interp_run.specs.Phases.{AreHandles, KnowsSolved, second_terms, terms_of, answer_in}
 use Rattle.interp_run.specs.declared.phases.Solved.{Solved}
-use Rattle.std.proofs.lemmas.List.{map_more, map_push, reverse-reverse}
+use Rattle.std.proofs.lemmas.List.{length-map, map_more, map_push, reverse-reverse}
 use Rattle.lattice.specs.Family.{Family}
 use Rattle.anf_printer.specs.Text.{Answer, answer_of}
 use Rattle.anf_printer.specs.declared.answer.Shown.{Shown}
@@ -21,15 +20,9 @@ use Rattle.anf_printer.specs.declared.answer.Shown.{Shown}
 abbrev pub no_handle : Handle
 no_handle = record { 0 = 0 }
 
-abbrev pub no_found : Found
-no_found = record { polynomial = no_handle; points = no_handle; leads = no_handle }
-
 -- the terms of one element
 abbrev pub handle_terms : State → Handle → ℕ
 handle_terms s h = length (family s h)
-
-abbrev pub found_terms : State → Found → ℕ
-found_terms s f = length (family s f.polynomial) + length (family s f.leads)
 
 abbrev pub solved_terms : State → Solved → ℕ
 solved_terms s f = length (family s f.polynomial) + terms_of s f.basis.items
@@ -69,18 +62,6 @@ KnowsSolved-at s solved i o is h known = subst (KnowsSolved s) (sym is) (All-get
 -- the terms of a polynomial and of others
 abbrev pub terms_with : State → Handle → List Handle → ℕ
 terms_with s polynomial others = length (family s polynomial) + terms_of s others
-
-pub found_so_far : (s t : State) (found : List Found) (i : ℕ) → i < length found → Grows s t → All (KnowsFound s) found
-    → let f = get_or found i no_found in
-    (first_terms s (take (i + 1) found) ≡ first_terms s (take i found) + terms_with t f.polynomial (f.leads ∷ []))
-    × (first_terms s (take i found) + terms_with t f.polynomial (f.leads ∷ []) ≤ first_terms s found)
-found_so_far s t found i within grows known =
-    let f = get_or found i no_found in
-    let knows = All-get_or (KnowsFound s) found i no_found within known in
-    let one = length-later s t f.polynomial grows knows.0 in
-    let two = length-later s t f.leads grows knows.1 in
-    one_more (found_terms s) (λ f. terms_with t f.polynomial (f.leads ∷ [])) found i f no_found within refl
-    (omega (arith, one, two, sum_by-cons (handle_terms t) f.leads []))
 
 pub solved_so_far : (s t : State) (solved : List Solved) (i : ℕ) (o : Solved) → o ≡ get_or solved i o → i < length solved → Grows s t
     → All (KnowsSolved s) solved
@@ -127,3 +108,11 @@ shown_more s t u solved i o before after x at within to_t to_u known so_far poly
     ap (map answer_of) pushed ∙ (map_push answer_of before x
     ∙ (ap₂ (λ (xs : List Answer) (y : Answer). xs ++ y ∷ []) so_far (one ∙ ap (answer_in s) at)
     ∙ sym (map_more (answer_in s) solved i o within)))
+
+-- ==== handles of families
+
+pub handles_long : (s : State) (hs : List Handle) (fs : List Family) → AreHandles s hs fs → length hs ≡ length fs
+handles_long s hs fs are = sym (length-map hs (family s)) ∙ ap length are.1
+
+pub handles_later : (s t : State) (hs : List Handle) (fs : List Family) → Grows s t → AreHandles s hs fs → AreHandles t hs fs
+handles_later s t hs fs grows are = (All_known-later s t hs grows are.0, families_later s t hs grows are.0 ∙ are.1)

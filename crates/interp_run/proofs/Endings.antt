@@ -2,8 +2,8 @@
 use Rattle.interp_run.specs.declared.describe.TheConstants.{MOST_BYTES}
 use Rattle.cert_check.specs.declared.checking.TheConstants.{MOST_INPUTS}
 use Rattle.std.proofs.Common.{◌≡◌, ◌∙◌, ap, subst, ℕ, ◌+◌, ◌<◌, ◌≤◌, List, length, length-take, min, take, take_all, drop, refl, sym, inl}
-use Rattle.std.proofs.Common.{inr, ◌⊎◌, ⊎_elim, arith, [], Option, Some, None, ◌≢◌, ◌∷◌, append-nil, true}
-use Rattle.std.specs.Prelude.{Ok, Err, Result, IfErr, OnOk}
+use Rattle.std.proofs.Common.{inr, ◌⊎◌, ⊎_elim, arith, [], Option, Some, None, ◌≢◌, ◌∷◌, append-nil, true, false}
+use Rattle.std.specs.Prelude.{Ok, Err, Result, IfErr, OnErr, OnOk}
 use Rattle.std.proofs.lemmas.Bool.{cases_lt, le-ltb, lt-ltb}
 use Rattle.pla_reader.specs.Reading.{Description, bytes_taken, description, reading_of}
 use Rattle.pla_reader.specs.declared.pla.Pla.{Pla}
@@ -11,12 +11,13 @@ use Rattle.pla_reader.specs.declared.refusal.Refusal.{Refusal}
 use Rattle.cert_check.specs.Reading.{answer_reading, GivesAnswer}
 use Rattle.cert_check.specs.declared.answer.GivenOutput.{GivenOutput}
 use Rattle.cert_check.specs.declared.refusal.AnswerWhy.{AnswerWhy}
+use Rattle.gen_pla.specs.Generated.{generated}
 use Rattle.cli_words.specs.declared.job.Job.{Job}
 use Rattle.interp_run.specs.Due.{Due, IsDue, IsExhausted, checking, file_of, given_of, no_file, solving}
 use Rattle.interp_run.specs.Due.{IsDueChecking, contradicted, contradiction, contradiction_behind, judged, no_answer, silent, verdict}
-use Rattle.interp_run.specs.Due.{HasText}
+use Rattle.interp_run.specs.Due.{IsSolving, is_gen}
 use Rattle.lattice.specs.Rows.{IsConsistent}
-use Rattle.lattice.specs.declared.kind.Mode.TheVariants.{Anf, Basis, Check}
+use Rattle.lattice.specs.declared.kind.Mode.TheVariants.{Check, Gen}
 use Rattle.cert_check.specs.Faults.{verdict_on}
 use Rattle.cert_check.specs.declared.refusal.AnswerRefusal.{AnswerRefusal}
 use Rattle.cert_check.specs.declared.refusal.AnswerRefusal.TheVariants.{Bad, Memory}
@@ -25,30 +26,33 @@ use Rattle.interp_run.specs.Parts.{EndsUnsolved, EndsWithout, IsContradiction, d
 use Rattle.interp_run.specs.Parts.{no_memory_to_solve, nodes_over, refused_outcome}
 use Rattle.interp_run.specs.declared.outcome.Outcome.{Outcome}
 use Rattle.watch.specs.Notes.{WatcherState, left_after_all}
-use Rattle.interp_run.specs.Run.{Ends, Ran, IsAsked, IsRefused, as_due, exhausted, memory, read_fault, refused, status_of}
+use Rattle.interp_run.specs.Run.{Ends, HasText, IsAsked, IsRefused, Ran, as_due, exhausted, memory, read_fault, refused, status_of}
 use Rattle.interp_run.specs.Run.{write_fault}
-use Rattle.std.specs.Result.{IsErrAnd}
+use Rattle.std.specs.Result.{IsErrAnd, is_err}
 use Rattle.std.specs.List.{concat}
 use Rattle.std.specs.Io.KnownBytes.{Appends, Keeps}
 use Rattle.outside.specs.Causes.{GainsFront, GainsLess, GainsUnlessRose, HasCause}
 use Rattle.cert_check.specs.declared.refusal.Verdict.TheVariants.{Yes, No}
 use Rattle.watch.specs.declared.note.Note.{Note}
 use Rattle.watch.proofs.LeftAfter.{left_after_all-nil}
-use Rattle.interp_run.proofs.OneDue.{same_job, fits_with_text, same_due, check_silent, is_owed, shape}
+use Rattle.interp_run.proofs.OneDue.{same_job, fits_with_text, same_due, check_silent, is_owed, shape, summary_silent}
 use Rattle.interp_run.proofs.Written.{appends_nothing, stopped_at}
 use Rattle.interp_run.specs.declared.outcome.Outcome.TheVariants as ends
 
 -- ==== the file of a run and the answer that is judged, from what was read of its bytes
 
-module _ (job : Job) (bytes : List ℕ) where
+module _ (job : Job) (reads : is_gen job.mode ≡ false) (bytes : List ℕ) where
   pub file_too_long : MOST_BYTES < length bytes → file_of job bytes ≡ Err ends.TooLong
-  file_too_long long = rw (lt-ltb MOST_BYTES (length bytes) long) refl
+  file_too_long long = rw (reads, lt-ltb MOST_BYTES (length bytes) long) refl
 
   pub file_read : (d : Description) → length bytes ≤ MOST_BYTES → reading_of bytes ≡ Ok d → file_of job bytes ≡ Ok d
-  file_read d few read = rw (le-ltb MOST_BYTES (length bytes) few, read) refl
+  file_read d few read = rw (reads, le-ltb MOST_BYTES (length bytes) few, read) refl
 
   pub file_refused : (r : Refusal) → length bytes ≤ MOST_BYTES → reading_of bytes ≡ Err r → file_of job bytes ≡ Err (ends.Text r.line r.why)
-  file_refused r few bad = rw (le-ltb MOST_BYTES (length bytes) few, bad) refl
+  file_refused r few bad = rw (reads, le-ltb MOST_BYTES (length bytes) few, bad) refl
+
+pub file_made : (job : Job) (bytes : List ℕ) (d : Description) → is_gen job.mode ≡ true → generated job.seed ≡ d → file_of job bytes ≡ Ok d
+file_made job bytes d gen is = rw (gen) (ap Ok is)
 
 module _ (p : Pla) (text : List ℕ) where
   pub given_too_wide : MOST_INPUTS < p.inputs → given_of p text ≡ Err ends.TooWide
@@ -64,7 +68,7 @@ module _ (p : Pla) (text : List ℕ) where
 
 -- ---- what was read is all bytes, or they are too many
 
-module _ (job : Job) (bytes read : List ℕ) (is : read ≡ take (MOST_BYTES + 1) bytes) where
+module _ (job : Job) (reads : is_gen job.mode ≡ false) (bytes read : List ℕ) (is : read ≡ take (MOST_BYTES + 1) bytes) where
   read_whole : (read ≡ bytes) ⊎ ((MOST_BYTES < length read) × (MOST_BYTES < length bytes))
   read_whole =
       let size : length (take (MOST_BYTES + 1) bytes) ≡ min (MOST_BYTES + 1) (length bytes) = length-take (MOST_BYTES + 1) bytes in
@@ -73,21 +77,28 @@ module _ (job : Job) (bytes read : List ℕ) (is : read ≡ take (MOST_BYTES + 1
       (cases_lt MOST_BYTES (length bytes))
 
   too_long : {due : Due} → MOST_BYTES < length read → MOST_BYTES < length bytes → IsDue job read due → IsDue job bytes due
-  too_long a b (no_file o e) = no_file o (file_too_long job bytes b ∙ (sym (file_too_long job read a) ∙ e))
-  too_long a b (solving d due e mode h) = let bad = sym (file_too_long job read a) ∙ e in cc
-  too_long a b (checking p due e mode h) = let bad = sym (file_too_long job read a) ∙ e in cc
+  too_long a b (no_file o e) = no_file o (file_too_long job reads bytes b ∙ (sym (file_too_long job reads read a) ∙ e))
+  too_long a b (solving d due e mode h) = let bad = sym (file_too_long job reads read a) ∙ e in cc
+  too_long a b (checking p due e mode h) = let bad = sym (file_too_long job reads read a) ∙ e in cc
 
   -- what is due for what was read is due for all bytes
   pub due_of_read : {due : Due} → IsDue job read due → IsDue job bytes due
   due_of_read {due = due} h = ⊎_elim (λ same. subst (λ (b : List ℕ). IsDue job b due) same h) (λ long. too_long long.0 long.1 h) read_whole
 
-  pub exhausted_of_read : IsExhausted job read → IsExhausted job bytes
+  exhausted_of_read : IsExhausted job read → IsExhausted job bytes
   exhausted_of_read h =
-      ⊎_elim (λ same. subst (IsExhausted job) same h) (λ long. let bad = sym (file_too_long job read long.0) ∙ h.file in cc) read_whole
+      ⊎_elim (λ same. subst (IsExhausted job) same h) (λ long. let bad = sym (file_too_long job reads read long.0) ∙ h.file in cc)
+      read_whole
+
+  -- and so is an end without an answer
+  pub without_of_read : {o : Outcome} → EndsWithout job read o → EndsWithout job bytes o
+  without_of_read (due_without o due) = due_without o (due_of_read due)
+  without_of_read (exhausted_without h) = exhausted_without (exhausted_of_read h)
+  without_of_read no_memory = no_memory
 
 -- ==== ends without an answer, from what the steps of a run found
 
-module _ (job : Job) (bytes : List ℕ) (d : Description) (file : file_of job bytes ≡ Ok d) (mode : (job.mode ≡ Anf) ⊎ (job.mode ≡ Basis))
+module _ (job : Job) (bytes : List ℕ) (d : Description) (file : file_of job bytes ≡ Ok d) (mode : IsSolving job.mode)
   where
     pub contradiction_ends : {o : Outcome} → IsContradiction d o → EndsWithout job bytes o
     contradiction_ends h = subst (EndsWithout job bytes) (sym h.outcome_is)
@@ -176,6 +187,15 @@ pub if_err : {T E : Type 0} (r : Result T E) (x : E) (P : E → Type 0) → IsEr
 if_err (Ok t) x P same p = tt
 if_err (Err e) x P same p = subst P (sym same) p
 
+-- what holds after an error, and after success
+pub after_err : {T E : Type 0} (r : Result T E) (P : Type 0) → is_err r ≡ true → OnErr r P → P
+after_err (Ok t) P is p = cc
+after_err (Err e) P is p = p
+
+pub after_ok : {T E : Type 0} (r : Result T E) (P : Type 0) → is_err r ≡ false → OnOk r P → P
+after_ok (Ok t) P is p = p
+after_ok (Err e) P is p = cc
+
 -- ---- from what the steps found
 
 -- what is due with one page, and the verdict that is due so
@@ -186,37 +206,36 @@ pub judged_is : (v : Verdict) (text : List ℕ) → (judged v).pages ≡ text �
 judged_is Yes text is = λ i. record { outcome = ends.Done; pages = is i; notes = [] }
 judged_is (No line why) text is = λ i. record { outcome = ends.No line why; pages = is i; notes = [] }
 
+pub done_text : HasText ends.Done
+done_text = omega arith
+
 pub has_text : (v : Verdict) → HasText (judged v).outcome
-has_text Yes = tt
-has_text (No line why) = tt
+has_text Yes = omega arith
+has_text (No line why) = omega arith
 
-module _ (words : List (List ℕ)) (bytes read : List ℕ) (job : Job) (asked : IsAsked words job) (is : read ≡ take (MOST_BYTES + 1) bytes)
-  where
-    -- without an answer
-    pub ends_without : {o : Outcome} (held : Option (List ℕ)) (states : List WatcherState) → EndsWithout job read o
-        → Ends words bytes held held states states o
-    ends_without held states (due_without o due) = as_due job (silent o) asked (due_of_read job bytes read is due) (appends_nothing held)
-        (sym (left_after_all-nil states))
-    ends_without held states (exhausted_without h) = exhausted job asked (exhausted_of_read job bytes read is h) (keeps_same held) refl
-    ends_without held states no_memory = memory (keeps_same held) refl
+module _ (words : List (List ℕ)) (bytes : List ℕ) (job : Job) (asked : IsAsked words job) where
+  -- without an answer
+  pub ends_without : {o : Outcome} (held : Option (List ℕ)) (states : List WatcherState) → EndsWithout job bytes o
+      → Ends words bytes held held states states o
+  ends_without held states (due_without o due) = as_due job (silent o) asked due (appends_nothing held) (sym (left_after_all-nil states))
+  ends_without held states (exhausted_without h) = exhausted job asked h (keeps_same held) refl
+  ends_without held states no_memory = memory (keeps_same held) refl
 
-    -- with a page, which is written whole
-    pub ends_judged : (old new : Option (List ℕ)) (states : List WatcherState) (o : Outcome) (text : List ℕ) → IsDue job read (paged o text)
-        → Appends old new text
-        → Ends words bytes old new states states o
-    ends_judged old new states o text due gained =
-        as_due job (paged o text) asked (due_of_read job bytes read is due) (subst (Appends old new) (sym (append-nil text)) gained)
-        (sym (left_after_all-nil states))
+  -- with a page, which is written whole
+  pub ends_paged : (old new : Option (List ℕ)) (states : List WatcherState) (o : Outcome) (text : List ℕ) → IsDue job bytes (paged o text)
+      → Appends old new text
+      → Ends words bytes old new states states o
+  ends_paged old new states o text due gained =
+      as_due job (paged o text) asked due (subst (Appends old new) (sym (append-nil text)) gained) (sym (left_after_all-nil states))
 
-    -- with a part of it
-    pub ends_unjudged : (old new : Option (List ℕ)) (states : List WatcherState) (o : Outcome) (text : List ℕ)
-        → IsDue job read (paged o text) → HasText o → GainsFront old new text → GainsLess old new text
-        → Ends words bytes old new states states ends.WriteFault
-    ends_unjudged old new states o text due has front less =
-        write_fault job (paged o text) asked (due_of_read job bytes read is due) has
-        (subst (GainsFront old new) (sym (append-nil text)) front)
-        (stopped_at old old new (paged o text) 0 text states states (omega arith) refl (appends_nothing old) less
-        (sym (left_after_all-nil states)))
+  -- with a part of it
+  pub ends_within : (old new : Option (List ℕ)) (states : List WatcherState) (o : Outcome) (text : List ℕ)
+      → IsDue job bytes (paged o text) → HasText o → GainsFront old new text → GainsLess old new text
+      → Ends words bytes old new states states ends.WriteFault
+  ends_within old new states o text due has front less =
+      write_fault job (paged o text) asked due has (subst (GainsFront old new) (sym (append-nil text)) front)
+      (stopped_at old old new (paged o text) 0 text states states (omega arith) refl (appends_nothing old) less
+      (sym (left_after_all-nil states)))
 
 -- ---- what the status says
 
@@ -225,9 +244,7 @@ owed_status ends.Usage owed e = cc
 owed_status _ owed e = omega (arith, e)
 
 text_status : (o : Outcome) → HasText o → (status_of o ≡ 0) ⊎ (status_of o ≡ 1)
-text_status ends.Done text = inl refl
-text_status (ends.No line why) text = inr refl
-text_status _ text = absurd text
+text_status o text = grind arith
 
 module _ (words : List (List ℕ)) (bytes : List ℕ) (old new : Option (List ℕ)) (before after : List WatcherState) where
   pub usage_refused : {o : Outcome} → Ends words bytes old new before after o → status_of o ≡ 2 → IsRefused words
@@ -272,16 +289,20 @@ module _ (words : List (List ℕ)) (bytes : List ℕ) (old new : Option (List �
     asked_due : (other : Job) {due : Due} → IsAsked words other → IsDue other bytes due → IsDue job bytes due
     asked_due other {due = due} again is = subst (λ (j : Job). IsDue j bytes due) (same_job words other job again asked) is
 
-    pub nobody_in_check : {o : Outcome} → Ends words bytes old new before after o → job.mode ≡ Check → after ≡ before
-    nobody_in_check (as_due other due again is gained left) checks = untold due.notes
-        (check_silent job bytes (asked_due other again is) checks) left
-    nobody_in_check (write_fault other due again is text front told) checks =
-        untold (take told.count due.notes) (ap (take told.count) (check_silent job bytes (asked_due other again is) checks)
+    silent_mode : {due : Due} → IsDue job bytes due → (job.mode ≡ Check) ⊎ (job.mode ≡ Gen) → due.notes ≡ []
+    silent_mode is (inl checks) = check_silent job bytes is checks
+    silent_mode is (inr gen) = summary_silent job bytes is (ap is_gen gen)
+
+    pub nobody_in_silence : {o : Outcome} → Ends words bytes old new before after o → (job.mode ≡ Check) ⊎ (job.mode ≡ Gen)
+        → after ≡ before
+    nobody_in_silence (as_due other due again is gained left) mode = untold due.notes (silent_mode (asked_due other again is) mode) left
+    nobody_in_silence (write_fault other due again is text front told) mode =
+        untold (take told.count due.notes) (ap (take told.count) (silent_mode (asked_due other again is) mode)
         ∙ take_all told.count [] (omega arith)) told.left
-    nobody_in_check (refused r keeps same) checks = same
-    nobody_in_check (exhausted other again h keeps same) checks = same
-    nobody_in_check (read_fault other again keeps same) checks = same
-    nobody_in_check (memory keeps same) checks = same
+    nobody_in_silence (refused r keeps same) mode = same
+    nobody_in_silence (exhausted other again h keeps same) mode = same
+    nobody_in_silence (read_fault other again keeps same) mode = same
+    nobody_in_silence (memory keeps same) mode = same
 
     -- an answer that is due is written, or memory ran out, unless a fault was counted
     pub written_or_memory : (due : Due) {o : Outcome} → IsDue job bytes due → HasText due.outcome → Ends words bytes old new before after o

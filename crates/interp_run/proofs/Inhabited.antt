@@ -41,10 +41,12 @@ use Rattle.cert_check.specs.declared.refusal.Verdict.{Verdict}
 use Rattle.cert_check.specs.declared.refusal.Verdict.TheVariants.{Yes}
 use Rattle.watch.specs.declared.note.Note.{Note}
 use Rattle.interp_run.specs.Answers.{first_count, second_count, last_nodes, texts, notes_from}
-use Rattle.interp_run.specs.Due.{IsDue, IsDueChecking, IsDueSolving, checking, done, judged, solving}
+use Rattle.interp_run.specs.Due.{IsDue, IsDueChecking, IsDueSolving, checking, judged, solved, solving}
 use Rattle.interp_run.specs.Due.{verdict}
+use Rattle.interp_run.proofs.OneDue.{solves_without_gen}
 use Rattle.interp_run.specs.Laws.{two_points, usual_job}
 use Rattle.interp_run.specs.declared.outcome.Outcome.TheVariants as ends
+use Rattle.interp_run.proofs.LimitsPassed.{within_limits}
 use Rattle.interp_run.proofs.Endings.{file_read, given_read}
 use Rattle.interp_run.proofs.SolvedAnswers.{answers_are, answers_for}
 
@@ -146,9 +148,12 @@ Fits mode pages notes =
 due_of : (mode : Mode) (pages : List (List ℕ)) (notes : List Note) → (mode ≡ Anf) ⊎ (mode ≡ Basis) → Fits mode pages notes
     → IsDue (usual_job mode) two_points (record { outcome = ends.Done; pages = pages; notes = notes })
 due_of mode pages notes solves fits =
-    solving d _ (file_read (usual_job mode) two_points d short reads) solves
-    (subst (IsDueSolving (usual_job mode) d) (λ i. record { outcome = ends.Done; pages = fits.3 i; notes = fits.4 i })
-    (done (answers_for d mode) (answers_are d mode consistent) fits.0 fits.1 fits.2))
+    let modes = solves_without_gen mode solves in
+    let is : solved (usual_job mode) d (answers_for d mode) ≡ record { outcome = ends.Done; pages = pages; notes = notes } =
+    rw (modes.1) (λ i. record { outcome = ends.Done; pages = fits.3 i; notes = fits.4 i }) in
+    solving d _ (file_read (usual_job mode) modes.1 two_points d short reads) modes.0
+    (subst (IsDueSolving (usual_job mode) d) is
+    (within_limits (usual_job mode) d (answers_for d mode) (answers_are d mode consistent) fits.0 fits.1 fits.2))
 
 anf_fits : Fits Anf (codes "f = b\n" ∷ []) (record { output = 1; terms = 1; basis = 0 } ∷ [])
 unfolding rows p working_set distinct ones_list interpolation_list cover_list care_list output_list first_phase second_phase sub includes
@@ -210,7 +215,7 @@ short_too = lit≤ tt
 
 pub due_in_check : IsDue (usual_job Check) (two_points ++ text) (judged Yes)
 due_in_check =
-    checking p (judged Yes) (file_read (usual_job Check) (two_points ++ text) (description p) short_too reads_too) refl
+    checking p (judged Yes) (file_read (usual_job Check) refl (two_points ++ text) (description p) short_too reads_too) refl
     (subst (λ (t : List ℕ). IsDueChecking p t (judged Yes)) (sym text_is)
     (subst (λ (v : Verdict). IsDueChecking p text (judged v)) verdict_is
     (verdict answer (given_read p text answer few answered) consistent)))

@@ -1,27 +1,27 @@
 -- Words ask for one job at most. Exactly one thing is due for a job and bytes that have a file; it is no fault of the run.
 use Rattle.interp_run.specs.declared.describe.TheConstants.{MOST_BYTES}
 use Rattle.cert_check.specs.declared.checking.TheConstants.{MOST_INPUTS}
-use Rattle.std.proofs.Common.{◌≡◌, ◌≢◌, ◌∙◌, ap, ℕ, zero, suc, ◌<◌, length, List, [], ◌∷◌, Option, Some, refl, sym, inl, inr, ◌⊎◌, ⊎_elim}
-use Rattle.std.proofs.Common.{arith, subst, Bool, true, false, ap₂, ◌+◌, ◌^◌, ◌≤◌, cond, ◌++◌, get_or, codes, None, drop}
-use Rattle.std.specs.Prelude.{Contains, Result, Ok, Err, if◌then◌else◌, nat_lt, length, ◌↔◌, IsNone, IfSome}
-use Rattle.std.specs.List.{slice_index_or}
+use Rattle.std.proofs.Common.{◌≡◌, ◌≢◌, ◌∙◌, ap, ℕ, length, List, [], ◌∷◌, Option, Some, refl, sym, inl, inr, ◌⊎◌, ⊎_elim}
+use Rattle.std.proofs.Common.{arith, subst, Bool, true, false, ap₂, ◌+◌, ◌^◌, ◌≤◌, ◌++◌, get_or, codes, None, drop}
+use Rattle.std.specs.Prelude.{Result, Ok, Err, if◌then◌else◌, nat_lt, length, ◌↔◌, IsNone, IfSome}
 use Rattle.std.specs.Result.{result_map_both}
 use Rattle.lattice.specs.declared.kind.Mode.{Mode}
 use Rattle.lattice.specs.declared.kind.Mode.TheVariants.{Anf, Basis, Check, Gen}
-use Rattle.cli_words.specs.CommandLine.{mode_name, modes}
+use Rattle.gen_pla.specs.Generated.{generated}
+use Rattle.cli_words.specs.CommandLine.{mode_name}
 use Rattle.cli_words.specs.declared.job.Job.{Job}
-use Rattle.interp_run.specs.Run.{IsAsked}
-use Rattle.std.proofs.lemmas.Bool.{false≢true, cases_Bool, le-ltb, lt-ltb, cases_lt}
+use Rattle.interp_run.specs.Run.{HasText, IsAsked}
+use Rattle.std.proofs.lemmas.Bool.{false≢true, cases_Bool, lt-ltb, cases_lt}
 use Rattle.pla_reader.specs.Reading.{Description, reading_of, description, bytes_taken}
 use Rattle.pla_reader.specs.declared.pla.Pla.{Pla}
 use Rattle.cert_check.specs.Faults.{verdict_on, checks_from, first_verdict, output_checks, Check as Test}
 use Rattle.cert_check.specs.Reading.{answer_reading, read_on}
 use Rattle.cert_check.specs.declared.refusal.Verdict.{Verdict}
 use Rattle.cert_check.specs.declared.refusal.Verdict.TheVariants.{Yes, No}
-use Rattle.interp_run.specs.Due.{Due, HasText, IsDue, IsDueChecking, IsDueSolving, checking, contradiction, contradiction_behind, done}
-use Rattle.interp_run.specs.Due.{first_nodes_over, first_terms_over, judged, last_nodes_over, last_terms_over}
+use Rattle.interp_run.specs.Due.{Due, IsDue, IsDueChecking, IsDueSolving, checking, contradiction, contradiction_behind}
+use Rattle.interp_run.specs.Due.{first_passed, has_answers, judged}
 use Rattle.interp_run.specs.Due.{no_answer, no_file, silent, solving, verdict, IsExhausted, contradicted}
-use Rattle.interp_run.specs.Due.{file_of, given_of, solved}
+use Rattle.interp_run.specs.Due.{IsSolving, file_of, given_of, is_gen, solved}
 use Rattle.interp_run.specs.Parts.{EndsWithout, due_without, exhausted_without, no_memory}
 use Rattle.interp_run.specs.declared.outcome.Outcome.{Outcome}
 use Rattle.std.proofs.lemmas.List.{same_lists}
@@ -36,7 +36,7 @@ use Rattle.cube_sets.specs.Clashes.{IsClash, IsLeastOf, IsNotAfter}
 use Rattle.cube_sets.specs.declared.clash.Clash.{Clash}
 use Rattle.cert_check.specs.declared.answer.GivenOutput.{GivenOutput}
 use Rattle.interp_run.specs.Answers.{AreAnswers, IsAnswerOf, first_count, second_count, first_nodes, last_nodes}
-use Rattle.interp_run.proofs.SolvedAnswers.{answers_are, answers_for, first_within_last}
+use Rattle.interp_run.proofs.SolvedAnswers.{answers_are, answers_for}
 use Rattle.anf_printer.proofs.PrintedLists.{count_printed}
 use Rattle.cert_check.specs.Right.{IsRight}
 use Rattle.cert_check.proofs.Verdicts.{answer_fits, yes_where_right}
@@ -69,18 +69,20 @@ same_job words a b x y =
     let seed : a.seed ≡ b.seed = some_is (sym x.1.seed ∙ y.1.seed) in
     λ i. record { mode = mode i; workers = workers i; nodes = nodes i; terms = terms i; seed = seed i }
 
--- the command asks for no other mode
-pub mode_cases : (m : Mode) → Contains modes m → ((m ≡ Anf) ⊎ (m ≡ Basis)) ⊎ (m ≡ Check)
-mode_cases Anf h = inl (inl refl)
-mode_cases Basis h = inl (inr refl)
-mode_cases Check h = inr refl
-mode_cases Gen h = absurd (no_gen h.0 h.1 h.2)
-  where
-    no_gen : (k : ℕ) → k < length modes → slice_index_or modes k Gen ≡ Gen → ⊥
-    no_gen zero l e = cc
-    no_gen (suc zero) l e = cc
-    no_gen (suc (suc zero)) l e = cc
-    no_gen (suc (suc (suc k))) l e = omega (arith, l)
+-- a mode solves or checks
+pub mode_cases : (m : Mode) → IsSolving m ⊎ (m ≡ Check)
+mode_cases Check = inr refl
+mode_cases _ = inl tt
+
+-- the modes that read are not the one that makes its file
+pub reading_mode : (m : Mode) → (m ≡ Anf) ⊎ ((m ≡ Basis) ⊎ (m ≡ Check)) → m ≡ Gen → ⊥
+reading_mode m (inl a) gen = let bad = sym a ∙ gen in cc
+reading_mode m (inr (inl a)) gen = let bad = sym a ∙ gen in cc
+reading_mode m (inr (inr a)) gen = let bad = sym a ∙ gen in cc
+
+pub solves_without_gen : (m : Mode) → (m ≡ Anf) ⊎ (m ≡ Basis) → IsSolving m × (is_gen m ≡ false)
+solves_without_gen m (inl a) = (subst IsSolving (sym a) tt, ap is_gen a)
+solves_without_gen m (inr b) = (subst IsSolving (sym b) tt, ap is_gen b)
 
 -- ==== exactly one thing is due for a job and bytes that have a file: it is no fault of the run, and right answers are due yes
 
@@ -94,6 +96,11 @@ is_owed ends.ReadFault = false
 is_owed ends.WriteFault = false
 is_owed _ = true
 
+file_owed : {T : Type 0} (made : Bool) (file : T) (o : Outcome) (read : Result T Outcome) → (read ≡ Err o → is_owed o ≡ true)
+    → (if made then Ok file else read) ≡ Err o → is_owed o ≡ true
+file_owed true file o read h e = cc
+file_owed false file o read h e = h e
+
 error_owed : {T E : Type 0} (test : Bool) (first o : Outcome) (end : E → Outcome) (r : Result T E) → is_owed first ≡ true
     → ((e : E) → is_owed (end e) ≡ true)
     → (if test then Err first else result_map_both (λ x. x) end r) ≡ Err o → is_owed o ≡ true
@@ -102,9 +109,8 @@ error_owed false first o end (Ok x) a b e = cc
 error_owed false first o end (Err y) a b e = let same : end y ≡ o = cc in ap is_owed (sym same) ∙ b y
 
 -- the modes that solve are not the one that checks
-pub other_mode : (m : Mode) → (m ≡ Anf) ⊎ (m ≡ Basis) → m ≡ Check → ⊥
-other_mode m (inl a) c = let bad = sym a ∙ c in cc
-other_mode m (inr b) c = let bad = sym b ∙ c in cc
+pub other_mode : (m : Mode) → IsSolving m → m ≡ Check → ⊥
+other_mode m solves checks = subst IsSolving checks solves
 
 -- no fault of the run, with texts only where there is an answer, and with notes only where it was written whole
 abbrev pub Shape : Due → Type 0
@@ -114,17 +120,34 @@ silent_shape : (o : Outcome) → is_owed o ≡ true → Shape (silent o)
 silent_shape o owed = (owed, inr refl, inr refl)
 
 judged_shape : (v : Verdict) → Shape (judged v)
-judged_shape Yes = (refl, inl tt, inr refl)
-judged_shape (No line why) = (refl, inl tt, inr refl)
+judged_shape Yes = (refl, inl (omega arith), inr refl)
+judged_shape (No line why) = (refl, inl (omega arith), inr refl)
 
 judged_notes : (v : Verdict) → (judged v).notes ≡ []
 judged_notes Yes = refl
 judged_notes (No line why) = refl
 
+-- whichever limit is passed
+passed_shape : (a b c e : Bool) (nodes terms : ℕ) (due : Due) → Shape due
+    → Shape (if a then silent (ends.Exhausted nodes) else (if b then silent (ends.Terms terms)
+    else (if c then silent (ends.Exhausted nodes) else (if e then silent (ends.Terms terms) else due))))
+passed_shape true b c e nodes terms due is = silent_shape _ refl
+passed_shape false true c e nodes terms due is = silent_shape _ refl
+passed_shape false false true e nodes terms due is = silent_shape _ refl
+passed_shape false false false true nodes terms due is = silent_shape _ refl
+passed_shape false false false false nodes terms due is = is
+
 module _ (job : Job) where
+  solved_shape : (made : Bool) (a b : Due) → Shape a → Shape b → Shape (if made then a else b)
+  solved_shape true a b x y = x
+  solved_shape false a b x y = y
+
   solving_shape : (d : Description) {due : Due} → IsDueSolving job d due → Shape due
-  solving_shape d (done answers are few fits all) = (refl, inl tt, inl refl)
-  solving_shape d _ = silent_shape _ refl
+  solving_shape d (contradiction c least) = silent_shape _ refl
+  solving_shape d (has_answers answers are) = passed_shape (nat_lt (2 ^ job.nodes) (first_nodes d job.mode))
+      (nat_lt job.terms (first_count answers)) (nat_lt (2 ^ job.nodes) (last_nodes d job.mode)) (nat_lt job.terms (second_count answers))
+      (2 ^ job.nodes) job.terms (solved job d answers)
+      (solved_shape (is_gen job.mode) _ _ (refl, inl (omega arith), inl refl) (refl, inl (omega arith), inl refl))
 
   checking_shape : (p : Pla) (text : List ℕ) {due : Due} → IsDueChecking p text due → Shape due × (due.notes ≡ [])
   checking_shape p text (no_answer o e) =
@@ -133,8 +156,8 @@ module _ (job : Job) where
   checking_shape p text (verdict answer e ok) = (judged_shape (verdict_on p answer), judged_notes (verdict_on p answer))
 
   pub shape : (bytes : List ℕ) {due : Due} → IsDue job bytes due → Shape due
-  shape bytes (no_file o e) = silent_shape o
-      (error_owed (nat_lt MOST_BYTES (length bytes)) ends.TooLong o _ (reading_of bytes) refl (λ r. refl) e)
+  shape bytes (no_file o e) = silent_shape o (file_owed (is_gen job.mode) (generated job.seed) o _
+      (error_owed (nat_lt MOST_BYTES (length bytes)) ends.TooLong o _ (reading_of bytes) refl (λ r. refl)) e)
   shape bytes (solving d due e mode is) = solving_shape d is
   shape bytes (checking p due e mode is) = (checking_shape p _ is).0
 
@@ -142,6 +165,49 @@ module _ (job : Job) where
   check_silent bytes (no_file o e) checks = refl
   check_silent bytes (solving d due e mode is) checks = absurd (other_mode job.mode mode checks)
   check_silent bytes (checking p due e mode is) checks = (checking_shape p _ is).1
+
+  gen_silent : (made : Bool) → made ≡ true → (a b : Due) → a.notes ≡ [] → (if made then a else b).notes ≡ []
+  gen_silent true is a b none = none
+  gen_silent false is a b none = absurd (false≢true is)
+
+  passed_silent : (a b c e : Bool) (nodes terms : ℕ) (due : Due) → due.notes ≡ []
+      → (if a then silent (ends.Exhausted nodes) else (if b then silent (ends.Terms terms)
+      else (if c then silent (ends.Exhausted nodes) else (if e then silent (ends.Terms terms) else due)))).notes ≡ []
+  passed_silent true b c e nodes terms due is = refl
+  passed_silent false true c e nodes terms due is = refl
+  passed_silent false false true e nodes terms due is = refl
+  passed_silent false false false true nodes terms due is = refl
+  passed_silent false false false false nodes terms due is = is
+
+  solving_silent : (d : Description) {due : Due} → IsDueSolving job d due → is_gen job.mode ≡ true → due.notes ≡ []
+  solving_silent d (contradiction c least) gen = refl
+  solving_silent d (has_answers answers are) gen = passed_silent (nat_lt (2 ^ job.nodes) (first_nodes d job.mode))
+      (nat_lt job.terms (first_count answers)) (nat_lt (2 ^ job.nodes) (last_nodes d job.mode)) (nat_lt job.terms (second_count answers))
+      (2 ^ job.nodes) job.terms (solved job d answers) (gen_silent (is_gen job.mode) gen _ _ refl)
+
+  -- nobody is told of a summary
+  pub summary_silent : (bytes : List ℕ) {due : Due} → IsDue job bytes due → is_gen job.mode ≡ true → due.notes ≡ []
+  summary_silent bytes (no_file o e) gen = refl
+  summary_silent bytes (solving d due e mode is) gen = solving_silent d is gen
+  summary_silent bytes (checking p due e mode is) gen = absurd (false≢true (sym (ap is_gen mode) ∙ gen))
+
+  made_file : {T : Type 0} (made : Bool) → made ≡ true → (file d : T) (read other : Result T Outcome) → (if made then Ok file else read)
+      ≡ Ok d
+      → (if made then Ok file else other) ≡ Ok d
+  made_file true is file d read other e = e
+  made_file false is file d read other e = absurd (false≢true is)
+
+  made_once : {T : Type 0} (made : Bool) → made ≡ true → (file : T) (o : Outcome) (read : Result T Outcome)
+      → (if made then Ok file else read) ≡ Err o → ⊥
+  made_once true is file o read e = cc
+  made_once false is file o read e = false≢true is
+
+  -- what is due for a generated file does not depend on the bytes
+  pub due_for_any : (bytes other : List ℕ) {due : Due} → is_gen job.mode ≡ true → IsDue job bytes due → IsDue job other due
+  due_for_any bytes other gen (no_file o e) = absurd (made_once (is_gen job.mode) gen (generated job.seed) o _ e)
+  due_for_any bytes other gen (solving d due e mode is) = solving d due (made_file (is_gen job.mode) gen (generated job.seed) d _ _ e)
+      mode is
+  due_for_any bytes other gen (checking p due e mode is) = absurd (false≢true (sym (ap is_gen mode) ∙ gen))
 
   -- an end without an answer is no fault
   pub without_owed : (bytes : List ℕ) {o : Outcome} → EndsWithout job bytes o → (o ≢ ends.Usage) × (o ≢ ends.ReadFault)
@@ -218,60 +284,32 @@ one_least holds c e a b = neither_after c e (a.least e b.clash) (b.least c a.cla
 
 -- ---- one end in modes anf and basis
 
--- the first of these limits that is passed
-abbrev first_passed : (nodes terms first_nodes first_terms last_nodes last_terms : ℕ) → Due → Due
-first_passed nodes terms n t m u due =
-    cond (nat_lt nodes n) (silent (ends.Exhausted nodes)) (cond (nat_lt terms t) (silent (ends.Terms terms))
-    (cond (nat_lt nodes m) (silent (ends.Exhausted nodes)) (cond (nat_lt terms u) (silent (ends.Terms terms)) due)))
-
-module _ (nodes terms n t m u : ℕ) (due : Due) where
-  at_first_nodes : nodes < n → silent (ends.Exhausted nodes) ≡ first_passed nodes terms n t m u due
-  at_first_nodes a = rw (lt-ltb nodes n a) refl
-
-  at_first_terms : n ≤ nodes → terms < t → silent (ends.Terms terms) ≡ first_passed nodes terms n t m u due
-  at_first_terms a b = rw (le-ltb nodes n a, lt-ltb terms t b) refl
-
-  at_last_nodes : n ≤ nodes → t ≤ terms → nodes < m → silent (ends.Exhausted nodes) ≡ first_passed nodes terms n t m u due
-  at_last_nodes a b c = rw (le-ltb nodes n a, le-ltb terms t b, lt-ltb nodes m c) refl
-
-  at_last_terms : n ≤ nodes → t ≤ terms → m ≤ nodes → terms < u → silent (ends.Terms terms) ≡ first_passed nodes terms n t m u due
-  at_last_terms a b c d = rw (le-ltb nodes n a, le-ltb terms t b, le-ltb nodes m c, lt-ltb terms u d) refl
-
-  at_none : n ≤ nodes → t ≤ terms → m ≤ nodes → u ≤ terms → due ≡ first_passed nodes terms n t m u due
-  at_none a b c d = rw (le-ltb nodes n a, le-ltb terms t b, le-ltb nodes m c, le-ltb terms u d) refl
+-- where the third limit is passed there is no answer
+no_text : (a b : Bool) (nodes terms : ℕ) → HasText (if a then silent (ends.Exhausted nodes) else (if b then silent (ends.Terms terms)
+    else silent (ends.Exhausted nodes))).outcome → ⊥
+no_text true b nodes terms text = omega (arith, text)
+no_text false true nodes terms text = omega (arith, text)
+no_text false false nodes terms text = omega (arith, text)
 
 module _ (job : Job) (d : Description) where
-  abbrev due_by : List Answer → Due
-  due_by answers = first_passed (2 ^ job.nodes) job.terms (first_nodes d job.mode) (first_count answers) (last_nodes d job.mode)
-      (second_count answers) (solved job d answers)
-
   abbrev IsFound : Due → Type 0
   IsFound due = ((c : Clash) × IsLeastOf (IsClash d.inputs d.outputs d.rows d.rows) c × (due ≡ contradicted c))
-      ⊎ (IsConsistent d.inputs d.outputs d.rows × (due ≡ due_by (answers_for d job.mode)))
-
-  found_by : {due : Due} (answers : List Answer) → AreAnswers d job.mode answers → due ≡ due_by answers → IsFound due
-  found_by answers are is = inr (
-    are.consistent,
-    is
-        ∙ ap due_by (same_answers d job.mode answers (answers_for d job.mode) are (answers_are d job.mode are.consistent)),
-  )
-
-  abbrev fits : last_nodes d job.mode ≤ 2 ^ job.nodes → first_nodes d job.mode ≤ 2 ^ job.nodes
-  fits last = let within = first_within_last d job.mode in omega (arith, within, last)
+      ⊎ (IsConsistent d.inputs d.outputs d.rows × (due ≡ first_passed job d (answers_for d job.mode)))
 
   found : {due : Due} → IsDueSolving job d due → IsFound due
   found (contradiction c least) = inl (c, least, refl)
-  found (first_nodes_over ok over) = inr (ok, at_first_nodes (2 ^ job.nodes) job.terms _ _ _ _ _ over)
-  found (first_terms_over answers are first over) = found_by answers are (at_first_terms (2 ^ job.nodes) job.terms _ _ _ _ _ first over)
-  found (last_nodes_over answers are first few over) = found_by answers are
-      (at_last_nodes (2 ^ job.nodes) job.terms _ _ _ _ _ first few over)
-  found (last_terms_over answers are few last over) = found_by answers are
-      (at_last_terms (2 ^ job.nodes) job.terms _ _ _ _ _ (fits last) few last over)
-  found (done answers are few last all) = found_by answers are (at_none (2 ^ job.nodes) job.terms _ _ _ _ _ (fits last) few last all)
+  found (has_answers answers are) = inr (
+    are.consistent,
+    ap (first_passed job d)
+        (same_answers d job.mode answers (answers_for d job.mode) are (answers_are d job.mode are.consistent)),
+  )
 
   fits_solved : {due : Due} → IsDueSolving job d due → HasText due.outcome → last_nodes d job.mode ≤ 2 ^ job.nodes
-  fits_solved (done answers are few last all) text = last
-  fits_solved _ text = absurd text
+  fits_solved (contradiction c least) text = absurd (omega (arith, text))
+  fits_solved (has_answers answers are) text = ⊎_elim
+      (λ over. absurd (no_text (nat_lt (2 ^ job.nodes) (first_nodes d job.mode)) (nat_lt job.terms (first_count answers)) (2 ^ job.nodes)
+      job.terms (rw (lt-ltb (2 ^ job.nodes) (last_nodes d job.mode) over) at text)))
+      (λ last. last) (cases_lt (2 ^ job.nodes) (last_nodes d job.mode))
 
   same_found : {a b : Due} → IsFound a → IsFound b → a ≡ b
   same_found (inl x) (inl y) = x.2 ∙ (ap contradicted (one_least _ x.0 y.0 x.1 y.1) ∙ sym y.2)
@@ -350,18 +388,6 @@ module _ (job : Job) (bytes : List ℕ) where
 
 -- ---- in modes anf and basis
 
-some_limit : (job : Job) (d : Description) → IsConsistent d.inputs d.outputs d.rows → (due : Due) × IsDueSolving job d due
-some_limit job d ok =
-    let answers = answers_for d job.mode in
-    let are = answers_are d job.mode ok in
-    ⊎_elim (λ over. (silent (ends.Exhausted (2 ^ job.nodes)), first_nodes_over ok over)) (λ first.
-    ⊎_elim (λ over. (silent (ends.Terms job.terms), first_terms_over answers are first over)) (λ few.
-    ⊎_elim (λ over. (silent (ends.Exhausted (2 ^ job.nodes)), last_nodes_over answers are first few over)) (λ last.
-    ⊎_elim (λ over. (silent (ends.Terms job.terms), last_terms_over answers are few last over))
-    (λ all. (solved job d answers, done answers are few last all))
-    (cases_lt job.terms (second_count answers))) (cases_lt (2 ^ job.nodes) (last_nodes d job.mode)))
-    (cases_lt job.terms (first_count answers))) (cases_lt (2 ^ job.nodes) (first_nodes d job.mode))
-
 -- what a search for contradictions finds
 pub Found : Pla → Type 0
 Found p = IsConsistent p.inputs p.outputs p.rows ⊎ ((c : Clash) × IsLeastOf (IsClash p.inputs p.outputs p.rows p.rows) c)
@@ -374,7 +400,8 @@ searched p (Some c) consistent least = inr (c, least)
 
 some_solving : (job : Job) (p : Pla) → Found p → (due : Due) × IsDueSolving job (description p) due
 unfolding Found
-some_solving job p (inl ok) = some_limit job (description p) ok
+some_solving job p (inl ok) = let answers = answers_for (description p) job.mode in
+    (first_passed job (description p) answers, has_answers answers (answers_are (description p) job.mode ok))
 some_solving job p (inr h) = (contradicted h.0, contradiction h.0 h.1)
 
 -- ---- in mode check
@@ -390,7 +417,7 @@ some_checking p text found = go (given_of p text) refl found
     go (Ok answer) e (inl ok) = (judged (verdict_on p answer), verdict answer e ok)
     go (Ok answer) e (inr h) = (contradicted h.0, contradiction_behind answer h.0 e h.1)
 
-pub some_due : (p : Pla) (job : Job) (bytes : List ℕ) → Found p → ((job.mode ≡ Anf) ⊎ (job.mode ≡ Basis)) ⊎ (job.mode ≡ Check)
+pub some_due : (p : Pla) (job : Job) (bytes : List ℕ) → Found p → IsSolving job.mode ⊎ (job.mode ≡ Check)
     → file_of job bytes ≡ Ok (description p)
     → (due : Due) × IsDue job bytes due
 some_due p job bytes found (inl mode) file = let some = some_solving job p found in

@@ -1,15 +1,12 @@
 -- Lists with an element for each output: what holds of each, and what follows for all.
-use Rattle.std.proofs.Common.{◌≡◌, ℕ, zero, suc, ◌+◌, ◌<◌, List, [], ◌∷◌, ◌++◌, length, map, Some, slice_get, refl, sym, ap}
-use Rattle.std.proofs.Common.{ap₂, subst, ◌∙◌, ◌⊎◌, ⊎_elim, arith}
+use Rattle.std.proofs.Common.{◌≡◌, ℕ, zero, suc, ◌+◌, ◌<◌, List, [], ◌∷◌, ◌++◌, length, map, Some, slice_get, get_or, refl, sym, ap}
+use Rattle.std.proofs.Common.{subst, ◌∙◌, ◌⊎◌, ⊎_elim, arith}
 use Rattle.std.specs.Prelude.{option_map}
-use Rattle.std.specs.List.{All, AllZip, sum_by, flat_map}
+use Rattle.std.specs.List.{AllZip}
 use Rattle.std.proofs.lemmas.List.{length-map, map-append}
-use Rattle.std.proofs.lemmas.List.Sums.{sum_by-cons}
-use Rattle.std.proofs.lemmas.List.Elements.{All-nil, All-cons}
 use Rattle.std.proofs.lemmas.Option.{same_Some, slice_get-map, slice_get_within}
-use Rattle.lattice.specs.Family.{Family, Covers, numbers_below}
-use Rattle.lattice.specs.WorkingLists.{output_numbers, working_set}
-use Rattle.lattice.proofs.Diagrams.{covers_append, covers_nil, covers_left, covers_right}
+use Rattle.lattice.specs.Family.{numbers_below}
+use Rattle.lattice.specs.WorkingLists.{output_numbers}
 use Rattle.lattice.proofs.Polynomials.{length-numbers_below}
 
 -- ---- the numbers of the outputs
@@ -51,6 +48,14 @@ pub output_numbers_more : (n : ℕ) → output_numbers (n + 1) ≡ output_number
 unfolding numbers_below
 output_numbers_more n = let e : n + 1 ≡ suc n = omega arith in ap output_numbers e ∙ (map-append (λ j. j + 1) (numbers_below n) (n ∷ []))
 
+-- an element for no output, and for one more
+pub outputs_none : {X : Type 0} (f : ℕ → X) → map f (output_numbers 0) ≡ []
+unfolding numbers_below
+outputs_none f = refl
+
+pub outputs_more : {X : Type 0} (f : ℕ → X) (n : ℕ) → map f (output_numbers (n + 1)) ≡ map f (output_numbers n) ++ f (n + 1) ∷ []
+outputs_more f n = ap (map f) (output_numbers_more n) ∙ map-append f (output_numbers n) ((n + 1) ∷ [])
+
 -- ---- two lists, place by place
 
 -- what holds of no elements, and of one more pair where it holds of the rest, holds of all
@@ -67,46 +72,18 @@ pub zip_more : {X Y : Type 0} (R : X → Y → Type 0) (xs : List X) (ys : List 
 zip_more R xs ys x y z one =
     zip_fold R (λ ls ms. AllZip R (ls ++ x ∷ []) (ms ++ y ∷ [])) (one, tt) (λ a ls b ms r rest. (r, rest)) xs ys z
 
-pub all_from_zip : {X Y : Type 0} (R : X → Y → Type 0) (P : X → Type 0) → ((x : X) (y : Y) → R x y → P x) → (xs : List X) (ys : List Y)
-    → AllZip R xs ys → All P xs
-all_from_zip R P f = zip_fold R (λ xs ys. All P xs) (All-nil P) (λ x xs y ys r rest. All-cons P x xs (f x y r) rest)
+pub zip_long : {X Y : Type 0} (R : X → Y → Type 0) (xs : List X) (ys : List Y) → AllZip R xs ys → length xs ≡ length ys
+zip_long R = zip_fold R (λ xs ys. length xs ≡ length ys) refl (λ x xs y ys r rest. ap suc rest)
+
+-- what holds at a place
+pub zip_at : {X Y : Type 0} (R : X → Y → Type 0) (xs : List X) (ys : List Y) (k : ℕ) (y : Y) (d : X) → AllZip R xs ys
+    → slice_get ys k ≡ Some y → R (get_or xs k d) y
+zip_at R [] [] k y d z e = cc
+zip_at R (x ∷ xs) (v ∷ vs) zero y d z e = let same : v ≡ y = cc in subst (R x) same z.0
+zip_at R (x ∷ xs) (v ∷ vs) (suc k) y d z e = zip_at R xs vs k y d z.1 e
+zip_at R [] (v ∷ vs) k y d z e = absurd z
+zip_at R (x ∷ xs) [] k y d z e = absurd z
 
 pub zip_weaker : {X Y : Type 0} (R S : X → Y → Type 0) → ((x : X) (y : Y) → R x y → S x y) → (xs : List X) (ys : List Y) → AllZip R xs ys
     → AllZip S xs ys
 zip_weaker R S f = zip_fold R (AllZip S) tt (λ x xs y ys r rest. (f x y r, rest))
-
-pub sums_from_zip : {X Y : Type 0} (R : X → Y → Type 0) (f : X → ℕ) (g : Y → ℕ) → ((x : X) (y : Y) → R x y → f x ≡ g y)
-    → (xs : List X) (ys : List Y) → AllZip R xs ys → sum_by f xs ≡ sum_by g ys
-sums_from_zip R f g same = zip_fold R (λ xs ys. sum_by f xs ≡ sum_by g ys) refl
-    (λ x xs y ys r rest. omega (arith, sum_by-cons f x xs, sum_by-cons g y ys, same x y r, rest))
-
-pub maps_from_zip : {X Y Z : Type 0} (R : X → Y → Type 0) (f : X → Z) (g : Y → Z) → ((x : X) (y : Y) → R x y → f x ≡ g y)
-    → (xs : List X) (ys : List Y) → AllZip R xs ys → map f xs ≡ map g ys
-maps_from_zip {X} {Y} {Z} R f g same = zip_fold R (λ xs ys. map f xs ≡ map g ys) refl
-    (λ x xs y ys r rest. ap₂ (λ (c : Z) (cs : List Z). c ∷ cs) (same x y r) rest)
-
--- two relations of one list
-pub zip_through : {X Y Z : Type 0} (R : X → Y → Type 0) (S : X → Z → Type 0) (T : Z → Y → Type 0)
-    → ((x : X) (y : Y) (z : Z) → R x y → S x z → T z y)
-    → (xs : List X) (ys : List Y) (zs : List Z) → AllZip R xs ys → AllZip S xs zs → AllZip T zs ys
-zip_through R S T f [] [] [] a b = tt
-zip_through R S T f (x ∷ xs) (y ∷ ys) (z ∷ zs) a b = (f x y z a.0 b.0, zip_through R S T f xs ys zs a.1 b.1)
-zip_through R S T f [] [] (z ∷ zs) a b = absurd b
-zip_through R S T f [] (y ∷ ys) zs a b = absurd a
-zip_through R S T f (x ∷ xs) [] zs a b = absurd a
-zip_through R S T f (x ∷ xs) (y ∷ ys) [] a b = absurd b
-
--- ---- the working lists of all outputs
-
-pub set_all : {X Y : Type 0} (R : X → Y → Type 0) (n : ℕ) (fs : List Family) (list : Y → List Family)
-    → ((x : X) (y : Y) → R x y → Covers fs (working_set n (list y)))
-    → (xs : List X) (ys : List Y) → AllZip R xs ys → Covers fs (working_set n (flat_map list ys))
-set_all R n fs list f = zip_fold R (λ xs ys. Covers fs (working_set n (flat_map list ys))) (covers_nil n fs)
-    (λ x xs y ys r rest. covers_append n fs (list y) (flat_map list ys) (f x y r) rest)
-
-pub set_each : {X Y : Type 0} (R : X → Y → Type 0) (P : X → Type 0) (n : ℕ) (fs : List Family) (list : Y → List Family)
-    → ((x : X) (y : Y) → R x y → Covers fs (working_set n (list y)) → P x)
-    → (xs : List X) (ys : List Y) → AllZip R xs ys → Covers fs (working_set n (flat_map list ys)) → All P xs
-set_each R P n fs list f = zip_fold R (λ xs ys. Covers fs (working_set n (flat_map list ys)) → All P xs) (λ all. All-nil P)
-    (λ x xs y ys r rest all. All-cons P x xs (f x y r (covers_left n fs (list y) (flat_map list ys) all))
-    (rest (covers_right n fs (list y) (flat_map list ys) all)))

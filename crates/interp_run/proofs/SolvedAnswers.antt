@@ -1,55 +1,38 @@
 -- The answers of a consistent description, and what a store holds that found them.
 use Rattle.std.proofs.Common.{◌≡◌, ℕ, ◌+◌, ◌<◌, ◌≤◌, Bool, true, false, cond, List, [], ◌∷◌, ◌++◌, length, map, Option, Some}
-use Rattle.std.proofs.Common.{None, ◌&&◌, not, is_some, IfNone, IfSome, refl, sym, ap, ap₂, subst, ◌∙◌, inl, inr}
+use Rattle.std.proofs.Common.{None, ◌&&◌, not, is_some, IfNone, IfSome, refl, sym, ap, ap₂, subst, ◌∙◌}
 use Rattle.std.proofs.Common.{arith}
-use Rattle.std.specs.List.{All, AllZip, sum_by, flat_map}
-use Rattle.std.proofs.lemmas.List.Sums.{sum_by-cons, get_or-le-sum_by}
-use Rattle.std.proofs.lemmas.Bool.{cases_Bool, and_parts, true≢false, false≢true}
-use Rattle.std.proofs.lemmas.List.{length-map, map-id}
-use Rattle.std.proofs.lemmas.List.Elements.{All-nil, All-head, All-tail, All-weaker}
+use Rattle.std.specs.List.{All, sum_by, flat_map}
+use Rattle.std.proofs.lemmas.List.Folds.{fold-map}
+use Rattle.std.proofs.lemmas.List.Sums.{sum_by-append, sum_by-cons}
+use Rattle.std.proofs.lemmas.Bool.{and_parts, true≢false, false≢true}
+use Rattle.std.proofs.lemmas.List.{length-map}
+use Rattle.std.proofs.lemmas.List.Elements.{All-head, All-tail, All-weaker}
 use Rattle.std.proofs.lemmas.Option.{slice_get_within}
 use Rattle.lattice.specs.Family.{Family, IsFamily, Covers, includes, is_distinct}
-use Rattle.lattice.specs.Interpolation.{interpolate}
-use Rattle.lattice.specs.Basis.{IsLead, basis_element_of, leads_of, standard_of, reduced_basis_of}
-use Rattle.lattice.specs.Rows.{IsConsistent, points_where, care_ones, care_zeros, is_one, is_zero}
-use Rattle.lattice.specs.WorkingLists.{basis_element_list, care_set, is_basis, first_phase, second_phase, output_basis_list}
+use Rattle.lattice.specs.Basis.{basis_element_of, leads_of, standard_of, reduced_basis_of}
+use Rattle.lattice.specs.Rows.{IsConsistent, points_where, is_one, is_zero}
+use Rattle.lattice.specs.WorkingLists.{is_basis, first_phase, second_phase, output_basis_list}
 use Rattle.lattice.specs.WorkingLists.{output_numbers, working_set}
 use Rattle.lattice.specs.declared.kind.Mode.{Mode}
-use Rattle.lattice.proofs.Diagrams.{covered_length, covers_append, covers_left, covers_right, working_set_is_node_list, get_map}
-use Rattle.lattice.proofs.Polynomials.{All-from_has, IsFamily-family_where, IsFamily-combine, IsLeast-interpolate, leads_are_minimal}
+use Rattle.lattice.proofs.Diagrams.{covered_length, covers_left, working_set_is_node_list, get_map}
+use Rattle.lattice.proofs.Polynomials.{IsFamily-family_where, IsFamily-combine, IsLeast-interpolate}
 use Rattle.lattice.proofs.Polynomials.{reduced_basis_exists, care_points_disjoint}
-use Rattle.node_store.specs.Stores.{State, Knows, Denotes, family, IsSound, Grows}
-use Rattle.node_store.proofs.StoreLaws.{Denotes-family, Denotes-knows, Grows-family, Grows-knows}
+use Rattle.node_store.specs.Stores.{State, family, IsSound, Grows}
+use Rattle.node_store.proofs.StoreLaws.{Grows-family, Grows-knows}
 use Rattle.node_store.specs.declared.store.Handle.{Handle}
 use Rattle.pla_reader.specs.Reading.{Description}
 use Rattle.anf_printer.specs.Text.{Answer}
 use Rattle.interp_run.specs.Answers.{IsAnswerOf, AreAnswers, first_count, second_count, first_nodes, last_nodes}
-use Rattle.interp_run.specs.Phases.{HasLeads, IsFound, IsSolved, KnowsFound, KnowsSolved, answer_in, basis_list, first_terms}
-use Rattle.interp_run.specs.Phases.{found_list, leads_in, second_terms}
-use Rattle.interp_run.specs.declared.phases.Found.{Found}
+use Rattle.interp_run.specs.Phases.{AreOf, IsSecond, KnowsSolved, answer_for, answer_in, first_tasks, leads_in, ones_in}
+use Rattle.interp_run.specs.Phases.{points_in, second_terms, task, task_family, terms_of, zeros_in}
+use Rattle.interp_run.specs.declared.tasks.Task.{Task}
+use Rattle.interp_run.specs.declared.tasks.Part.TheVariants.{Leads, Polynomial}
 use Rattle.interp_run.specs.declared.phases.Solved.{Solved}
-use Rattle.interp_run.proofs.CountedTerms.{found_terms, solved_terms, All_known-later, families_later}
-use Rattle.interp_run.proofs.FoundOutputs.{found_later}
-use Rattle.interp_run.proofs.OutputLists.{at_output, length-output_numbers, all_from_zip, zip_weaker, sums_from_zip, maps_from_zip}
-use Rattle.interp_run.proofs.OutputLists.{zip_through, set_all, set_each}
+use Rattle.interp_run.proofs.CountedTerms.{solved_terms, All_known-later, families_later}
+use Rattle.interp_run.proofs.OutputLists.{at_output, length-output_numbers}
 
 -- ---- the answers
-
-abbrev pub zeros_of : Description → ℕ → Family
-zeros_of d output = care_zeros d.inputs d.kind d.rows output
-
-abbrev pub ones_of : Description → ℕ → Family
-ones_of d output = care_ones d.inputs d.kind d.rows output
-
-abbrev pub points_of : Description → ℕ → Family
-points_of d output = care_set d.inputs d.kind d.rows output
-
--- an output's polynomial, and its basis, which mode anf has none of
-abbrev pub answer_for : Description → Mode → ℕ → Answer
-answer_for d mode output = record {
-  polynomial = interpolate d.inputs (zeros_of d output) (ones_of d output);
-  basis = map (λ m. basis_element_of d.inputs m (points_of d output)) (leads_in d mode output);
-}
 
 abbrev pub answers_for : Description → Mode → List Answer
 answers_for d mode = map (answer_for d mode) (output_numbers d.outputs)
@@ -59,12 +42,12 @@ where_family : (test : Bool → Bool → Bool → Bool) (d : Description) (outpu
 unfolding points_where
 where_family test d output = IsFamily-family_where d.inputs _
 
-points_family : (d : Description) (output : ℕ) → IsFamily d.inputs (points_of d output)
-points_family d output = IsFamily-combine _ d.inputs (zeros_of d output) (ones_of d output)
+pub points_family : (d : Description) (output : ℕ) → IsFamily d.inputs (points_in d output)
+points_family d output = IsFamily-combine _ d.inputs (zeros_in d output) (ones_in d output)
 
 basis_is : (d : Description) (output : ℕ)
-    → map (λ m. basis_element_of d.inputs m (points_of d output)) (leads_of d.inputs (standard_of d.inputs (points_of d output))) ≡
-    reduced_basis_of d.inputs (points_of d output)
+    → map (λ m. basis_element_of d.inputs m (points_in d output)) (leads_of d.inputs (standard_of d.inputs (points_in d output))) ≡
+    reduced_basis_of d.inputs (points_in d output)
 unfolding reduced_basis_of
 basis_is d output = refl
 
@@ -73,9 +56,9 @@ answer_is : (d : Description) (mode : Mode) (output : ℕ) → IsConsistent d.in
 answer_is d mode output ok first last =
     let n = d.inputs in
     record {
-      least = IsLeast-interpolate n (zeros_of d output) (ones_of d output) (where_family (is_zero d.kind) d output).below
+      least = IsLeast-interpolate n (zeros_in d output) (ones_in d output) (where_family (is_zero d.kind) d output).below
           (where_family (is_one d.kind) d output).below (care_points_disjoint n d.outputs d.kind d.rows output ok first last);
-      basis = λ e. rw (e, basis_is d output) (reduced_basis_exists n (points_of d output) (points_family d output));
+      basis = λ e. rw (e, basis_is d output) (reduced_basis_exists n (points_in d output) (points_family d output));
       bare = λ e. rw e refl;
     }
 
@@ -111,19 +94,11 @@ pub fits : (s : State) (n : ℕ) (list : List Family) → IsSound s → Covers s
     → length (working_set n list) ≤ s.capacity
 fits s n list ok held = omega (arith, covered_length (working_set n list) s.held (working_set_is_distinct n list) held, ok.room)
 
--- the families that phase 2 needs for an output
-abbrev pub basis_part : Description → Mode → ℕ → List Family
-basis_part d mode output = cond (is_basis mode) (output_basis_list d.inputs d.kind d.rows output) []
-
 abbrev pub first_list : Description → Mode → List Family
 first_list d mode = first_phase d.inputs d.outputs d.kind d.rows mode
 
 abbrev pub last_list : Description → Mode → List Family
 last_list d mode = second_phase d.inputs d.outputs d.kind d.rows mode
-
-pub first_list_is : (d : Description) (mode : Mode) → first_list d mode ≡ flat_map (found_list d mode) (output_numbers d.outputs)
-unfolding first_phase
-first_list_is d mode = refl
 
 -- all that phase 2 adds
 abbrev pub added_list : Description → Mode → List Family
@@ -133,15 +108,6 @@ pub last_list_is : (d : Description) (mode : Mode) → last_list d mode ≡ firs
 unfolding second_phase
 last_list_is d mode = refl
 
-all_of_cond : {X : Type 0} (b : Bool) (list : X → List Family) (xs : List X)
-    → cond b (flat_map list xs) [] ≡ flat_map (λ x. cond b (list x) []) xs
-all_of_cond true list xs = refl
-all_of_cond false list [] = refl
-all_of_cond false list (x ∷ xs) = all_of_cond false list xs
-
-added_is : (d : Description) (mode : Mode) → added_list d mode ≡ flat_map (basis_part d mode) (output_numbers d.outputs)
-added_is d mode = all_of_cond (is_basis mode) (output_basis_list d.inputs d.kind d.rows) (output_numbers d.outputs)
-
 -- the plan of a run has what phase 1 needs
 pub first_planned : (d : Description) (mode : Mode) (plan : List Family) → plan ≡ working_set d.inputs (last_list d mode)
     → Covers plan (working_set d.inputs (first_list d mode))
@@ -149,142 +115,61 @@ first_planned d mode plan is =
     covers_left d.inputs plan (first_list d mode) (added_list d mode)
     (subst (λ list. Covers plan (working_set d.inputs list)) (last_list_is d mode) (subst (λ fs. Covers plan fs) is (λ f h. h)))
 
-pub added_planned : (d : Description) (mode : Mode) (plan : List Family) → plan ≡ working_set d.inputs (last_list d mode)
-    → Covers plan (working_set d.inputs (added_list d mode))
-added_planned d mode plan is =
-    covers_right d.inputs plan (first_list d mode) (added_list d mode)
-    (subst (λ list. Covers plan (working_set d.inputs list)) (last_list_is d mode) (subst (λ fs. Covers plan fs) is (λ f h. h)))
-
 -- sums over what is mapped
 sum_by_map : {X Y : Type 0} (f : Y → ℕ) (h : X → Y) (xs : List X) → sum_by f (map h xs) ≡ sum_by (λ x. f (h x)) xs
-sum_by_map f h [] = refl
-sum_by_map f h (x ∷ xs) = omega (arith, sum_by-cons f (h x) (map h xs), sum_by-cons (λ y. f (h y)) x xs, sum_by_map f h xs)
-
--- the families of basis elements, by the number of variables, the points and the leads
-abbrev pub elements_list : ℕ → Family → Family → List Family
-elements_list n points leads = flat_map (λ m. basis_element_list n m points) leads
-
-abbrev pub elements_of : ℕ → Family → Family → List Family
-elements_of n points leads = map (λ m. basis_element_of n m points) leads
-
-output_basis_is : (d : Description) (output : ℕ)
-    → elements_list d.inputs (points_of d output) (leads_of d.inputs (standard_of d.inputs (points_of d output))) ≡ output_basis_list
-    d.inputs d.kind d.rows output
-unfolding output_basis_list
-output_basis_is d output = refl
-
--- the leads of an output within the limit
-pub few_leads : (s : State) (found : List Found) (limit : ℕ) → first_terms s found ≤ limit
-    → All (λ f. length (family s f.leads) ≤ limit) found
-few_leads s found limit few k x within = omega (arith, get_or-le-sum_by (found_terms s) found k x within, few)
+sum_by_map f h xs = fold-map (λ (n : ℕ) y. n + f y) h 0 xs
 
 -- ---- what phase 1 found
+
+sum_of_both : {X : Type 0} (f g : X → ℕ) (xs : List X) → sum_by f xs + sum_by g xs ≡ sum_by (λ x. f x + g x) xs
+sum_of_both f g [] = refl
+sum_of_both f g (x ∷ xs) =
+    omega (arith, sum_by-cons f x xs, sum_by-cons g x xs, sum_by-cons (λ y. f y + g y) x xs, sum_of_both f g xs)
 
 module _ (d : Description) (mode : Mode) where
   abbrev numbers : List ℕ
   numbers = output_numbers d.outputs
 
-  abbrev pub FoundFor : State → Found → ℕ → Type 0
-  FoundFor s f output = IsFound s d mode output f
+  abbrev task_terms : Task → ℕ
+  task_terms task = length (task_family d task)
 
-  abbrev pub FoundAll : State → List Found → Type 0
-  FoundAll s found = AllZip (FoundFor s) found numbers
+  abbrev basis_terms : ℕ → ℕ
+  basis_terms o = length (answer_for d mode o).basis
 
-  pub found_all_later : {s t : State} (found : List Found) → Grows s t → FoundAll s found → FoundAll t found
-  found_all_later {s = s} {t = t} found grows =
-      zip_weaker (FoundFor s) (FoundFor t) (λ f output. found_later s t d mode output f grows) found numbers
+  leads_counted : (b : Bool) → is_basis mode ≡ b → (os : List ℕ) → sum_by task_terms (cond b (map (task Leads) os) []) ≡
+      sum_by basis_terms os
+  leads_counted true basis [] = refl
+  leads_counted true basis (o ∷ os) =
+      let one : basis_terms o ≡ task_terms (task Leads o) =
+      length-map (leads_in d mode o) (λ m. basis_element_of d.inputs m (points_in d o)) ∙ rw basis refl in
+      omega (
+        arith,
+        one,
+        sum_by-cons task_terms (task Leads o) (map (task Leads) os),
+        sum_by-cons basis_terms o os,
+        leads_counted true basis os,
+      )
+  leads_counted false bare [] = refl
+  leads_counted false bare (o ∷ os) =
+      let none : basis_terms o ≡ 0 = rw bare refl in
+      omega (arith, none, sum_by-cons basis_terms o os, leads_counted false bare os)
 
-  module _ (s : State) where
-    module _ (f : Found) (output : ℕ) (is : FoundFor s f output) where
-      knows : KnowsFound s f
-      knows = (Denotes-knows s f.polynomial _ is.polynomial, Denotes-knows s f.leads _ is.leads)
+  tasks_counted : sum_by task_terms (first_tasks d mode) ≡ first_count (answers_for d mode)
+  tasks_counted =
+      let polynomials = map (task Polynomial) numbers in
+      let rest = cond (is_basis mode) (map (task Leads) numbers) [] in
+      let terms : Answer → ℕ = λ a. length a.polynomial + length a.basis in
+      sum_by-append task_terms polynomials rest
+      ∙ (ap₂ (λ (m n : ℕ). m + n) (sum_by_map task_terms (task Polynomial) numbers) (leads_counted (is_basis mode) refl numbers)
+      ∙ (sum_of_both (λ o. task_terms (task Polynomial o)) basis_terms numbers ∙ sym (sum_by_map terms (answer_for d mode) numbers)))
 
-      leads_are : family s f.leads ≡ leads_in d mode output
-      leads_are = Denotes-family s f.leads _ is.leads
-
-      points_are : is_basis mode ≡ true → family s f.points ≡ points_of d output
-      points_are e = Denotes-family s f.points _ (is.points e)
-
-      -- its terms are those of the answer
-      counted : found_terms s f ≡ length (answer_for d mode output).polynomial + length (answer_for d mode output).basis
-      counted =
-          let one = ap length (Denotes-family s f.polynomial _ is.polynomial) in
-          omega (
-            arith,
-            one,
-            ap length leads_are,
-            length-map (leads_in d mode output)
-                (λ m. basis_element_of d.inputs m (points_of d output)),
-          )
-
-      module _ (vars : s.vars ≡ d.inputs) where
-        pub basis_list_is : basis_list s f ≡ basis_part d mode output
-        basis_list_is = elim (cases_Bool (is_basis mode)) [
-          | inl e ↦ rw (vars, points_are e, leads_are, e) (output_basis_is d output)
-          | inr e ↦ rw (leads_are, e) refl
-        ]
-
-        -- the basis elements of what was found are those of the answer
-        pub elements_are : elements_of s.vars (family s f.points) (family s f.leads) ≡ (answer_for d mode output).basis
-        elements_are = elim (cases_Bool (is_basis mode)) [
-          | inl e ↦ rw (vars, points_are e, leads_are) refl
-          | inr e ↦ rw (leads_are, e) refl
-        ]
-
-        is_lead : All (IsLead s.vars (family s f.points)) (family s f.leads)
-        is_lead = elim (cases_Bool (is_basis mode)) [
-          | inl e ↦
-              let points = points_of d output in
-              rw (vars, points_are e, leads_are, e)
-              (All-from_has (IsLead d.inputs points) (leads_of d.inputs (standard_of d.inputs points))
-              (λ m i. ((leads_are_minimal d.inputs points (points_family d output) m).0 i).1))
-          | inr e ↦ rw (leads_are, e) (All-nil _)
-        ]
-
-        has_leads : Covers s.plan (working_set d.inputs (basis_part d mode output)) → HasLeads s f
-        has_leads planned = record {
-          points_known = is.points_known;
-          leads_known = knows.1;
-          are_leads = is_lead;
-          planned = rw (basis_list_is, vars) planned;
-        }
-
-    module _ (found : List Found) (all : FoundAll s found) where
-      pub found_known : All (KnowsFound s) found
-      found_known = all_from_zip (FoundFor s) (KnowsFound s) knows found numbers all
-
-      pub first_counted : first_terms s found ≡ first_count (answers_for d mode)
-      first_counted =
-          let terms : Answer → ℕ = λ a. length a.polynomial + length a.basis in
-          sums_from_zip (FoundFor s) (found_terms s) (λ output. terms (answer_for d mode output)) counted found numbers all
-          ∙ sym (sum_by_map terms (answer_for d mode) numbers)
-
-      pub first_held : Covers s.held (working_set d.inputs (first_list d mode))
-      first_held = subst (λ list. Covers s.held (working_set d.inputs list)) (sym (first_list_is d mode))
-          (set_all (FoundFor s) d.inputs s.held (found_list d mode) (λ f output is. is.held) found numbers all)
-
-      pub first_fits : IsSound s → first_nodes d mode ≤ s.capacity
-      first_fits ok = fits s d.inputs (first_list d mode) ok first_held
-
-      -- what was found of all outputs is leads that the plan has
-      pub all_have_leads : s.vars ≡ d.inputs → s.plan ≡ working_set d.inputs (last_list d mode) → All (HasLeads s) found
-      all_have_leads vars plan =
-          set_each (FoundFor s) (HasLeads s) d.inputs s.plan (basis_part d mode) (λ f output is. has_leads f output is vars) found numbers
-          all
-          (rw (← added_is d mode) (added_planned d mode s.plan plan))
+  module _ (s : State) (found : List Handle) (are : AreOf s d found (first_tasks d mode)) where
+    pub first_counted : terms_of s found ≡ first_count (answers_for d mode)
+    first_counted =
+        sym (sum_by_map length (family s) found) ∙ (ap (sum_by length) are.1
+        ∙ (sum_by_map length (task_family d) (first_tasks d mode) ∙ tasks_counted))
 
 -- ---- what phase 2 found
-
--- handles of families, place by place
-denoted : (t : State) (hs : List Handle) (fs : List Family) → AllZip (Denotes t) hs fs → map (family t) hs ≡ fs
-denoted t hs fs all = maps_from_zip (Denotes t) (family t) (λ f. f) (Denotes-family t) hs fs all ∙ map-id fs
-
--- an output's answer is known, and the families that it needs are held
-pub record IsAnswered (d : Description) (mode : Mode) (t : State) (o : Solved) (output : ℕ) : Type 0 where
-  pub known : KnowsSolved t o
-  pub answer : answer_in t o ≡ answer_for d mode output
-  pub first : Covers t.held (working_set d.inputs (found_list d mode output))
-  pub added : Covers t.held (working_set d.inputs (basis_part d mode output))
 
 second_counted : (t : State) (solved : List Solved) → second_terms t solved ≡ second_count (map (answer_in t) solved)
 second_counted t [] = refl
@@ -318,60 +203,10 @@ pub second_terms-later : (s t : State) (solved : List Solved) → Grows s t → 
 second_terms-later s t solved grows known =
     second_counted t solved ∙ (ap second_count (answers_later s t solved grows known) ∙ sym (second_counted s solved))
 
-module _ (d : Description) (mode : Mode) where
-  abbrev all_numbers : List ℕ
-  all_numbers = output_numbers d.outputs
-
-  answered : (s t : State) → s.vars ≡ d.inputs → Grows s t → (f : Found) (output : ℕ) (o : Solved) → IsFound s d mode output f
-      → IsSolved s t f o → IsAnswered d mode t o output
-  answered s t vars grows f output o is solved =
-      let least = interpolate d.inputs (zeros_of d output) (ones_of d output) in
-      let polynomial : Denotes t o.polynomial least =
-      subst (λ (h : Handle). Denotes t h least) (sym solved.polynomial) (grows.known f.polynomial.0 least is.polynomial) in
-      let elements = elements_of s.vars (family s f.points) (family s f.leads) in
-      record {
-        known = (
-          Denotes-knows t o.polynomial least polynomial,
-          all_from_zip (Denotes t) (Knows t) (Denotes-knows t) o.basis.items elements solved.basis.each,
-        );
-        answer = ap₂ (λ (p : Family) (b : List Family). record { polynomial = p; basis = b })
-            (Denotes-family t o.polynomial least polynomial)
-            (denoted t o.basis.items elements solved.basis.each ∙ elements_are d mode s f output is vars);
-        first = λ g h. grows.held g (is.held g h);
-        added = subst (λ (list : List Family). Covers t.held (working_set d.inputs list)) (basis_list_is d mode s f output is vars)
-            (subst (λ (v : ℕ). Covers t.held (working_set v (basis_list s f))) vars solved.basis.held);
-      }
-
-  abbrev pub AreSolved : State → List Solved → Type 0
-  AreSolved t solved = AllZip (IsAnswered d mode t) solved all_numbers
-
-  -- s is the state in which the leads were counted, t the one after phase 2
-  pub solved_from : (s t : State) (found seen : List Found) (solved : List Solved) → s.vars ≡ d.inputs → Grows s t
-      → FoundAll d mode s found → seen ≡ found → AllZip (IsSolved s t) seen solved → AreSolved t solved
-  solved_from s t found seen solved vars grows finds same solves =
-      zip_through (FoundFor d mode s) (IsSolved s t) (IsAnswered d mode t) (answered s t vars grows) found all_numbers solved finds
-      (subst (λ (fs : List Found). AllZip (IsSolved s t) fs solved) same solves)
-
-  module _ (t : State) (solved : List Solved) (are : AreSolved t solved) where
-    pub solved_known : All (KnowsSolved t) solved
-    solved_known = all_from_zip (IsAnswered d mode t) (KnowsSolved t) (λ o output is. is.known) solved all_numbers are
-
-    pub solved_answers : map (answer_in t) solved ≡ answers_for d mode
-    solved_answers = maps_from_zip (IsAnswered d mode t) (answer_in t) (answer_for d mode) (λ o output is. is.answer) solved all_numbers are
-
-    -- the terms that are counted are those of the answers
-    pub answers_counted : second_terms t solved ≡ second_count (answers_for d mode)
-    answers_counted = second_counted t solved ∙ ap second_count solved_answers
-
-    held_all : (part : ℕ → List Family)
-        → ((o : Solved) (output : ℕ) → IsAnswered d mode t o output → Covers t.held (working_set d.inputs (part output)))
-        → Covers t.held (working_set d.inputs (flat_map part all_numbers))
-    held_all part each = set_all (IsAnswered d mode t) d.inputs t.held part each solved all_numbers are
-
-    pub last_fits : IsSound t → last_nodes d mode ≤ t.capacity
-    last_fits ok = fits t d.inputs (last_list d mode) ok (rw (last_list_is d mode, first_list_is d mode, added_is d mode)
-        (covers_append d.inputs t.held (flat_map (found_list d mode) all_numbers) (flat_map (basis_part d mode) all_numbers)
-        (held_all (found_list d mode) (λ o output is. is.first)) (held_all (basis_part d mode) (λ o output is. is.added))))
+module _ (d : Description) (mode : Mode) (t : State) (solved : List Solved) (are : IsSecond t d mode solved) where
+  -- the terms that are counted are those of the answers
+  pub answers_counted : second_terms t solved ≡ second_count (answers_for d mode)
+  answers_counted = second_counted t solved ∙ ap second_count are.answers
 
 -- ---- the counts
 

@@ -1,6 +1,6 @@
 -- The answers that a consistent description is due, and what counts their terms.
-use Rattle.std.specs.Prelude.{◌≡◌, ℕ, ◌+◌, List, [], true, false, Some, length, map, slice_get, sum_by, codes}
-use Rattle.std.specs.List.{enumerate_from}
+use Rattle.std.specs.Prelude.{◌≡◌, ℕ, ◌+◌, ◌++◌, List, [], true, false, cond, Some, length, map, slice_get, sum_by, codes, decimal}
+use Rattle.std.specs.List.{enumerate_from, flat_map}
 use Rattle.lattice.specs.Interpolation.{IsLeast}
 use Rattle.lattice.specs.Basis.{IsReducedBasis}
 use Rattle.lattice.specs.Rows.{IsConsistent, care_zeros, care_ones}
@@ -30,6 +30,10 @@ first_count answers = sum_by (λ a. length a.polynomial + length a.basis) answer
 abbrev pub second_count : List Answer → ℕ
 second_count answers = sum_by (λ a. length a.polynomial + sum_by length a.basis) answers
 
+-- the jobs that find them: the polynomials, the elements and, in mode basis, the leads of each output
+abbrev pub jobs_for : Mode → List Answer → ℕ
+jobs_for mode answers = length answers + sum_by (λ a. length a.basis) answers + cond (is_basis mode) (length answers) 0
+
 -- the nodes that are needed for the polynomials and the leads, and those that are needed for the bases too
 abbrev pub first_nodes : Description → Mode → ℕ
 first_nodes d mode = length (working_set d.inputs (first_phase d.inputs d.outputs d.kind d.rows mode))
@@ -40,6 +44,16 @@ last_nodes d mode = length (working_set d.inputs (second_phase d.inputs d.output
 -- the texts of the outputs
 abbrev pub texts : Description → Mode → List Answer → List (List ℕ)
 texts d mode = texts_of mode (printed_names (codes "x") d.inputs d.in_names) (printed_names (codes "f") d.outputs d.out_names)
+
+-- the line of an output, by its number
+abbrev pub summary_line : ℕ × Answer → List ℕ
+summary_line output = codes "f" ++ decimal output.0 ++ codes " " ++ decimal (length output.1.polynomial) ++ codes "\n"
+
+-- the summary: how many care points output 1 has, and how many terms the polynomial of each output
+abbrev pub summary : Description → List Answer → List ℕ
+summary d answers =
+    let points = length (care_zeros d.inputs d.kind d.rows 1) + length (care_ones d.inputs d.kind d.rows 1) in
+    codes "points " ++ decimal points ++ codes "\n" ++ flat_map summary_line (enumerate_from 1 answers)
 
 -- what the watchers are told of the outputs from the given number on
 unfoldable pub notes_from : ℕ → List Answer → List Note

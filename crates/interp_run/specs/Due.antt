@@ -1,9 +1,11 @@
 -- What is due for a job and the bytes of a source: how the run ends, what out gains, and what the watchers are told.
-use Rattle.std.specs.Prelude.{◌≡◌, ◌⊎◌, ℕ, ◌^◌, ◌<◌, ◌≤◌, nat_lt, List, [], ◌∷◌, ◌++◌, length, drop, codes, decimal, Result, Ok, Err}
+use Rattle.std.specs.Prelude.{◌≡◌, Bool, true, false, ◌+◌, cond, sum_by, ℕ, ◌^◌, ◌<◌, nat_lt, List, [], ◌∷◌, ◌++◌, length, drop, codes, decimal, Result, Ok, Err}
 use Rattle.std.specs.Prelude.{if◌then◌else◌}
 use Rattle.std.specs.Result.{result_map_both}
 use Rattle.lattice.specs.Rows.{IsConsistent}
-use Rattle.lattice.specs.declared.kind.Mode.TheVariants.{Anf, Basis, Check}
+use Rattle.lattice.specs.WorkingLists.{is_basis}
+use Rattle.lattice.specs.declared.kind.Mode.{Mode}
+use Rattle.lattice.specs.declared.kind.Mode.TheVariants.{Check, Gen}
 use Rattle.pla_reader.specs.Reading.{Description, bytes_taken, description, reading_of}
 use Rattle.pla_reader.specs.declared.pla.Pla.{Pla}
 use Rattle.cube_sets.specs.Clashes.{IsClash, IsLeastOf}
@@ -16,17 +18,28 @@ use Rattle.cert_check.specs.Causes.{fault_name}
 use Rattle.cert_check.specs.declared.checking.TheConstants.{MOST_INPUTS}
 use Rattle.cert_check.specs.declared.refusal.Verdict.{Verdict}
 use Rattle.cert_check.specs.declared.refusal.Verdict.TheVariants.{Yes, No}
+use Rattle.gen_pla.specs.Generated.{generated}
 use Rattle.cli_words.specs.declared.job.Job.{Job}
 use Rattle.watch.specs.declared.note.Note.{Note}
-use Rattle.interp_run.specs.Answers.{AreAnswers, first_count, second_count, first_nodes, last_nodes, texts, notes_from}
+use Rattle.interp_run.specs.Answers.{AreAnswers, first_count, second_count, first_nodes, last_nodes, texts, summary, notes_from}
 use Rattle.interp_run.specs.declared.describe.TheConstants.{MOST_BYTES}
 use Rattle.interp_run.specs.declared.outcome.Outcome.{Outcome}
 use Rattle.interp_run.specs.declared.outcome.Outcome.TheVariants as ends
 
+-- whether a mode makes its file from a seed, and whether it solves its file
+abbrev pub is_gen : Mode → Bool
+is_gen Gen = true
+is_gen _ = false
+
+abbrev pub IsSolving : Mode → Type 0
+IsSolving Check = ⊥
+IsSolving _ = Unit {0}
+
 -- the file that a run is about, or how the run ends that has none
 abbrev pub file_of : Job → List ℕ → Result Description Outcome
 file_of job bytes =
-    if nat_lt MOST_BYTES (length bytes) then Err ends.TooLong
+    if is_gen job.mode then Ok (generated job.seed)
+    else if nat_lt MOST_BYTES (length bytes) then Err ends.TooLong
     else result_map_both (λ d. d) (λ refusal. ends.Text refusal.line refusal.why) (reading_of bytes)
 
 -- the answer that is judged, or how the run ends that has none
@@ -50,9 +63,11 @@ silent o = record { outcome = o; pages = []; notes = [] }
 abbrev pub contradicted : Clash → Due
 contradicted c = silent (ends.Contradiction c.output c.on_line c.off_line)
 
--- of one that has these answers
+-- of one that has these answers; in mode gen there is a summary of them all, and nobody is told
 abbrev pub solved : Job → Description → List Answer → Due
-solved job d answers = record { outcome = ends.Done; pages = texts d job.mode answers; notes = notes_from 1 answers }
+solved job d answers =
+    if is_gen job.mode then record { outcome = ends.Done; pages = summary d answers ∷ []; notes = [] }
+    else record { outcome = ends.Done; pages = texts d job.mode answers; notes = notes_from 1 answers }
 
 -- of one that has this verdict
 abbrev pub judged : Verdict → Due
@@ -63,22 +78,18 @@ judged (No line why) =
 
 -- ---- what is due where nothing fails and memory suffices, a constructor for each cause, the first cause first
 
--- in mode anf or basis, on a description
+-- with these answers: the first limit that is passed ends the run
+abbrev pub first_passed : Job → Description → List Answer → Due
+first_passed job d answers =
+    if nat_lt (2 ^ job.nodes) (first_nodes d job.mode) then silent (ends.Exhausted (2 ^ job.nodes))
+    else (if nat_lt job.terms (first_count answers) then silent (ends.Terms job.terms)
+    else (if nat_lt (2 ^ job.nodes) (last_nodes d job.mode) then silent (ends.Exhausted (2 ^ job.nodes))
+    else (if nat_lt job.terms (second_count answers) then silent (ends.Terms job.terms) else solved job d answers)))
+
+-- in a mode that solves, on a description
 pub data IsDueSolving (job : Job) (d : Description) : Due → Type 0 where
   contradiction : (c : Clash) → IsLeastOf (IsClash d.inputs d.outputs d.rows d.rows) c → IsDueSolving job d (contradicted c)
-  first_nodes_over : IsConsistent d.inputs d.outputs d.rows → 2 ^ job.nodes < first_nodes d job.mode
-      → IsDueSolving job d (silent (ends.Exhausted (2 ^ job.nodes)))
-  first_terms_over : (answers : List Answer) → AreAnswers d job.mode answers → first_nodes d job.mode ≤ 2 ^ job.nodes
-      → job.terms < first_count answers
-      → IsDueSolving job d (silent (ends.Terms job.terms))
-  last_nodes_over : (answers : List Answer) → AreAnswers d job.mode answers → first_nodes d job.mode ≤ 2 ^ job.nodes
-      → first_count answers ≤ job.terms
-      → 2 ^ job.nodes < last_nodes d job.mode → IsDueSolving job d (silent (ends.Exhausted (2 ^ job.nodes)))
-  last_terms_over : (answers : List Answer) → AreAnswers d job.mode answers → first_count answers ≤ job.terms
-      → last_nodes d job.mode ≤ 2 ^ job.nodes
-      → job.terms < second_count answers → IsDueSolving job d (silent (ends.Terms job.terms))
-  done : (answers : List Answer) → AreAnswers d job.mode answers → first_count answers ≤ job.terms → last_nodes d job.mode ≤ 2 ^ job.nodes
-      → second_count answers ≤ job.terms → IsDueSolving job d (solved job d answers)
+  has_answers : (answers : List Answer) → AreAnswers d job.mode answers → IsDueSolving job d (first_passed job d answers)
 
 -- in mode check, on a description and the text behind it
 pub data IsDueChecking (p : Pla) (text : List ℕ) : Due → Type 0 where
@@ -92,22 +103,21 @@ pub data IsDueChecking (p : Pla) (text : List ℕ) : Due → Type 0 where
 -- for a job and the bytes
 pub data IsDue (job : Job) (bytes : List ℕ) : Due → Type 0 where
   no_file : (o : Outcome) → file_of job bytes ≡ Err o → IsDue job bytes (silent o)
-  solving : (d : Description) (due : Due) → file_of job bytes ≡ Ok d → (job.mode ≡ Anf) ⊎ (job.mode ≡ Basis) → IsDueSolving job d due
-      → IsDue job bytes due
+  solving : (d : Description) (due : Due) → file_of job bytes ≡ Ok d → IsSolving job.mode → IsDueSolving job d due → IsDue job bytes due
   checking : (p : Pla) (due : Due) → file_of job bytes ≡ Ok (description p) → job.mode ≡ Check
       → IsDueChecking p (drop (bytes_taken bytes) bytes) due
       → IsDue job bytes due
 
--- the outcomes that have an answer
-abbrev pub HasText : Outcome → Type 0
-HasText ends.Done = Unit {0}
-HasText (ends.No line why) = Unit {0}
-HasText _ = ⊥
+-- how many jobs a pool answers before the answer is written of which the watchers are told this: the polynomials, the elements
+-- and, in mode basis, the leads of each output; in mode gen the two polynomials
+abbrev pub least_jobs : Mode → List Note → ℕ
+least_jobs mode notes =
+    if is_gen mode then 2 else length notes + sum_by (λ n. n.basis) notes + cond (is_basis mode) (length notes) 0
 
 -- the bytes are a consistent description that needs more nodes than the store has slots
 pub record IsExhausted (job : Job) (bytes : List ℕ) : Type 0 where
   pub description : Description
   pub file : file_of job bytes ≡ Ok description
-  pub mode : (job.mode ≡ Anf) ⊎ (job.mode ≡ Basis)
+  pub mode : IsSolving job.mode
   pub consistent : IsConsistent description.inputs description.outputs description.rows
   pub over : 2 ^ job.nodes < last_nodes description job.mode

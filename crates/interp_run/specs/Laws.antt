@@ -1,6 +1,5 @@
 -- Laws of what is due. The functions of src/laws.rt have them as their contracts.
 use Rattle.std.specs.Prelude.{◌≡◌, ◌↔◌, List, [], ◌∷◌, ◌++◌, ℕ, Ok, codes}
-use Rattle.std.specs.List.{Contains}
 use Rattle.lattice.specs.declared.kind.Mode.{Mode}
 use Rattle.lattice.specs.declared.kind.Mode.TheVariants.{Anf, Basis, Check}
 use Rattle.pla_reader.specs.Reading.{description}
@@ -10,7 +9,6 @@ use Rattle.cert_check.specs.Reading.{answer_reading}
 use Rattle.cert_check.specs.Right.{IsRight}
 use Rattle.cert_check.specs.declared.answer.GivenOutput.{GivenOutput}
 use Rattle.cert_check.specs.declared.refusal.Verdict.TheVariants.{Yes}
-use Rattle.cli_words.specs.CommandLine.{modes}
 use Rattle.cli_words.specs.declared.job.Job.{Job}
 use Rattle.interp_run.specs.Due.{Due, IsDue, file_of, judged}
 use Rattle.interp_run.specs.declared.outcome.Outcome.TheVariants as ends
@@ -21,8 +19,7 @@ OneIsDue = (job : Job) (bytes : List ℕ) (a b : Due) → IsDue job bytes a → 
 
 -- and no less, where the file of the bytes is this one
 abbrev pub SomeIsDue : Pla → Type 0
-SomeIsDue p = (job : Job) (bytes : List ℕ) → Contains modes job.mode → file_of job bytes ≡ Ok (description p) → (due : Due)
-    × IsDue job bytes due
+SomeIsDue p = (job : Job) (bytes : List ℕ) → file_of job bytes ≡ Ok (description p) → (due : Due) × IsDue job bytes due
 
 -- the verdict on an answer that was read is yes exactly where the answer is right
 abbrev pub YesIsRight : Type 0

@@ -10,6 +10,8 @@ use Rattle.cli_words.specs.declared.job.Job.{Job}
 use Rattle.interp_run.specs.Answers.{last_nodes}
 use Rattle.interp_run.specs.Due.{IsDue, IsDueSolving, IsExhausted, silent}
 use Rattle.interp_run.specs.declared.outcome.Outcome.{Outcome}
+use Rattle.interp_run.specs.declared.phases.Stop.{Stop}
+use Rattle.interp_run.specs.declared.phases.Stop.TheVariants as stops
 use Rattle.interp_run.specs.declared.outcome.Outcome.TheVariants as ends
 
 -- an on-row and an off-row of an output share a point, and the run ends with the first such rows
@@ -24,6 +26,12 @@ pub data EndsUnsolved (job : Job) (d : Description) : Outcome → Type 0 where
   nodes_over : IsConsistent d.inputs d.outputs d.rows → 2 ^ job.nodes < last_nodes d job.mode
       → EndsUnsolved job d (ends.Exhausted (2 ^ job.nodes))
   no_memory_to_solve : EndsUnsolved job d ends.Memory
+
+-- how it ends that stopped so
+abbrev pub stopped_outcome : Job → Stop → Outcome
+stopped_outcome job stops.Full = ends.Exhausted (2 ^ job.nodes)
+stopped_outcome job stops.Terms = ends.Terms job.terms
+stopped_outcome job stops.Memory = ends.Memory
 
 -- a run of the job on the bytes ends without an answer
 pub data EndsWithout (job : Job) (bytes : List ℕ) : Outcome → Type 0 where

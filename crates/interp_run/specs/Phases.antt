@@ -1,76 +1,184 @@
--- What the two phases of a run find on a store.
-use Rattle.std.specs.Prelude.{◌≡◌, ℕ, ◌+◌, ◌∷◌, ◌++◌, List, [], true, Result, IfOk, OnOk, OnErr, cond, length, map, sum_by}
+-- What the two phases of a run find, by families.
+use Rattle.std.specs.Prelude.{◌≡◌, ℕ, ◌+◌, ◌^◌, ◌<◌, ◌≤◌, ◌∷◌, ◌++◌, List, [], cond, length, map, reverse, take, drop, sum_by}
+use Rattle.std.specs.Prelude.{◌-◌, slice_index_or}
 use Rattle.std.specs.List.{All, AllZip, flat_map}
-use Rattle.lattice.specs.Family.{Family, Covers}
+use Rattle.lattice.specs.Family.{Family, Covers, union_of}
 use Rattle.lattice.specs.Interpolation.{interpolate}
 use Rattle.lattice.specs.Basis.{IsLead, basis_element_of, leads_of, standard_of}
 use Rattle.lattice.specs.Rows.{care_ones, care_zeros}
-use Rattle.lattice.specs.WorkingLists.{basis_element_list, care_set, is_basis, leads_list, output_leads_list, output_list}
-use Rattle.lattice.specs.WorkingLists.{output_numbers, standard_list, working_set}
+use Rattle.lattice.specs.WorkingLists.{basis_element_list, care_list, care_set, first_phase, interpolation_list, is_basis, leads_list}
+use Rattle.lattice.specs.WorkingLists.{output_numbers, second_phase, standard_list, working_set}
 use Rattle.lattice.specs.declared.kind.Mode.{Mode}
-use Rattle.node_store.specs.Stores.{Denotes, Grows, IsFull, Knows, State, family}
+use Rattle.node_store.specs.Stores.{Denotes, Knows, State, family}
 use Rattle.pla_reader.specs.Reading.{Description}
+use Rattle.cube_build.specs.declared.rows.CubesRefusal.{CubesRefusal}
+use Rattle.cube_build.specs.declared.rows.CubesRefusal.TheVariants as unbuilt
+use Rattle.fork_branches.specs.Jobs.{Tasks}
+use Rattle.fork_branches.specs.declared.solve.SolveRefusal.{SolveRefusal}
 use Rattle.anf_printer.specs.Text.{Answer}
-use Rattle.node_store.specs.declared.store.Full.{Full}
 use Rattle.node_store.specs.declared.store.Handle.{Handle}
-use Rattle.interp_run.specs.declared.phases.Found.{Found}
+use Rattle.set_algebra.specs.declared.points.ValuedPoints.{ValuedPoints}
+use Rattle.interp_run.specs.declared.tasks.Task.{Task}
+use Rattle.interp_run.specs.declared.tasks.Part.{Part}
+use Rattle.interp_run.specs.declared.tasks.Part.TheVariants.{Polynomial, Leads, Element}
+use Rattle.interp_run.specs.declared.phases.First.{First}
 use Rattle.interp_run.specs.declared.phases.Solved.{Solved}
+use Rattle.interp_run.specs.declared.phases.Stop.{Stop}
+use Rattle.interp_run.specs.declared.phases.Stop.TheVariants as stops
+use Rattle.fork_branches.specs.declared.solve.SolveRefusal.TheVariants as refusals
 
--- the leads of an output's care points in mode basis, and none in mode anf
+-- ---- an output
+
+-- its care sets, and all its care points
+abbrev pub zeros_in : Description → ℕ → Family
+zeros_in d output = care_zeros d.inputs d.kind d.rows output
+
+abbrev pub ones_in : Description → ℕ → Family
+ones_in d output = care_ones d.inputs d.kind d.rows output
+
+abbrev pub points_in : Description → ℕ → Family
+points_in d output = care_set d.inputs d.kind d.rows output
+
+-- the leads of its care points in mode basis, and none in mode anf
 abbrev pub leads_in : Description → Mode → ℕ → Family
-leads_in d mode output = cond (is_basis mode) (leads_of d.inputs (standard_of d.inputs (care_set d.inputs d.kind d.rows output))) []
+leads_in d mode output = cond (is_basis mode) (leads_of d.inputs (standard_of d.inputs (points_in d output))) []
 
--- the families that phase 1 needs for an output
-abbrev pub found_list : Description → Mode → ℕ → List Family
-found_list d mode output = output_list d.inputs d.kind d.rows output ++ cond (is_basis mode)
-    (output_leads_list d.inputs d.kind d.rows output) []
+-- ---- the parts of an answer, from care points with the value 0 and with the value 1
 
--- the families that are needed for the leads of points
+-- an element's lead is one of the points
+abbrev pub IsPart : ℕ → Family → Part → Type 0
+IsPart n points part = (lead : ℕ) → part ≡ Element lead → (lead < 2 ^ n) × IsLead n points lead
+
+abbrev pub part_family : ℕ → Family → Family → Part → Family
+part_family n zeros ones Polynomial = interpolate n zeros ones
+part_family n zeros ones Leads = leads_of n (standard_of n (union_of n zeros ones))
+part_family n zeros ones (Element lead) = basis_element_of n lead (union_of n zeros ones)
+
+-- the families that are needed for the leads, and for an element
 abbrev pub points_list : ℕ → Family → List Family
 points_list n points = points ∷ (standard_list n points ++ leads_list n (standard_of n points))
 
--- a call that gives the handles of points and of their leads and then holds what they needed, or finds the store full
-pub record GivesLeads (before after : State) (result : Result (Handle × Handle) Full) (points : Family) : Type 0 where
-  pub grows : Grows before after
-  pub points_are : IfOk result (λ h. Denotes after h.0 points)
-  pub leads_are : IfOk result (λ h. Denotes after h.1 (leads_of before.vars (standard_of before.vars points)))
-  pub held : OnOk result (Covers after.held (working_set before.vars (points_list before.vars points)))
-  pub quiet : OnOk result (after.refusals ≡ before.refusals)
-  pub full : OnErr result (IsFull before after)
+abbrev pub element_list : ℕ → ℕ → Family → List Family
+element_list n lead points = points ∷ basis_element_list n lead points
 
--- what phase 1 finds of an output
-pub record IsFound (s : State) (d : Description) (mode : Mode) (output : ℕ) (f : Found) : Type 0 where
-  pub polynomial : Denotes s f.polynomial
-      (interpolate d.inputs (care_zeros d.inputs d.kind d.rows output) (care_ones d.inputs d.kind d.rows output))
-  pub points_known : Knows s f.points
-  pub points : is_basis mode ≡ true → Denotes s f.points (care_set d.inputs d.kind d.rows output)
-  pub leads : Denotes s f.leads (leads_in d mode output)
-  pub held : Covers s.held (working_set d.inputs (found_list d mode output))
+abbrev pub part_list : ℕ → Family → Family → Part → List Family
+part_list n zeros ones Polynomial = interpolation_list n zeros ones
+part_list n zeros ones Leads = points_list n (union_of n zeros ones)
+part_list n zeros ones (Element lead) = element_list n lead (union_of n zeros ones)
 
--- what it finds of the first outputs
-abbrev pub FindsFirst : State → Description → Mode → ℕ → List Found → Type 0
-FindsFirst s d mode count found = AllZip (λ f output. IsFound s d mode output f) found (output_numbers count)
+-- ---- tasks
 
--- the families that phase 2 needs for an output
-abbrev pub basis_list : State → Found → List Family
-basis_list s f = flat_map (λ m. basis_element_list s.vars m (family s f.points)) (family s f.leads)
+-- the task is one of the description's
+pub record IsTask (d : Description) (task : Task) : Type 0 where
+  pub first : 1 ≤ task.output
+  pub last : task.output ≤ d.outputs
+  pub part : IsPart d.inputs (points_in d task.output) task.part
 
--- what was found of an output is leads of points, and the families of their basis elements are in the plan
-pub record HasLeads (s : State) (f : Found) : Type 0 where
-  pub points_known : Knows s f.points
-  pub leads_known : Knows s f.leads
-  pub are_leads : All (IsLead s.vars (family s f.points)) (family s f.leads)
-  pub planned : Covers s.plan (working_set s.vars (basis_list s f))
+-- the family that a task finds, and those that it needs
+abbrev pub task_family : Description → Task → Family
+task_family d task = part_family d.inputs (zeros_in d task.output) (ones_in d task.output) task.part
 
--- handles of the basis elements of what was found in the state s, in order
-pub record AreElements (s t : State) (f : Found) (elements : List Handle) : Type 0 where
-  pub each : AllZip (Denotes t) elements (map (λ m. basis_element_of s.vars m (family s f.points)) (family s f.leads))
-  pub held : Covers t.held (working_set s.vars (basis_list s f))
+abbrev pub task_list : Description → Task → List Family
+task_list d task = part_list d.inputs (zeros_in d task.output) (ones_in d task.output) task.part
 
--- what phase 2 finds of an output
-pub record IsSolved (s t : State) (f : Found) (solved : Solved) : Type 0 where
-  pub polynomial : solved.polynomial ≡ f.polynomial
-  pub basis : AreElements s t f solved.basis.items
+-- what stands past the end of a list of tasks
+abbrev pub no_task : Task
+no_task = record { output = 0; part = Polynomial }
+
+-- what stands past the end of a list of care sets
+abbrev pub no_cares : ValuedPoints
+no_cares = record { zeros = record { 0 = 0 }; ones = record { 0 = 0 } }
+
+-- the handles that tasks use, each with its family: the care sets of each output
+abbrev pub zeros_used : Description → List ValuedPoints → ℕ → Handle × Family
+zeros_used d cares output = ((slice_index_or cares (output - 1) no_cares).zeros, zeros_in d output)
+
+abbrev pub ones_used : Description → List ValuedPoints → ℕ → Handle × Family
+ones_used d cares output = ((slice_index_or cares (output - 1) no_cares).ones, ones_in d output)
+
+-- the tasks as the jobs of a pool
+abbrev pub jobs_of : Description → List ValuedPoints → List Task → Tasks
+jobs_of d cares list = record {
+  total = length list;
+  vars = d.inputs;
+  uses = map (zeros_used d cares) (output_numbers d.outputs) ++ map (ones_used d cares) (output_numbers d.outputs);
+  wanted = λ number. task_family d (slice_index_or list number no_task);
+  working = λ number. task_list d (slice_index_or list number no_task);
+}
+
+-- a part of an output's answer, and the element with a lead
+abbrev pub task : Part → ℕ → Task
+task part output = record { output = output; part = part }
+
+abbrev pub element_task : ℕ → ℕ → Task
+element_task output lead = task (Element lead) output
+
+-- the tasks of phase 1: the polynomials, and then in mode basis the leads
+abbrev pub first_tasks : Description → Mode → List Task
+first_tasks d mode = map (task Polynomial) (output_numbers d.outputs)
+    ++ cond (is_basis mode) (map (task Leads) (output_numbers d.outputs)) []
+
+-- the tasks of phase 2: the elements of each output, by ascending lead
+abbrev pub second_tasks : Description → Mode → List Task
+second_tasks d mode = flat_map (λ output. map (element_task output) (leads_in d mode output)) (output_numbers d.outputs)
+
+-- why a description was not solved whose jobs were not all run
+abbrev pub stop_of : SolveRefusal → Stop
+stop_of refusals.Full = stops.Full
+stop_of refusals.Memory = stops.Memory
+
+abbrev pub stop_without_cubes : CubesRefusal → Stop
+stop_without_cubes unbuilt.Full = stops.Full
+stop_without_cubes unbuilt.Memory = stops.Memory
+
+-- ---- what was found
+
+-- the handles of the care sets of the first outputs
+abbrev pub AreCares : State → Description → ℕ → List ValuedPoints → Type 0
+AreCares s d count cares =
+    AllZip (λ p output. Denotes s p.zeros (zeros_in d output) × Denotes s p.ones (ones_in d output)) cares (output_numbers count)
+
+-- they were built, and what they needed is held
+pub record CaresDone (s : State) (d : Description) (count : ℕ) (cares : List ValuedPoints) : Type 0 where
+  pub each : AreCares s d count cares
+  pub held : Covers s.held (working_set d.inputs (flat_map (care_list d.inputs d.kind d.rows) (output_numbers count)))
+
+-- the store knows the handles, for these families
+abbrev pub AreHandles : State → List Handle → List Family → Type 0
+AreHandles s handles families = All (Knows s) handles × (map (family s) handles ≡ families)
+
+-- the handles of what tasks find
+abbrev pub AreOf : State → Description → List Handle → List Task → Type 0
+AreOf s d found tasks = AreHandles s found (map (task_family d) tasks)
+
+-- the tasks were done: these are the handles of their families, and what they needed is held
+pub record AreDone (s : State) (d : Description) (tasks : List Task) (found : List Handle) : Type 0 where
+  pub each : AreOf s d found tasks
+  pub held : Covers s.held (working_set d.inputs (flat_map (task_list d) tasks))
+
+-- phase 1 was done
+pub record IsFirst (s : State) (d : Description) (mode : Mode) (first : First) : Type 0 where
+  pub cares : AreCares s d d.outputs first.cares.items
+  pub found : AreOf s d first.found.items (first_tasks d mode)
+  pub held : Covers s.held (working_set d.inputs (first_phase d.inputs d.outputs d.kind d.rows mode))
+
+-- the leads of each output, from the greatest down
+abbrev pub AreLeads : Description → Mode → List Family → Type 0
+AreLeads d mode lists = map reverse lists ≡ map (leads_in d mode) (output_numbers d.outputs)
+
+-- the elements stand beside the polynomials of their outputs, as many as the output has leads
+unfoldable pub AreGrouped : List Handle → List Family → List Handle → List Solved → Type 0
+AreGrouped polynomials [] elements [] = Unit {0}
+AreGrouped (p ∷ ps) (leads ∷ rest) elements (o ∷ os) =
+    (o.polynomial ≡ p) × (o.basis.items ≡ take (length leads) elements) × AreGrouped ps rest (drop (length leads) elements) os
+AreGrouped polynomials leads elements solved = ⊥
+
+-- an output's polynomial, and its basis, which mode anf has none of
+abbrev pub answer_for : Description → Mode → ℕ → Answer
+answer_for d mode output = record {
+  polynomial = interpolate d.inputs (zeros_in d output) (ones_in d output);
+  basis = map (λ m. basis_element_of d.inputs m (points_in d output)) (leads_in d mode output);
+}
 
 -- ---- what is counted and printed
 
@@ -78,19 +186,19 @@ pub record IsSolved (s t : State) (f : Found) (solved : Solved) : Type 0 where
 abbrev pub terms_of : State → List Handle → ℕ
 terms_of s polynomials = sum_by (λ h. length (family s h)) polynomials
 
-abbrev pub first_terms : State → List Found → ℕ
-first_terms s found = sum_by (λ f. length (family s f.polynomial) + length (family s f.leads)) found
-
 abbrev pub second_terms : State → List Solved → ℕ
 second_terms s solved = sum_by (λ f. length (family s f.polynomial) + terms_of s f.basis.items) solved
 
 -- the store knows the handles
-abbrev pub KnowsFound : State → Found → Type 0
-KnowsFound s f = Knows s f.polynomial × Knows s f.leads
-
 abbrev pub KnowsSolved : State → Solved → Type 0
 KnowsSolved s f = Knows s f.polynomial × All (Knows s) f.basis.items
 
 -- an output's answer
 abbrev pub answer_in : State → Solved → Answer
 answer_in s f = record { polynomial = family s f.polynomial; basis = map (family s) f.basis.items }
+
+-- phase 2 was done
+pub record IsSecond (s : State) (d : Description) (mode : Mode) (solved : List Solved) : Type 0 where
+  pub known : All (KnowsSolved s) solved
+  pub answers : map (answer_in s) solved ≡ map (answer_for d mode) (output_numbers d.outputs)
+  pub held : Covers s.held (working_set d.inputs (second_phase d.inputs d.outputs d.kind d.rows mode))

@@ -10,7 +10,7 @@ use Rattle.clap.specs.Words.{fault_of, matches_of}
 use Rattle.cli_words.specs.CommandLine.{IsJob, interp_command}
 use Rattle.cli_words.specs.declared.job.Job.{Job}
 use Rattle.watch.specs.Notes.{WatcherState, left_after_all}
-use Rattle.interp_run.specs.Due.{Due, HasText, IsDue, IsExhausted}
+use Rattle.interp_run.specs.Due.{Due, IsDue, IsExhausted}
 use Rattle.interp_run.specs.declared.outcome.Outcome.{Outcome}
 use Rattle.interp_run.specs.declared.outcome.Outcome.TheVariants as ends
 
@@ -38,6 +38,10 @@ status_of ends.Memory = 7
 status_of ends.ReadFault = 8
 status_of ends.WriteFault = 9
 status_of ends.TooLong = 10
+
+-- the outcomes that have an answer
+abbrev pub HasText : Outcome → Type 0
+HasText o = status_of o ≤ 1
 
 -- the line on err
 abbrev pub line_of : Outcome → List ℕ

@@ -1,9 +1,9 @@
 //! The description of a run, and its contradictions.
-ghost use Rattle.std.specs.Prelude.{◌≡◌, ◌≤◌, IfOk, IfErr, IfSome, IsNone, Ok, OnOk, length};
+ghost use Rattle.std.specs.Prelude.{◌≡◌, ◌≤◌, false, IfOk, IfErr, IfSome, IsNone, Ok, OnOk, length};
 ghost use Rattle.lattice.specs.Rows.{IsConsistent};
 ghost use Rattle.cli_words.specs.declared.job.Job.{Job};
 ghost use Rattle.pla_reader.specs.Reading.{bytes_taken, description};
-ghost use Rattle.interp_run.specs.Due.{file_of};
+ghost use Rattle.interp_run.specs.Due.{file_of, is_gen};
 ghost use Rattle.interp_run.specs.Parts.{EndsWithout, IsContradiction};
 
 use crate::Outcome;
@@ -16,10 +16,10 @@ pub(crate) const MOST_BYTES: usize = 4_194_304;
 
 /// The description of the bytes and the number of bytes that it takes, or how the run ends without it.
 pub(crate) fn description_of(alloc: Global, bytes: &[u8]) -> Result<(Pla, usize), Outcome>
-    ensures ok { IfOk result (λ found. (job : Job) → file_of job bytes.now ≡ Ok (description found.0)) }
+    ensures ok { IfOk result (λ found. (job : Job) → is_gen job.mode ≡ false → file_of job bytes.now ≡ Ok (description found.0)) }
     ensures few { OnOk result (length bytes.now ≤ MOST_BYTES) }
     ensures taken { IfOk result (λ found. found.1 ≡ bytes_taken bytes.now) }
-    ensures err { IfErr result (λ o. (job : Job) → EndsWithout job bytes.now o) }
+    ensures err { IfErr result (λ o. (job : Job) → is_gen job.mode ≡ false → EndsWithout job bytes.now o) }
 {
     if bytes.len() > MOST_BYTES {
         return Err(Outcome::TooLong);

@@ -1,6 +1,7 @@
 //! The top call: from the words and the bytes to the text and the status.
 #![tactic(auto)]
 
+mod bases;
 mod counts;
 mod describe;
 mod judge;
@@ -10,6 +11,8 @@ mod phases;
 mod plan;
 mod printed;
 mod solve;
+mod summary;
+mod tasks;
 mod top;
 
 pub use crate::outcome::Outcome;

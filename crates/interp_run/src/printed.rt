@@ -32,7 +32,7 @@ fn terms_of<S: Store>(
 }
 
 // The terms of each polynomial.
-fn lists_of<S: Store>(
+pub(crate) fn lists_of<S: Store>(
     alloc: Global,
     store: &mut S,
     polynomials: &[Handle],

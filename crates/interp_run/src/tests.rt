@@ -2,6 +2,7 @@ ghost use Rattle.std.specs.Prelude.{◌≡◌, [], All, IfOk};
 ghost use Rattle.watch.specs.Notes.{states_by};
 
 use crate::run;
+use fork_branches::Drawn;
 use lattice::Words;
 use outside::{MemSink, MemSource, Rendezvous};
 use std::alloc::{AllocError, Global};
@@ -48,6 +49,7 @@ fn check_at<R: Threads + Abort + Sync>(
         &mut source,
         &mut out,
         &mut err,
+        &mut Drawn::new(),
         gate,
         &mut Vec::new(alloc),
     );
@@ -172,6 +174,36 @@ fn any_number_of_workers(rt: HostRuntime) -> Result<(), Fail> {
         answers(&rt, alloc, line, ADDER, SUMS)?;
     }
     Ok(())
+}
+
+// Mode gen reads nothing and answers the same with any number of workers.
+#[test]
+fn generated_files(rt: HostRuntime) -> Result<(), Fail> {
+    let alloc = rt.alloc();
+    let first = "points 256\nf1 8\nf2 7\n";
+    for line in [
+        "interp gen",
+        "interp gen --seed 0 --workers 8",
+        "interp --workers 2 gen",
+    ] {
+        check(&rt, alloc, line, "", (1, NEVER), (0, first, ""))?;
+    }
+    check(
+        &rt,
+        alloc,
+        "interp gen",
+        "",
+        (NEVER, 1),
+        (9, "", "interp: write fault\n"),
+    )?;
+    check(
+        &rt,
+        alloc,
+        "interp gen --nodes 4",
+        "",
+        (NEVER, NEVER),
+        (5, "", "interp: more than 16 nodes are needed\n"),
+    )
 }
 
 // With two workers the branches of an operation are at their starts at one time: each waits at the gate until it has seen the
@@ -438,6 +470,7 @@ fn too_long(rt: HostRuntime) -> Result<(), Fail> {
             &mut source,
             &mut out,
             &mut err,
+            &mut Drawn::new(),
             &Rendezvous::open(),
             &mut Vec::new(alloc)
         ),
@@ -489,6 +522,7 @@ fn check_told<R: Threads + Abort + Sync>(
         &mut source,
         &mut out,
         &mut err,
+        &mut Drawn::new(),
         &Rendezvous::open(),
         &mut watchers,
     );

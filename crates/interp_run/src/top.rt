@@ -1,18 +1,18 @@
 //! The top call: the words, the reading, the answer and the writing.
-ghost use Rattle.std.specs.Prelude.{◌≡◌, ◌≢◌, ◌⊎◌, ◌+◌, ◌≤◌, [], List, ℕ, All, OnOk, OnErr, IfOk, IfErr, Some, length, map, take};
+ghost use Rattle.std.specs.Prelude.{◌≡◌, ◌≢◌, false, ◌⊎◌, ◌+◌, ◌<◌, ◌≤◌, ◌^◌, [], List, ℕ, All, OnOk, OnErr, IfOk, IfErr, Some, length, map, take};
 ghost use Rattle.std.specs.List.{concat};
 ghost use Rattle.std.specs.Io.KnownBytes.{Appends, Keeps};
 ghost use Rattle.lattice.specs.declared.limits.TheConstants.{MIN_BITS, MAX_BITS};
 ghost use Rattle.lattice.specs.Counts.{Rose};
-ghost use Rattle.lattice.specs.declared.kind.Mode.TheVariants.{Anf, Basis, Check};
+ghost use Rattle.lattice.specs.declared.kind.Mode.TheVariants.{Anf, Basis, Check, Gen};
 ghost use Rattle.outside.specs.Causes.{GainsFront, GainsUnlessRose, HasCause, LosesAtMost};
 ghost use Rattle.anf_printer.specs.Text.{answer_of};
 ghost use Rattle.cli_words.specs.declared.job.Job.{Job};
 ghost use Rattle.watch.specs.Notes.{WatcherState, left_after_all, states_by};
 ghost use Rattle.interp_run.specs.Answers.{notes_from};
-ghost use Rattle.interp_run.specs.Due.{Due, HasText, IsDue};
+ghost use Rattle.interp_run.specs.Due.{Due, IsDue, is_gen, least_jobs};
 ghost use Rattle.interp_run.specs.Parts.{EndsWithout};
-ghost use Rattle.interp_run.specs.Run.{Ends, IsAsked, IsRefused, Ran, TellsFirst, line_of, status_of};
+ghost use Rattle.interp_run.specs.Run.{Ends, HasText, IsAsked, IsRefused, Ran, TellsFirst, line_of, status_of};
 ghost use Rattle.interp_run.specs.declared.outcome.Outcome.{Outcome};
 ghost use Rattle.interp_run.specs.declared.outcome.Outcome.TheVariants as outcomes;
 
@@ -20,8 +20,10 @@ use crate::Outcome;
 use crate::describe::{MOST_BYTES, contradiction_of, description_of};
 use crate::judge::{outcome_after, text_of, verdict_of};
 use crate::solve::solve;
+use crate::summary::summary_of;
 use anf_printer::{Shown, answer_text};
 use cli_words::{Job, WordsRefusal, read_words};
+use fork_branches::Pool;
 use lattice::{Memory, Mode, Pages, Text, Words};
 use outside::{Failed, ReadStop, Rendezvous, Sink, Source, read_up_to, write_whole};
 use std::alloc::{AllocError, Global};
@@ -52,9 +54,10 @@ fn notes_of(alloc: Global, shown: &[Shown]) -> Result<Vec<Note>, AllocError>
 }
 
 // The answer to a job on the bytes, or how the run ends without it.
-fn answer_to<R: Threads + Sync>(
+fn answer_to<R: Threads + Sync, P: Pool>(
     rt: &R,
     alloc: Global,
+    pool: &mut P,
     gate: &Rendezvous,
     job: &Job,
     bytes: &[u8],
@@ -62,7 +65,10 @@ fn answer_to<R: Threads + Sync>(
     requires mode { (job.now.mode ≡ Anf) ⊎ (job.now.mode ≡ Basis) }
     requires workers { (1 ≤ job.now.workers) × (job.now.workers ≤ 16) }
     requires nodes { (MIN_BITS ≤ job.now.nodes) × (job.now.nodes ≤ MAX_BITS) }
+    requires terms { job.now.terms ≤ 1000000 }
+    requires room { P.done pool.old < 2 ^ 29 }
     ensures ok { IfOk result (λ w. IsDue job.now bytes.now (record { outcome = outcomes.Done; pages = w.pages; notes = w.notes.items })) }
+    ensures jobs { IfOk result (λ w. P.done pool.new ≡ P.done pool.old + least_jobs job.now.mode w.notes.items) }
     ensures few { IfOk result (λ w. (length w.notes.items ≡ length w.pages) × (length w.pages ≤ 64)) }
     ensures err { IfErr result (EndsWithout job.now bytes.now) }
 {
@@ -70,7 +76,7 @@ fn answer_to<R: Threads + Sync>(
     if let Some(outcome) = contradiction_of(&pla) {
         return Err(outcome);
     }
-    let shown = solve(rt, alloc, gate, &pla, job)?;
+    let shown = solve(rt, alloc, pool, gate, &pla, job)?;
     let Ok(notes) = notes_of(alloc, &shown) else {
         return Err(Outcome::Memory);
     };
@@ -104,9 +110,10 @@ fn write_pages<K: Sink>(
 }
 
 // Solves the description, and writes the answer.
-fn solved<R: Threads + Sync, K: Sink>(
+fn solved<R: Threads + Sync, K: Sink, P: Pool>(
     rt: &R,
     alloc: Global,
+    pool: &mut P,
     gate: &Rendezvous,
     job: &Job,
     bytes: &[u8],
@@ -116,13 +123,17 @@ fn solved<R: Threads + Sync, K: Sink>(
     requires mode { (job.now.mode ≡ Anf) ⊎ (job.now.mode ≡ Basis) }
     requires workers { (1 ≤ job.now.workers) × (job.now.workers ≤ 16) }
     requires nodes { (MIN_BITS ≤ job.now.nodes) × (job.now.nodes ≤ MAX_BITS) }
+    requires terms { job.now.terms ≤ 1000000 }
+    requires room { P.done pool.old < 2 ^ 29 }
     requires untold { All (λ s. s.told ≡ []) (states_by told patience watchers.old.items) }
     ensures read { (result ≢ outcomes.Usage) × (result ≢ outcomes.ReadFault) }
     ensures write { result ≡ outcomes.WriteFault → Rose (K.faults out.old) (K.faults out.new) }
+    ensures jobs { (whole : List ℕ) (due : Due) → bytes.now ≡ take (MOST_BYTES + 1) whole → IsDue job.now whole due → (result ≡ outcomes.Done) ⊎ (result ≡ outcomes.WriteFault)
+        → least_jobs job.now.mode due.notes ≤ P.done pool.new }
     ensures ends { (words : List (List ℕ)) (whole : List ℕ) → IsAsked words job.now → bytes.now ≡ take (MOST_BYTES + 1) whole
         → Ends words whole (K.held out.old) (K.held out.new) (states_by told patience watchers.old.items) (states_by told patience watchers.new.items) result }
 {
-    let answer = match answer_to(rt, alloc, gate, job, bytes) {
+    let answer = match answer_to(rt, alloc, pool, gate, job, bytes) {
         Ok(answer) => answer,
         Err(outcome) => return outcome,
     };
@@ -149,28 +160,61 @@ fn judged<K: Sink>(alloc: Global, bytes: &[u8], out: &mut K) -> Outcome
     }
 }
 
-// All but the line on err.
-fn outcome_of<R: Threads + Sync, S: Source, K: Sink>(
+// Solves the description that the job's seed makes, and writes the summary.
+fn summed<R: Threads + Sync, K: Sink, P: Pool>(
     rt: &R,
     alloc: Global,
-    words: &Words,
+    pool: &mut P,
+    gate: &Rendezvous,
+    job: &Job,
+    out: &mut K,
+) -> Outcome
+    requires mode { job.now.mode ≡ Gen }
+    requires workers { (1 ≤ job.now.workers) × (job.now.workers ≤ 16) }
+    requires nodes { (MIN_BITS ≤ job.now.nodes) × (job.now.nodes ≤ MAX_BITS) }
+    requires terms { job.now.terms ≤ 1000000 }
+    requires room { P.done pool.old < 2 ^ 29 }
+    ensures read { (result ≢ outcomes.Usage) × (result ≢ outcomes.ReadFault) }
+    ensures write { result ≡ outcomes.WriteFault → Rose (K.faults out.old) (K.faults out.new) }
+    ensures jobs { (result ≡ outcomes.Done) ⊎ (result ≡ outcomes.WriteFault) → 2 ≤ P.done pool.new }
+    ensures ends { (words : List (List ℕ)) (whole : List ℕ) (states : List WatcherState) → IsAsked words job.now
+        → Ends words whole (K.held out.old) (K.held out.new) states states result }
+{
+    let text = match summary_of(rt, alloc, pool, gate, job) {
+        Ok(text) => text,
+        Err(outcome) => return outcome,
+    };
+    if write_whole(out, text.as_slice()).is_err() {
+        return Outcome::WriteFault;
+    }
+    Outcome::Done
+}
+
+// Reads the source, and solves its description or judges the answer behind it.
+fn of_source<R: Threads + Sync, S: Source, K: Sink, P: Pool>(
+    rt: &R,
+    alloc: Global,
+    job: &Job,
     source: &mut S,
     out: &mut K,
+    pool: &mut P,
     gate: &Rendezvous,
     watchers: &mut Vec<Box<dyn Watch>>,
 ) -> Outcome
+    requires mode { is_gen job.now.mode ≡ false }
+    requires workers { (1 ≤ job.now.workers) × (job.now.workers ≤ 16) }
+    requires nodes { (MIN_BITS ≤ job.now.nodes) × (job.now.nodes ≤ MAX_BITS) }
+    requires terms { job.now.terms ≤ 1000000 }
+    requires room { P.done pool.old < 2 ^ 29 }
     requires untold { All (λ s. s.told ≡ []) (states_by told patience watchers.old.items) }
-    ensures ran { Ran words.now (S.left source.old) (K.held out.old) (K.held out.new) (states_by told patience watchers.old.items) (states_by told patience watchers.new.items) result }
+    ensures ran { (words : List (List ℕ)) → IsAsked words job.now → Ran words (S.left source.old) (K.held out.old) (K.held out.new) (states_by told patience watchers.old.items) (states_by told patience watchers.new.items) result }
+    ensures usage { result ≢ outcomes.Usage }
     ensures read { result ≡ outcomes.ReadFault → Rose (S.faults source.old) (S.faults source.new) }
     ensures write { result ≡ outcomes.WriteFault → Rose (K.faults out.old) (K.faults out.new) }
+    ensures jobs { (whole : List ℕ) (due : Due) → S.left source.old ≡ Some whole → IsDue job.now whole due → job.now.mode ≢ Check → (result ≡ outcomes.Done) ⊎ (result ≡ outcomes.WriteFault)
+        → least_jobs job.now.mode due.notes ≤ P.done pool.new }
     ensures few { LosesAtMost (S.left source.old) (S.left source.new) (MOST_BYTES + 1) }
-    ensures untouched { result ≡ outcomes.Usage → (S.left source.new ≡ S.left source.old) × (S.faults source.new ≡ S.faults source.old) }
 {
-    let job = match read_words(alloc, words) {
-        Ok(job) => job,
-        Err(WordsRefusal::Usage) => return Outcome::Usage,
-        Err(WordsRefusal::Memory) => return Outcome::Memory,
-    };
     let bytes = match read_up_to(alloc, source, MOST_BYTES + 1) {
         Ok(bytes) => bytes,
         Err(ReadStop::Fault) => return Outcome::ReadFault,
@@ -178,7 +222,43 @@ fn outcome_of<R: Threads + Sync, S: Source, K: Sink>(
     };
     match job.mode {
         Mode::Check => judged(alloc, &bytes, out),
-        Mode::Anf | Mode::Basis | Mode::Gen => solved(rt, alloc, gate, &job, &bytes, out, watchers),
+        Mode::Anf | Mode::Basis => solved(rt, alloc, pool, gate, job, &bytes, out, watchers),
+        Mode::Gen => unreachable!(),
+    }
+}
+
+// All but the line on err.
+fn outcome_of<R: Threads + Sync, S: Source, K: Sink, P: Pool>(
+    rt: &R,
+    alloc: Global,
+    words: &Words,
+    source: &mut S,
+    out: &mut K,
+    pool: &mut P,
+    gate: &Rendezvous,
+    watchers: &mut Vec<Box<dyn Watch>>,
+) -> Outcome
+    requires untold { All (λ s. s.told ≡ []) (states_by told patience watchers.old.items) }
+    requires fresh { P.done pool.old ≡ 0 }
+    ensures ran { Ran words.now (S.left source.old) (K.held out.old) (K.held out.new) (states_by told patience watchers.old.items) (states_by told patience watchers.new.items) result }
+    ensures read { result ≡ outcomes.ReadFault → Rose (S.faults source.old) (S.faults source.new) }
+    ensures write { result ≡ outcomes.WriteFault → Rose (K.faults out.old) (K.faults out.new) }
+    ensures jobs { (job : Job) (bytes : List ℕ) (due : Due) → IsAsked words.now job → (S.left source.old ≡ Some bytes) ⊎ (job.mode ≡ Gen) → IsDue job bytes due → job.mode ≢ Check
+        → (result ≡ outcomes.Done) ⊎ (result ≡ outcomes.WriteFault) → least_jobs job.mode due.notes ≤ P.done pool.new }
+    ensures few { LosesAtMost (S.left source.old) (S.left source.new) (MOST_BYTES + 1) }
+    ensures untouched { result ≡ outcomes.Usage → (S.left source.new ≡ S.left source.old) × (S.faults source.new ≡ S.faults source.old) }
+    ensures generated { (job : Job) → IsAsked words.now job → job.mode ≡ Gen → (S.left source.new ≡ S.left source.old) × (S.faults source.new ≡ S.faults source.old) }
+{
+    let job = match read_words(alloc, words) {
+        Ok(job) => job,
+        Err(WordsRefusal::Usage) => return Outcome::Usage,
+        Err(WordsRefusal::Memory) => return Outcome::Memory,
+    };
+    match job.mode {
+        Mode::Gen => summed(rt, alloc, pool, gate, &job, out),
+        Mode::Anf | Mode::Basis | Mode::Check => {
+            of_source(rt, alloc, &job, source, out, pool, gate, watchers)
+        }
     }
 }
 
@@ -194,21 +274,24 @@ pub fn report<E: Sink>(err: &mut E, outcome: Outcome) -> u8
 /// Does all that the program does, and answers its status. Each output is solved by the job's number of workers, whose branches
 /// enter the gate at their starts. The watchers are told of each output as soon as its text was written whole; those whose
 /// patience ends are dropped.
-pub fn run<R: Threads + Sync, S: Source, K: Sink, E: Sink>(
+pub fn run<R: Threads + Sync, S: Source, K: Sink, E: Sink, P: Pool>(
     rt: &R,
     alloc: Global,
     words: &Words,
     source: &mut S,
     out: &mut K,
     err: &mut E,
+    pool: &mut P,
     gate: &Rendezvous,
     watchers: &mut Vec<Box<dyn Watch>>,
 ) -> u8
     requires untold { All (λ s. s.told ≡ []) (states_by told patience watchers.old.items) }
+    requires fresh { P.done pool.old ≡ 0 }
 
-    // Where the source tells its bytes, an answer is due for them and no fault was counted, out gained its whole text, unless
-    // memory ran out: that of the least polynomials and, in mode basis, of the reduced bases; in mode check the verdict.
-    ensures headline { (job : Job) (bytes : List ℕ) (due : Due) → IsAsked words.now job → S.left source.old ≡ Some bytes → HasText due.outcome → IsDue job bytes due
+    // Where the source tells its bytes, or in mode gen, an answer is due and no fault was counted, out gained its whole text,
+    // unless memory ran out: that of the least polynomials and, in mode basis, of the reduced bases; in mode check the verdict,
+    // and in mode gen the summary.
+    ensures headline { (job : Job) (bytes : List ℕ) (due : Due) → IsAsked words.now job → (S.left source.old ≡ Some bytes) ⊎ (job.mode ≡ Gen) → HasText due.outcome → IsDue job bytes due
         → ¬ Rose (S.faults source.old) (S.faults source.new) → ¬ Rose (K.faults out.old) (K.faults out.new)
         → (result ≡ 7) ⊎ ((result ≡ status_of due.outcome) × Appends (K.held out.old) (K.held out.new) (concat due.pages)) }
 
@@ -222,12 +305,17 @@ pub fn run<R: Threads + Sync, S: Source, K: Sink, E: Sink>(
     ensures read { result ≡ 8 → Rose (S.faults source.old) (S.faults source.new) }
     ensures write { result ≡ 9 → Rose (K.faults out.old) (K.faults out.new) }
 
+    // Where an answer was written, whole or in part, the pool answered the jobs that found it.
+    ensures jobs { (job : Job) (bytes : List ℕ) (due : Due) → IsAsked words.now job → (S.left source.old ≡ Some bytes) ⊎ (job.mode ≡ Gen) → IsDue job bytes due → job.mode ≢ Check
+        → (result ≡ 0) ⊎ (result ≡ 9) → least_jobs job.mode due.notes ≤ P.done pool.new }
+
     ensures nothing { result ≢ 0 → result ≢ 1 → result ≢ 9 → Keeps (K.held out.old) (K.held out.new) }
     ensures nobody { result ≢ 0 → result ≢ 9 → states_by told patience watchers.new.items ≡ states_by told patience watchers.old.items }
-    ensures checks { (job : Job) → IsAsked words.now job → job.mode ≡ Check → states_by told patience watchers.new.items ≡ states_by told patience watchers.old.items }
+    ensures checks { (job : Job) → IsAsked words.now job → (job.mode ≡ Check) ⊎ (job.mode ≡ Gen) → states_by told patience watchers.new.items ≡ states_by told patience watchers.old.items }
     ensures few { LosesAtMost (S.left source.old) (S.left source.new) (MOST_BYTES + 1) }
     ensures untouched { result ≡ 2 → (S.left source.new ≡ S.left source.old) × (S.faults source.new ≡ S.faults source.old) }
+    ensures generated { (job : Job) → IsAsked words.now job → job.mode ≡ Gen → (S.left source.new ≡ S.left source.old) × (S.faults source.new ≡ S.faults source.old) }
 {
-    let outcome = outcome_of(rt, alloc, words, source, out, gate, watchers);
+    let outcome = outcome_of(rt, alloc, words, source, out, pool, gate, watchers);
     report(err, outcome)
 }

@@ -8,6 +8,7 @@ mod machine;
 mod path;
 mod seat;
 
+pub use crate::cache::cache_size;
 pub use crate::event::{Event, Seen};
 pub use crate::machine::{Core, run};
 pub use crate::path::probe_place;

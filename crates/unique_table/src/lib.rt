@@ -4,6 +4,7 @@
 mod pass;
 mod plays;
 mod view;
+mod zeros;
 
 pub use crate::pass::{Pass, Shared, Token};
 

@@ -11,10 +11,11 @@ ghost use Rattle.unique_table.specs.PassLaws.{IsSoundView-prop};
 
 use crate::plays::{Asked, CacheLoad, CacheStore, Check, Insert, Nodes, Probe, Twin, Union};
 use crate::view::{About, View};
+use crate::zeros::{spare_count, zeros_or};
 use atomic_table::{Seat, Table};
-use lattice::{MIN_CACHE_BITS, Memory, Op, Plan};
+use lattice::{Memory, Op, Plan};
 use node_store::{Full, Handle, Node, Store, pack, unpack};
-use probe_core::probe_place;
+use probe_core::{cache_size, probe_place};
 use std::alloc::Global;
 use std::marker::Brand;
 
@@ -63,9 +64,10 @@ impl Shared {
         ensures state { IfOk result (λ r. token_state r.1 ≡ first_state (token_table r.1) bits vars plan.families) }
         ensures steps { IfOk result (λ r. token_steps r.1 ≡ no_steps) }
     {
-        let words = Vec::from_elem(alloc, 0u64, (1usize << bits) + cache_size(bits))?;
+        let count = (1usize << bits) + cache_size(bits);
+        let spare = Vec::from_elem(alloc, 0u64, spare_count(count))?;
         let about = About { bits, vars, plan };
-        let (table, seat) = Table::of_words(alloc, words.as_slice(), &about)?;
+        let (table, seat) = Table::of_words(alloc, zeros_or(&spare, count), &about)?;
         Ok((Shared { table }, Token { seat, bits, vars }))
     }
 
@@ -83,14 +85,6 @@ impl Shared {
             vars,
         }
     }
-}
-
-// How many cache words a table of 2^bits slots has.
-fn cache_size(bits: u32) -> usize
-    requires { bits ≤ MAX_BITS }
-    ensures { result ≡ 2 ^ cache_bits bits }
-{
-    1usize << bits.max(MIN_CACHE_BITS)
 }
 
 // The word of the table that is the cache word of the place.

@@ -12,8 +12,9 @@ use lattice::Mono;
 use node_store::{Full, Handle, Store};
 use set_algebra::one;
 
-/// The least polynomial that is 1 at `ones`, some of the points, and 0 at the other points.
-fn least_by<S: Store, O: SetOps<S>>(
+/// The least polynomial that is 1 at `ones`, some of the points, and 0 at the other points. The error comes only where the store
+/// had no slot left for a family that was needed.
+pub fn least_by<S: Store, O: SetOps<S>>(
     store: &mut S,
     ops: &mut O,
     points: Handle,

@@ -3,7 +3,7 @@
 
 mod elements;
 
-pub use crate::elements::{basis_element, normal_form_of};
+pub use crate::elements::{basis_element, least_by, normal_form_of};
 
 #[cfg(test)]
 mod tests;

@@ -1,13 +1,11 @@
-use Rattle.std.proofs.Common.{codes, sym, subst, ◌∙◌}
+use Rattle.std.proofs.Common.{codes, sym, subst, arith, rules}
 use Rattle.std.specs.List.{All}
 use Rattle.anf_printer.specs.Text.{IsAnswerOver, answer_of}
 use Rattle.anf_printer.proofs.PrintedNames.{count_printed}
 use Rattle.anf_printer.proofs.answer.answer_text.Goals as goal
 
 pub texts_of-requires-clause-count : goal.texts_of-requires-clause-count
-texts_of-requires-clause-count c =
-    let count = count_printed (codes "f") _ _ _ _ c.args.p.now.fits.out_count c.printed-outputs.ensures c.in_ok-for_outputs.ensures in
-    c.requires.count ∙ sym count
+texts_of-requires-clause-count c = search (rules, arith, count_printed)
 
 pub texts_of-requires-clause-families : goal.texts_of-requires-clause-families
 texts_of-requires-clause-families c =

@@ -1,11 +1,10 @@
-use Rattle.std.proofs.Common.{length, arith}
+use Rattle.std.proofs.Common.{length, arith, rules}
 use Rattle.std.proofs.lemmas.Grind.{common_steps}
 use Rattle.anf_printer.proofs.Texts.{polynomial_text_none, polynomial_text_some, others_below}
 use Rattle.anf_printer.proofs.polynomial.push_polynomial.Goals as goal
 
 pub returns-in_ok-push-in-empty : goal.returns-in_ok-push-in-empty
-returns-in_ok-push-in-empty c = let none = polynomial_text_none c.args.names.now c.args.terms.now c.in-empty.len_below in
-    grind (arith, common_steps)
+returns-in_ok-push-in-empty c = search (rules, arith, polynomial_text_none)
 
 pub push_others-requires : goal.push_others-requires
 push_others-requires c = others_below (length c.args.names.now) c.args.terms.now c.requires

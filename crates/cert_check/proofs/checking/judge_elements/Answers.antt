@@ -1,23 +1,16 @@
-use Rattle.std.proofs.Common.{refl, arith}
+use Rattle.std.proofs.Common.{arith, rules}
 use Rattle.std.proofs.lemmas.Result.{err_from_is_err_and}
 use Rattle.cert_check.proofs.Judged.{no_tops, tops_next, elements_fail, elements_next, elements_fine}
 use Rattle.cert_check.proofs.checking.judge_elements.Goals as goal
 
 pub loop-element-init : goal.loop-element-init
-loop-element-init c = record {
-  tops_are = no_tops c.new-tops.result.items c.new-tops.ensures.items;
-  goes_on = λ zeros ones marks. rw c.new-tops.ensures.items refl;
-}
+loop-element-init c = search (rules, arith, no_tops)
 
 pub judge_element-requires-clause-family : goal.judge_element-requires-clause-family
 judge_element-requires-clause-family c = rw c.element-item.is (c.requires.families _ _ c.loop-element-test.true)
 
 pub returns-in_err-top-clause-checks : goal.returns-in_err-top-clause-checks
-returns-in_err-top-clause-checks c = λ zeros ones marks.
-    let p = err_from_is_err_and c.from_residual.result c.from_residual.ensures.1 in
-    let fails = rw c.deref.ensures.value at (c.in_err-top.ensures.checks zeros ones marks) in
-    rw (p.1, p.2) (elements_fail _ _ _ _ _ c.loop-element-test.true c.element-item.is
-    (c.loop-element.invariant.goes_on zeros ones marks) _ fails)
+returns-in_err-top-clause-checks c = search (rules, arith, err_from_is_err_and, elements_fail)
 
 pub loop-element-preserved : goal.loop-element-preserved
 loop-element-preserved c = record {

@@ -1,4 +1,4 @@
-use Rattle.std.proofs.Common.{List, length, refl, sym, ap, ◌∙◌, arith, drop}
+use Rattle.std.proofs.Common.{List, length, refl, sym, ap, ◌∙◌, arith, drop, rules}
 use Rattle.cert_check.specs.declared.answer.Given.{Given}
 use Rattle.cert_check.specs.Faults.{first_verdict, reduced_checks}
 use Rattle.cert_check.proofs.Judged.{tail_below, tail_here, tails_fine}
@@ -6,15 +6,11 @@ use Rattle.cert_check.proofs.checking.judge_reduced.Goals as goal
 
 pub returns-then-is_reducible : goal.returns-then-is_reducible
 unfolding first_verdict reduced_checks
-returns-then-is_reducible c = λ n tops counted.
-    let test = rw c.as_slice.ensures at (sym (c.is_reducible.ensures n tops counted) ∙ c.if-is_reducible.true) in
-    rw (c.fault.ensures, test) refl
+returns-then-is_reducible c = search (rules, arith)
 
 pub loop-element-init : goal.loop-element-init
 unfolding first_verdict reduced_checks
-loop-element-init c = λ n tops counted.
-    let test = rw c.as_slice.ensures at (sym (c.is_reducible.ensures n tops counted) ∙ c.if-is_reducible.false) in
-    rw test refl
+loop-element-init c = search (rules, arith)
 
 pub is_reducible-requires-in-loop-element : goal.is_reducible-requires-in-loop-element
 is_reducible-requires-in-loop-element c =

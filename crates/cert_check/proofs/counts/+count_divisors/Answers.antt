@@ -1,4 +1,4 @@
-use Rattle.std.proofs.Common.{◌*◌, ◌-◌, ◌^◌, ◌%◌, ◌≤◌, length, ◌∙◌, arith}
+use Rattle.std.proofs.Common.{◌-◌, ◌∙◌, arith, rules}
 use Rattle.std.proofs.lemmas.List.Elements.{All-drop}
 use Rattle.cert_check.proofs.CountTables.{counts_one, counts_whole, sums_fit, half_of}
 use Rattle.lattice.proofs.Diagrams.{weight_is}
@@ -8,25 +8,10 @@ pub returns-then-variables-eq0 : goal.returns-then-variables-eq0
 returns-then-variables-eq0 t c = counts_one c.args.variables c.args.table.now c.if-variables-eq0.true c.requires.size c.requires.marks
 
 pub split_at_mut-without-requires : goal.split_at_mut-without-requires
-split_at_mut-without-requires t c =
-    let half = half_of c.args.variables (length c.args.table.now) c.if-variables-eq0.false c.requires.size in
-    omega (arith, half, weight_is (c.args.variables - 1) (omega arith))
+split_at_mut-without-requires t c = search (rules, arith, half_of, weight_is)
 
 pub count_divisors-requires-2 : goal.count_divisors-requires-2
-count_divisors-requires-2 t c =
-    let half = half_of c.args.variables (length c.args.table.now) c.if-variables-eq0.false c.requires.size in
-    let weight = weight_is (c.args.variables - 1) (omega arith) in
-    let marks = rw (← c.split_at_mut-without.ensures.back) at
-    (All-drop (λ mark. mark ≤ 1) (1 * 2 ^ (c.args.variables - 1) % 18446744073709551616) c.args.table.now c.requires.marks) in (
-      omega (arith, c.decreases),
-      (
-        omega arith,
-        (
-          omega (arith, half, weight, c.split_at_mut-without.ensures.back_len),
-          marks,
-        ),
-      ),
-    )
+count_divisors-requires-2 t c = search (rules, arith, half_of, weight_is, All-drop)
 
 pub add_each-requires-clause-fits : goal.add_each-requires-clause-fits
 add_each-requires-clause-fits t c = λ k below. sums_fit (c.args.variables - 1) _ _ _ _ k (omega arith)

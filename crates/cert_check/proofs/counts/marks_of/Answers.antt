@@ -1,4 +1,4 @@
-use Rattle.std.proofs.Common.{◌^◌, ◌<◌, arith}
+use Rattle.std.proofs.Common.{arith, rules}
 use Rattle.std.proofs.lemmas.List.{take_all}
 use Rattle.lattice.proofs.Diagrams.{weight_is}
 use Rattle.cert_check.proofs.CountTables.{marks_nothing, marks_more, marks_small, marked_is}
@@ -9,9 +9,7 @@ loop-m-init c =
     marks_nothing _ _ _ (weight_is c.args.inputs (omega arith)) (c.in_ok-table.ensures.items_if_clones_equal (λ y h. h))
 
 pub loop-m-preserved : goal.loop-m-preserved
-loop-m-preserved c =
-    let below : c.m-item.result < 2 ^ c.args.inputs = rw c.m-item.is (c.requires.below _ _ c.loop-m-test.true) in
-    rw c.m.view_is (marks_more _ _ _ _ _ c.loop-m.invariant c.loop-m-test.true c.m-item.is below)
+loop-m-preserved c = search (rules, arith, marks_more)
 
 pub returns-clause-marks : goal.returns-clause-marks
 returns-clause-marks c =
@@ -19,6 +17,4 @@ returns-clause-marks c =
     marks_small _ _ _ (rw whole at c.loop-m.invariant)
 
 pub returns-clause-marked : goal.returns-clause-marked
-returns-clause-marked c =
-    let whole = take_all c.loop-m.m-index c.args.monomials.now (omega (arith, c.loop-m-test.false)) in
-    marked_is _ _ _ (rw whole at c.loop-m.invariant)
+returns-clause-marked c = search (rules, arith, take_all, marked_is)

@@ -1,4 +1,4 @@
-use Rattle.std.proofs.Common.{sym, ◌∙◌}
+use Rattle.std.proofs.Common.{sym, ◌∙◌, arith, rules}
 use Rattle.std.proofs.lemmas.Result.{err_from_is_err_and}
 use Rattle.cert_check.proofs.LinesRead.{bad_line, left_stops, right_stops, no_fault, adds_element, adds_output}
 use Rattle.cert_check.proofs.reading.add_line.Goals as goal
@@ -7,16 +7,10 @@ pub returns-in_default : goal.returns-in_default
 returns-in_default c = bad_line _ _ _ _ c.in_default.ensures
 
 pub returns-in_err-check_left : goal.returns-in_err-check_left
-returns-in_err-check_left c =
-    let p = err_from_is_err_and c.from_residual.result c.from_residual.ensures.1 in
-    let stops = rw (c.len.ensures, c.args.outputs.now.ok.0) at c.in_err-check_left.ensures in
-    rw (p.1, p.2) (left_stops _ _ _ _ _ c.in-Some.right.now c.in-Some.ensures.0 c.in-Some.ensures.1 _ stops)
+returns-in_err-check_left c = search (rules, arith, err_from_is_err_and, left_stops)
 
 pub returns-in_err-read_right : goal.returns-in_err-read_right
-returns-in_err-read_right c =
-    let p = err_from_is_err_and c.from_residual-in_err-read_right.result c.from_residual-in_err-read_right.ensures.1 in
-    let fine = rw (c.len.ensures, c.args.outputs.now.ok.0) at c.in_ok-check_left.ensures in
-    rw (p.1, p.2) (right_stops _ _ _ _ _ c.in-Some.right.now c.in-Some.ensures.0 c.in-Some.ensures.1 _ fine c.in_err-read_right.ensures)
+returns-in_err-read_right c = search (rules, arith, err_from_is_err_and, right_stops)
 
 pub returns-in_ok-add_element : goal.returns-in_ok-add_element
 returns-in_ok-add_element c =

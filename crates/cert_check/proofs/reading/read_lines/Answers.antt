@@ -1,4 +1,4 @@
-use Rattle.std.proofs.Common.{sym, ap, ◌∙◌, arith}
+use Rattle.std.proofs.Common.{sym, ap, ◌∙◌, arith, rules}
 use Rattle.std.proofs.lemmas.List.{nil_from_length}
 use Rattle.std.proofs.lemmas.Bool.{eqb-true}
 use Rattle.lattice.specs.Cofactors.{is_empty}
@@ -9,19 +9,10 @@ pub loop-rest-init : goal.loop-rest-init
 loop-rest-init c = none_read c.args.ins.now c.args.outs.now c.args.text.now _ c.new-outputs.ensures.items
 
 pub loop-rest-preserved-in-Ok : goal.loop-rest-preserved-in-Ok
-loop-rest-preserved-in-Ok c =
-    let filled = sym (ap is_empty c.bare-line.ensures) ∙ (empty_is _ _ c.is_empty-in-loop-rest.ensures ∙ c.if-not-is_empty.true) in
-    let added = rw (c.bare-line.ensures) at c.in-Ok.ensures in
-    line_added _ _ _ _ _ _ c.loop-rest.invariant _ _ c.split_line.ensures.first c.split_line.ensures.some c.split_line.ensures.all _ filled
-    added.0 added.1
+loop-rest-preserved-in-Ok c = search (rules, arith, empty_is, line_added)
 
 pub returns-in-Err : goal.returns-in-Err
-returns-in-Err c =
-    let filled = sym (ap is_empty c.bare-line.ensures) ∙ (empty_is _ _ c.is_empty-in-loop-rest.ensures ∙ c.if-not-is_empty.true) in
-    let stops = rw (c.bare-line.ensures) at c.in-Err.ensures in
-    rw c.of_line.ensures
-    (line_refused _ _ _ _ _ _ c.loop-rest.invariant _ _ c.split_line.ensures.first c.split_line.ensures.some c.split_line.ensures.all
-    c.in-Err.refusal filled stops)
+returns-in-Err c = search (rules, arith, empty_is, line_refused)
 
 pub loop-rest-preserved : goal.loop-rest-preserved
 loop-rest-preserved c =
@@ -29,9 +20,7 @@ loop-rest-preserved c =
     (sym (ap is_empty c.bare-line.ensures) ∙ (empty_is _ _ c.is_empty-in-loop-rest.ensures ∙ c.if-not-is_empty.false))
 
 pub returns-then-len-outs : goal.returns-then-len-outs
-returns-then-len-outs c =
-    let nothing = nil_from_length c.loop-rest.rest.now (eqb-true _ _ (sym c.is_empty.ensures ∙ c.loop-rest-test.false)) in
-    output_missing _ _ _ _ _ _ c.loop-rest.invariant nothing (omega (arith, c.len.ensures, c.loop-rest.outputs.ok.0))
+returns-then-len-outs c = search (rules, arith, nil_from_length, eqb-true, output_missing)
 
 pub returns : goal.returns
 returns c =

@@ -1,4 +1,4 @@
-use Rattle.std.proofs.Common.{refl, sym, ◌∙◌, arith}
+use Rattle.std.proofs.Common.{sym, ◌∙◌, arith, rules}
 use Rattle.cert_check.specs.Reading.{words}
 use Rattle.lattice.proofs.Diagrams.{weight_is}
 use Rattle.cert_check.proofs.Factors.{terms_none, term_known, terms_skip, factors_refused, term_refused, terms_more, terms_whole}
@@ -8,21 +8,13 @@ pub loop-rest-init : goal.loop-rest-init
 loop-rest-init c = terms_none c.args.names.now (words c.args.right.now) _ _ c.requires.known (weight_is _ (omega arith)) c.new-monos.ensures
 
 pub monomial_of-requires-clause-known : goal.monomial_of-requires-clause-known
-monomial_of-requires-clause-known c =
-    let so_far = rw (c.in-Some.is, c.split_first.ensures.first) at c.loop-rest.invariant in
-    term_known _ _ _ _ _ _ so_far (sym c.is_term.ensures ∙ c.if-is_term.true)
+monomial_of-requires-clause-known c = search (rules, arith, term_known)
 
 pub returns-in_default-monomial_of : goal.returns-in_default-monomial_of
-returns-in_default-monomial_of c =
-    let so_far = rw (c.in-Some.is, c.split_first.ensures.first) at c.loop-rest.invariant in
-    rw (factors_refused _ _ _ _ _ _ so_far (sym c.is_term.ensures ∙ c.if-is_term.true) c.in_default-monomial_of.ensures) refl
+returns-in_default-monomial_of c = search (rules, arith, factors_refused)
 
 pub returns-then-m-limit : goal.returns-then-m-limit
-returns-then-m-limit c =
-    let so_far = rw (c.in-Some.is, c.split_first.ensures.first) at c.loop-rest.invariant in
-    let refused = term_refused _ _ _ _ _ _ so_far (sym c.is_term.ensures ∙ c.if-is_term.true) _ c.in-Some-monomial_of.ensures.0
-    c.in-Some-monomial_of.ensures.1 c.if-m-limit.true in
-    rw refused refl
+returns-then-m-limit c = search (rules, arith, term_refused)
 
 pub loop-rest-preserved-in_ok-push : goal.loop-rest-preserved-in_ok-push
 loop-rest-preserved-in_ok-push c =

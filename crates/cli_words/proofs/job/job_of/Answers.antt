@@ -16,17 +16,11 @@ overflow_cast-result-2 c =
           c.number-2.ensures,
     )
 
-pub returns : goal.returns
-returns c =
+pub returns-clause-within : goal.returns-clause-within
+returns-clause-within c =
     let f = found_of c.args.matches.now in
     record {
-      mode = c.mode_of.ensures.name;
-      workers = c.number.ensures;
-      nodes = c.number-2.ensures;
-      terms = c.number-3.ensures;
-      seed = c.number-4.ensures;
-      mode_in = c.mode_of.ensures.known;
-      workers_in = number_in f (codes "workers") 1 16 c.number.result c.requires.workers c.number.ensures;
-      nodes_in = number_in f (codes "nodes") MIN_BITS MAX_BITS c.number-2.result c.requires.nodes c.number-2.ensures;
-      terms_in = number_in f (codes "terms") 1 1000000 c.number-3.result c.requires.terms c.number-3.ensures;
+      workers = number_in f (codes "workers") 1 16 c.number.result c.requires.workers c.number.ensures;
+      nodes = number_in f (codes "nodes") MIN_BITS MAX_BITS c.number-2.result c.requires.nodes c.number-2.ensures;
+      terms = number_in f (codes "terms") 1 1000000 c.number-3.result c.requires.terms c.number-3.ensures;
     }

@@ -1,12 +1,11 @@
-use Rattle.std.proofs.Common.{Some, ap, ◌∙◌, sym, subst}
-use Rattle.std.specs.List.{All}
+use Rattle.std.proofs.Common.{Some, ap, ◌∙◌}
 use Rattle.lattice.specs.declared.kind.Kind.TheVariants.{Fdr}
 use Rattle.node_store.proofs.StoreLaws.{Reads-refl, reads_one, then_call}
 use Rattle.set_algebra.proofs.GivenPoints.{points_failed}
-use Rattle.cube_build.specs.PointSets.{IsRowOver}
 use Rattle.cube_build.proofs.CallsUnderway.{cover_planned, cover_next, cover_is, combined_planned, combined_next}
 use Rattle.cube_build.proofs.CallsUnderway.{combined_is}
 use Rattle.cube_build.proofs.CareLemmas.{ones_fdr, zeros_fdr, calls_begin, calls_end}
+use Rattle.cube_build.proofs.UsedCubeLemmas.{cubes_later}
 use Rattle.cube_build.proofs.care.sets_of_fdr.Goals as goal
 
 pub cover-requires-clause-planned : goal.cover-requires-clause-planned
@@ -17,9 +16,9 @@ pub returns-in_err-on : goal.returns-in_err-on
 returns-in_err-on g c =
     points_failed c.from_residual.ensures.0 (Reads-refl (g.S.Store.state c.args.store.now)) c.in_err-on.ensures
 
-pub cover-requires-2-clause-rows : goal.cover-requires-2-clause-rows
-cover-requires-2-clause-rows g c =
-    subst (λ v. All (IsRowOver v) c.args.rows.now) (sym c.in_ok-on.ensures.grows.vars) c.requires.rows
+pub cover-requires-2-clause-cubes : goal.cover-requires-2-clause-cubes
+cover-requires-2-clause-cubes g c =
+    cubes_later _ _ c.args.rows.now c.args.cubes.now c.in_ok-on.ensures.grows c.requires.cubes
 
 pub cover-requires-2-clause-planned : goal.cover-requires-2-clause-planned
 cover-requires-2-clause-planned g c =
@@ -29,9 +28,10 @@ pub returns-in_err-off : goal.returns-in_err-off
 returns-in_err-off g c =
     points_failed c.from_residual-in_err-off.ensures.0 (reads_one c.in_ok-on.ensures) c.in_err-off.ensures
 
-pub cover-requires-3-clause-rows : goal.cover-requires-3-clause-rows
-cover-requires-3-clause-rows g c =
-    subst (λ v. All (IsRowOver v) c.args.rows.now) (sym (c.in_ok-off.ensures.grows.vars ∙ c.in_ok-on.ensures.grows.vars)) c.requires.rows
+pub cover-requires-3-clause-cubes : goal.cover-requires-3-clause-cubes
+cover-requires-3-clause-cubes g c =
+    cubes_later _ _ c.args.rows.now c.args.cubes.now c.in_ok-off.ensures.grows
+    (cubes_later _ _ c.args.rows.now c.args.cubes.now c.in_ok-on.ensures.grows c.requires.cubes)
 
 pub cover-requires-3-clause-planned : goal.cover-requires-3-clause-planned
 cover-requires-3-clause-planned g c =

@@ -1,11 +1,10 @@
-use Rattle.std.proofs.Common.{Some, ap, ◌∙◌, sym, subst}
-use Rattle.std.specs.List.{All}
+use Rattle.std.proofs.Common.{Some, ap, ◌∙◌}
 use Rattle.lattice.specs.declared.kind.Kind.TheVariants.{Fr}
 use Rattle.node_store.proofs.StoreLaws.{Reads-refl, reads_one}
 use Rattle.set_algebra.proofs.GivenPoints.{points_failed}
-use Rattle.cube_build.specs.PointSets.{IsRowOver}
 use Rattle.cube_build.proofs.CallsUnderway.{cover_planned, cover_next, cover_is}
 use Rattle.cube_build.proofs.CareLemmas.{ones_fr, zeros_fr, calls_begin, calls_end}
+use Rattle.cube_build.proofs.UsedCubeLemmas.{cubes_later}
 use Rattle.cube_build.proofs.care.sets_of_fr.Goals as goal
 
 pub cover-requires-clause-planned : goal.cover-requires-clause-planned
@@ -16,9 +15,9 @@ pub returns-in_err-ones : goal.returns-in_err-ones
 returns-in_err-ones g c =
     points_failed c.from_residual.ensures.0 (Reads-refl (g.S.Store.state c.args.store.now)) c.in_err-ones.ensures
 
-pub cover-requires-2-clause-rows : goal.cover-requires-2-clause-rows
-cover-requires-2-clause-rows g c =
-    subst (λ v. All (IsRowOver v) c.args.rows.now) (sym c.in_ok-ones.ensures.grows.vars) c.requires.rows
+pub cover-requires-2-clause-cubes : goal.cover-requires-2-clause-cubes
+cover-requires-2-clause-cubes g c =
+    cubes_later _ _ c.args.rows.now c.args.cubes.now c.in_ok-ones.ensures.grows c.requires.cubes
 
 pub cover-requires-2-clause-planned : goal.cover-requires-2-clause-planned
 cover-requires-2-clause-planned g c =

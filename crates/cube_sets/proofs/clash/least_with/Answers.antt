@@ -1,21 +1,26 @@
-use Rattle.std.proofs.Common.{◌-◌, get_or, length, ap, subst, sym, arith}
+use Rattle.std.proofs.Common.{◌≡◌, true, get_or, length, ap, subst, sym, arith}
 use Rattle.std.specs.List.{All}
 use Rattle.std.proofs.lemmas.List.Elements.{All-contains}
 use Rattle.lattice.specs.declared.row.Row.{Row}
 use Rattle.pla_reader.specs.Description.{FitsSizes}
+use Rattle.lattice.specs.Family.{divides}
+use Rattle.cube_sets.specs.Buckets.{IsMarked}
 use Rattle.cube_sets.specs.Clashes.{IsClashOf}
-use Rattle.cube_sets.proofs.Pairs.{no_mask}
 use Rattle.cube_sets.proofs.Search.{with_on_row, search_start, search_next, search_end}
 use Rattle.cube_sets.proofs.clash.least_with.Goals as goal
-use Rattle.cube_sets.proofs.clash.least_with.Goals.{then-a-eq0-via-then-a-eq0, then-a-eq0-via-else-a-eq0+then-outputs-eq0, in-Some}
-use Rattle.cube_sets.proofs.clash.least_with.Goals.{in_default}
+use Rattle.cube_sets.proofs.clash.least_with.Goals.{in-Some, in_default}
+use Rattle.cube_sets.proofs.clash.least_with.Goals.{then-outputs-eq0-via-then-outputs-eq0}
+use Rattle.cube_sets.proofs.clash.least_with.Goals.{then-outputs-eq0-via-else-outputs-eq0+then-not-may_clash}
 
-pub returns-then-a-eq0 : goal.returns-then-a-eq0
-returns-then-a-eq0 c d clash =
-    elim c.then-a-eq0.branch [
-      | then-a-eq0-via-then-a-eq0 w ↦ no_mask (d.output - 1) c.args.a.now.on w.if-a-eq0.true clash.1.2.on
-      | then-a-eq0-via-else-a-eq0+then-outputs-eq0 w ↦ (let none = w.if-outputs-eq0.true in let first = clash.1.2.first in
+pub returns-then-outputs-eq0 : goal.returns-then-outputs-eq0
+returns-then-outputs-eq0 c d clash =
+    elim c.then-outputs-eq0.branch [
+      | then-outputs-eq0-via-then-outputs-eq0 w ↦ (let none = w.if-outputs-eq0.true in let first = clash.1.2.first in
           let last = clash.0 in omega arith)
+      | then-outputs-eq0-via-else-outputs-eq0+then-not-may_clash w ↦ w.may_clash.ensures w.if-not-may_clash.true clash.1.0
+          (All-contains (λ r. divides c.args.common r.care ≡ true) c.args.p.now.rows clash.1.0 c.requires.fixed clash.1.1)
+          (All-contains (IsMarked c.args.common c.args.offs.now) c.args.p.now.rows clash.1.0 c.requires.marked clash.1.1)
+          c.args.p.now.inputs d clash.1.2
     ]
 
 pub loop-b-init : goal.loop-b-init
@@ -29,7 +34,7 @@ loop-b-preserved c =
     let no_row : Row = record { line = 0; care = 0; value = 0; on = 0; off = 0; dc = 0 } in
     let same = c.as_slice-b-items.ensures in
     let fits : FitsSizes p.inputs p.outputs p.kind c.args.a.now = All-contains (FitsSizes p.inputs p.outputs p.kind) p.rows c.args.a.now
-    p.fits.rows_fit c.requires in
+    p.fits.rows_fit c.requires.row in
     let fits_here : FitsSizes p.inputs p.outputs p.kind (get_or items j no_row) = subst
     (λ rs. All (FitsSizes p.inputs p.outputs p.kind) rs) (sym same) p.fits.rows_fit j no_row c.loop-b-test.true in
     let next = search_next (IsClashOf p.inputs c.args.a.now) c.args.outputs p.rows (with_on_row p.inputs c.args.a.now) c.loop-b.limit items

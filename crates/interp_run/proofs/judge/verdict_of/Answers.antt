@@ -1,10 +1,12 @@
 use Rattle.std.proofs.Common.{◌∙◌, ap, drop, length, length-drop, arith, refl}
+use Rattle.interp_run.specs.Due.{is_gen}
 use Rattle.interp_run.specs.Parts.{no_memory}
 use Rattle.interp_run.proofs.Endings.{clash_ends, refused_ends, verdict_due, wide_ends}
 use Rattle.interp_run.proofs.judge.verdict_of.Goals as goal
 
 pub returns-then-pla-gt-MOST_INPUTS-clause-err : goal.returns-then-pla-gt-MOST_INPUTS-clause-err
-returns-then-pla-gt-MOST_INPUTS-clause-err c = λ job checks. wide_ends job c.args.bytes.now c.in_ok-pla.pla (c.in_ok-pla.ensures.ok job)
+returns-then-pla-gt-MOST_INPUTS-clause-err c = λ job checks. wide_ends job c.args.bytes.now c.in_ok-pla.pla (c.in_ok-pla.ensures.ok job
+    (ap is_gen checks))
     checks _ refl (omega arith)
 
 pub read_answer-requires : goal.read_answer-requires
@@ -14,19 +16,22 @@ pub returns-in-Err-clause-err : goal.returns-in-Err-clause-err
 returns-in-Err-clause-err c = λ job checks.
     let text = c.behind.ensures ∙ ap (λ n. drop n c.args.bytes.now) c.in_ok-pla.ensures.taken in
     rw (c.refused.ensures)
-    (refused_ends job c.args.bytes.now c.in_ok-pla.pla (c.in_ok-pla.ensures.ok job) checks c.behind.result.now text c.in-Err.refusal
+    (refused_ends job c.args.bytes.now c.in_ok-pla.pla (c.in_ok-pla.ensures.ok job (ap is_gen checks)) checks c.behind.result.now text
+    c.in-Err.refusal
     (omega (arith, c.if-pla-gt-MOST_INPUTS.false)) c.in-Err.ensures.reading)
 
 pub returns-in-Some-clause-err : goal.returns-in-Some-clause-err
 returns-in-Some-clause-err c = λ job checks.
     let text = c.behind.ensures ∙ ap (λ n. drop n c.args.bytes.now) c.in_ok-pla.ensures.taken in
-    clash_ends job c.args.bytes.now c.in_ok-pla.pla (c.in_ok-pla.ensures.ok job) checks c.behind.result.now text c.in-Ok.answer
+    clash_ends job c.args.bytes.now c.in_ok-pla.pla (c.in_ok-pla.ensures.ok job (ap is_gen checks)) checks c.behind.result.now text
+    c.in-Ok.answer
     (omega (arith, c.if-pla-gt-MOST_INPUTS.false)) c.in-Ok.ensures.reading c.in-Some.ensures.some
 
 pub returns-in-Ok-check-clause-ok : goal.returns-in-Ok-check-clause-ok
 returns-in-Ok-check-clause-ok c = λ job checks.
     let text = c.behind.ensures ∙ ap (λ n. drop n c.args.bytes.now) c.in_ok-pla.ensures.taken in
-    verdict_due job c.args.bytes.now c.in_ok-pla.pla (c.in_ok-pla.ensures.ok job) checks c.behind.result.now text c.in-Ok.answer
+    verdict_due job c.args.bytes.now c.in_ok-pla.pla (c.in_ok-pla.ensures.ok job (ap is_gen checks)) checks c.behind.result.now text
+    c.in-Ok.answer
     (omega (arith, c.if-pla-gt-MOST_INPUTS.false)) c.in-Ok.ensures.reading
     c.in-Ok-check.verdict (c.in_default.ensures.consistent refl) c.in-Ok-check.ensures.first
 

@@ -1,11 +1,13 @@
-use Rattle.std.proofs.Common.{◌≡◌, sym, subst, map, rules}
+use Rattle.std.proofs.Common.{◌≡◌, ap, arith, sym, subst, map, rules}
 use Rattle.std.specs.List.{All}
 use Rattle.anf_printer.specs.Text.{IsAnswerOver as IsAnswer, answer_of}
 use Rattle.pla_reader.specs.Reading.{description}
 use Rattle.interp_run.specs.Answers.{notes_from, texts}
-use Rattle.interp_run.specs.Due.{IsDueSolving, solving}
+use Rattle.interp_run.specs.Due.{IsDueSolving, least_jobs, solved, solving}
 use Rattle.interp_run.specs.Parts.{EndsWithout, no_memory}
 use Rattle.interp_run.specs.declared.outcome.Outcome.TheVariants as outcomes
+use Rattle.interp_run.proofs.OneDue.{solves_without_gen}
+use Rattle.interp_run.proofs.TellingJobs.{told_jobs}
 use Rattle.interp_run.proofs.Written.{are_answers, counts_fit}
 use Rattle.interp_run.proofs.Endings.{if_err, contradiction_ends, unsolved_ends}
 use Rattle.interp_run.proofs.top.answer_to.Goals as goal
@@ -20,9 +22,12 @@ returns-in-Ok-answer_text-clause-ok g c =
     let d = description c.in_ok-pla.pla in
     let pages : texts d c.args.job.now.mode (map answer_of c.in_ok-shown.shown.items) ≡ c.in-Ok-answer_text.pages = sym (search rules) in
     let notes : notes_from 1 (map answer_of c.in_ok-shown.shown.items) ≡ c.in-Ok.notes.items = sym (search rules) in
-    solving d _ (c.in_ok-pla.ensures.ok c.args.job.now) c.requires.mode
-    (subst (IsDueSolving c.args.job.now d) (λ i. record { outcome = outcomes.Done; pages = pages i; notes = notes i })
-    c.in_ok-shown.ensures.ok.1)
+    let modes = solves_without_gen _ c.requires.mode in
+    let is : solved c.args.job.now d (map answer_of c.in_ok-shown.shown.items)
+    ≡ record { outcome = outcomes.Done; pages = c.in-Ok-answer_text.pages; notes = c.in-Ok.notes.items } =
+    rw (modes.1) (λ i. record { outcome = outcomes.Done; pages = pages i; notes = notes i }) in
+    solving d _ (c.in_ok-pla.ensures.ok c.args.job.now modes.1) modes.0
+    (subst (IsDueSolving c.args.job.now d) is c.in_ok-shown.ensures.ok.1)
 
 pub returns-in-Ok-answer_text-clause-few : goal.returns-in-Ok-answer_text-clause-few
 returns-in-Ok-answer_text-clause-few g c =
@@ -31,16 +36,30 @@ returns-in-Ok-answer_text-clause-few g c =
 
 pub returns-in-Some-clause-err : goal.returns-in-Some-clause-err
 returns-in-Some-clause-err g c =
-    contradiction_ends c.args.job.now c.args.bytes.now _ (c.in_ok-pla.ensures.ok c.args.job.now) c.requires.mode c.in-Some.ensures.some
+    contradiction_ends c.args.job.now c.args.bytes.now _ (c.in_ok-pla.ensures.ok c.args.job.now (solves_without_gen _ c.requires.mode).1)
+    (solves_without_gen _ c.requires.mode).0 c.in-Some.ensures.some
 
 pub returns-in_err-shown-clause-err : goal.returns-in_err-shown-clause-err
 returns-in_err-shown-clause-err g c =
     if_err c.from_residual-in_err-shown.result c.in_err-shown.field-0.0 (EndsWithout c.args.job.now c.args.bytes.now)
     c.from_residual-in_err-shown.ensures.1
-    (unsolved_ends c.args.job.now c.args.bytes.now _ (c.in_ok-pla.ensures.ok c.args.job.now) c.requires.mode c.in_err-shown.ensures.err)
+    (unsolved_ends c.args.job.now c.args.bytes.now _ (c.in_ok-pla.ensures.ok c.args.job.now (solves_without_gen _ c.requires.mode).1)
+    (solves_without_gen _ c.requires.mode).0 c.in_err-shown.ensures.err)
 
 pub returns-in_default-notes_of-clause-err : goal.returns-in_default-notes_of-clause-err
 returns-in_default-notes_of-clause-err g c = no_memory
 
 pub returns-clause-err : goal.returns-clause-err
 returns-clause-err g c = no_memory
+
+pub returns-in-Ok-answer_text-clause-jobs : goal.returns-in-Ok-answer_text-clause-jobs
+returns-in-Ok-answer_text-clause-jobs g c =
+    let mode = c.args.job.now.mode in
+    let answers = map answer_of c.in_ok-shown.shown.items in
+    let notes : notes_from 1 answers ≡ c.in-Ok.notes.items = sym (search rules) in
+    omega (
+      arith,
+      c.in_ok-shown.ensures.jobs,
+      told_jobs mode answers (solves_without_gen _ c.requires.mode).1,
+      ap (least_jobs mode) notes,
+    )

@@ -1,6 +1,9 @@
-use Rattle.std.proofs.Common.{◌∙◌, rules, refl}
-use Rattle.interp_run.specs.Run.{memory, read_fault, refused}
-use Rattle.interp_run.proofs.Endings.{keeps_same, ran_read, ran_short}
+use Rattle.std.proofs.Common.{◌≡◌, ◌≤◌, ap, refl, rules, subst, sym, true, ⊎_elim, ◌∙◌}
+use Rattle.cli_words.specs.declared.job.Job.{Job}
+use Rattle.interp_run.specs.Due.{IsDue, is_gen, least_jobs}
+use Rattle.interp_run.specs.Run.{memory, refused}
+use Rattle.interp_run.proofs.Endings.{keeps_same, ran_short}
+use Rattle.interp_run.proofs.OneDue.{reading_mode, same_job}
 use Rattle.interp_run.proofs.top.outcome_of.Goals as goal
 
 pub returns-in-Err-Usage-clause-ran : goal.returns-in-Err-Usage-clause-ran
@@ -13,38 +16,23 @@ returns-in-Err-Memory-clause-ran g c =
     let held = g.K.Sink.held c.args.out.now in
     ran_short c.args.words.now (g.S.Source.left c.args.source.now) held held _ _ _ (λ bytes. memory (keeps_same held) refl)
 
-pub returns-in-Err-Fault-clause-ran : goal.returns-in-Err-Fault-clause-ran
-returns-in-Err-Fault-clause-ran g c =
-    let held = g.K.Sink.held c.args.out.now in
-    ran_short c.args.words.now (g.S.Source.left c.args.source.now) held held _ _ _
-    (λ bytes. read_fault c.in-Ok.job (c.in-Ok.ensures.taken, c.in-Ok.ensures.job) (keeps_same held) refl)
+pub returns-in-Gen-clause-ran : goal.returns-in-Gen-clause-ran
+returns-in-Gen-clause-ran g c =
+    ran_short c.args.words.now (g.S.Source.left c.args.source.now) (g.K.Sink.held c.args.out.now) (g.K.Sink.held c.summed.new.out) _ _ _
+    (λ bytes. c.summed.ensures.ends c.args.words.now bytes _ (c.in-Ok.ensures.taken, c.in-Ok.ensures.job))
 
-pub returns-in-Err-Memory-read_up_to-clause-ran : goal.returns-in-Err-Memory-read_up_to-clause-ran
-returns-in-Err-Memory-read_up_to-clause-ran g c =
-    let held = g.K.Sink.held c.args.out.now in
-    ran_short c.args.words.now (g.S.Source.left c.args.source.now) held held _ _ _ (λ bytes. memory (keeps_same held) refl)
+pub returns-in-Gen-clause-jobs : goal.returns-in-Gen-clause-jobs
+returns-in-Gen-clause-jobs g c = λ job bytes due asked given is other ended.
+    let same = same_job c.args.words.now job c.in-Ok.job asked (c.in-Ok.ensures.taken, c.in-Ok.ensures.job) in
+    let gen : is_gen job.mode ≡ true = ap (λ (j : Job). is_gen j.mode) same ∙ ap is_gen c.in-Gen.is in
+    rw (gen) (c.summed.ensures.jobs ended)
 
-pub returns-in-Check : goal.returns-in-Check
-returns-in-Check g c = record {
-  ran = ran_read c.args.words.now (g.S.Source.left c.args.source.now) (g.K.Sink.held c.args.out.now) (g.K.Sink.held c.judged.new.out) _ _
-      c.judged.result c.deref.result.now
-      (λ xs e. c.deref.ensures.value ∙ c.in-Ok-read_up_to.ensures.told xs e) (search rules)
-      (λ bytes is. c.judged.ensures.ends c.in-Ok.job c.args.words.now bytes _ (c.in-Ok.ensures.taken, c.in-Ok.ensures.job) c.in-Check.is
-      is);
-  read = λ e. absurd (c.judged.ensures.read.1 e);
-  write = c.judged.ensures.write;
-  few = c.in-Ok-read_up_to.ensures.few;
-  untouched = λ e. absurd (c.judged.ensures.read.0 e);
-}
-
-pub returns : goal.returns
-returns g c = record {
-  ran = ran_read c.args.words.now (g.S.Source.left c.args.source.now) (g.K.Sink.held c.args.out.now) (g.K.Sink.held c.solved.new.out) _ _
-      c.solved.result c.deref-in-Anf.result.now
-      (λ xs e. c.deref-in-Anf.ensures.value ∙ c.in-Ok-read_up_to.ensures.told xs e) (search rules)
-      (λ bytes is. c.solved.ensures.ends c.args.words.now bytes (c.in-Ok.ensures.taken, c.in-Ok.ensures.job) is);
-  read = λ e. absurd (c.solved.ensures.read.1 e);
-  write = c.solved.ensures.write;
-  few = c.in-Ok-read_up_to.ensures.few;
-  untouched = λ e. absurd (c.solved.ensures.read.0 e);
-}
+pub returns-in-Anf-clause-jobs : goal.returns-in-Anf-clause-jobs
+returns-in-Anf-clause-jobs g c = λ job bytes due asked given is other ended.
+    let mine = c.in-Ok.job in
+    let same = same_job c.args.words.now job mine asked (c.in-Ok.ensures.taken, c.in-Ok.ensures.job) in
+    let modes : job.mode ≡ mine.mode = ap (λ (j : Job). j.mode) same in
+    ⊎_elim
+    (λ told. subst (λ (j : Job). least_jobs j.mode due.notes ≤ g.P.Pool.done c.of_source.new.pool) (sym same)
+    (c.of_source.ensures.jobs bytes due told (subst (λ (j : Job). IsDue j bytes due) same is) (λ checks. other (modes ∙ checks)) ended))
+    (λ gen. absurd (reading_mode mine.mode c.in-Anf.is (sym modes ∙ gen))) given

@@ -1,14 +1,18 @@
-use Rattle.std.proofs.Common.{◌∙◌, subst, sym, inl, inr, ⊎_elim}
-use Rattle.interp_run.specs.Due.{IsDue}
-use Rattle.interp_run.proofs.Endings.{nobody_in_check, nobody_told, nothing_gained, others_taken, usage_refused, written_or_memory}
+use Rattle.std.proofs.Common.{◌∙◌, ap, subst, sym, inl, inr, ⊎_elim}
+use Rattle.interp_run.specs.Due.{IsDue, is_gen}
+use Rattle.interp_run.proofs.OneDue.{due_for_any}
+use Rattle.interp_run.proofs.TellingJobs.{ended_whole}
+use Rattle.interp_run.proofs.Endings.{nobody_in_silence, nobody_told, nothing_gained, others_taken, usage_refused, written_or_memory}
 use Rattle.interp_run.proofs.top.run.Goals as goal
 
 pub returns-clause-headline : goal.returns-clause-headline
-returns-clause-headline g c = λ job bytes due asked told text is calm quiet.
+returns-clause-headline g c = λ job bytes due asked given text is calm quiet.
     let e = c.outcome_of-outcome.ensures in
     let status = c.report.ensures.status in
     ⊎_elim (λ seven. inl (status ∙ seven)) (λ h. inr (status ∙ h.0, h.1))
-    (written_or_memory c.args.words.now e.ran.bytes _ _ _ _ job asked due (subst (λ b. IsDue job b due) (sym (e.ran.told bytes told)) is)
+    (written_or_memory c.args.words.now e.ran.bytes _ _ _ _ job asked due (⊎_elim
+    (λ told. subst (λ b. IsDue job b due) (sym (e.ran.told bytes told)) is) (λ gen. due_for_any job bytes e.ran.bytes (ap is_gen gen) is)
+    given)
     text e.ran.ended (λ fault. calm (e.read fault)) (λ fault. quiet (e.write fault)))
 
 pub returns-clause-ran : goal.returns-clause-ran
@@ -40,4 +44,10 @@ returns-clause-nobody g c = λ zero nine.
 pub returns-clause-checks : goal.returns-clause-checks
 returns-clause-checks g c = λ job asked checks.
     let ran = c.outcome_of-outcome.ensures.ran in
-    nobody_in_check c.args.words.now ran.bytes _ _ _ _ job asked ran.ended checks
+    nobody_in_silence c.args.words.now ran.bytes _ _ _ _ job asked ran.ended checks
+
+pub returns-clause-jobs : goal.returns-clause-jobs
+returns-clause-jobs g c = λ job bytes due asked given is other ended.
+    let status = c.report.ensures.status in
+    c.outcome_of-outcome.ensures.jobs job bytes due asked given is other
+    (ended_whole c.outcome_of-outcome.result (⊎_elim (λ zero. inl (sym status ∙ zero)) (λ nine. inr (sym status ∙ nine)) ended))

@@ -10,7 +10,7 @@ use Rattle.unique_table.proofs.pass.Shared.make.Goals as goal
 
 pub of_words-requires : goal.of_words-requires
 of_words-requires c =
-    let is : c.as_slice.result.now ≡ replicate (2 ^ c.args.bits + 2 ^ cache_bits c.args.bits) 0 = search rules in
+    let is : c.zeros_or.result.now ≡ replicate (2 ^ c.args.bits + 2 ^ cache_bits c.args.bits) 0 = search rules in
     let about : About = record { bits = c.args.bits; vars = c.args.vars; plan = c.args.plan } in
     subst (λ (ws : List ℕ). Rule about (opening ws [] (first_view about))) (sym is)
     (starts about (2 ^ c.args.bits) (2 ^ cache_bits c.args.bits) refl refl c.requires.vars.0 c.requires.vars.1 c.requires.bits.1)

@@ -1,0 +1,15 @@
+-- Rows by the values of the columns that all of them fix.
+use Rattle.std.specs.Prelude.{◌≡◌, ℕ, ◌%◌, true, bit_and, List, slice_index_or}
+use Rattle.lattice.specs.Family.{divides}
+use Rattle.lattice.specs.declared.row.Row.{Row}
+use Rattle.cube_sets.specs.declared.clash.Clash.{Clash}
+use Rattle.cube_sets.specs.declared.buckets.TheConstants.{BUCKETS}
+use Rattle.cube_sets.specs.Clashes.{IsClashOf}
+
+-- the mark of the row's bucket has all outputs that the row says to be 0
+abbrev pub IsMarked : (common : ℕ) → List ℕ → Row → Type 0
+IsMarked common offs r = divides r.off (slice_index_or offs (bit_and r.value common % BUCKETS) 0) ≡ true
+
+-- the on-row `a` does not contradict the off-row `b`
+abbrev pub MeetsNone : Row → Row → Type 0
+MeetsNone a b = (n : ℕ) (c : Clash) → IsClashOf n a b c → ⊥

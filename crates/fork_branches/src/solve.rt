@@ -1,0 +1,141 @@
+//! All jobs of a list.
+ghost use Rattle.std.specs.Prelude.{◌≡◌, ◌≤◌, ◌<◌, ◌^◌, IfOk, IfErr, All, length};
+ghost use Rattle.node_store.specs.Stores.{Grows};
+ghost use Rattle.computed_cache.specs.Cached.{cached_state};
+ghost use Rattle.job_counter.specs.Drawing.{drawing, first_drawing, name};
+ghost use Rattle.fork_branches.specs.Work.{MayWork, IsReady, answers_of, workers_of};
+ghost use Rattle.fork_branches.specs.Solves.{AreSolved, Refuses, placed};
+
+use crate::crew::{Answer, Crew, make_crew};
+use crate::crews::work_in;
+use crate::jobs::Jobs;
+use computed_cache::CachedPass;
+use job_counter::{Counter, Drawer};
+use lattice::Memory;
+use node_store::Handle;
+use outside::Rendezvous;
+use std::alloc::Global;
+use std::thread::Threads;
+
+/// Why the jobs were not all run.
+#[derive(Clone, Copy, Debug, PartialEq, Eq)]
+pub enum SolveRefusal {
+    /// The table had no slot for a family that a job needed.
+    Full,
+    /// There was no memory for the workers and the answer. No job was run.
+    Memory,
+}
+
+impl From<node_store::Full> for SolveRefusal {
+    ghost use Rattle.std.specs.Prelude.{◌≡◌};
+    ghost use Rattle.fork_branches.specs.declared.solve.SolveRefusal.TheVariants.{Full};
+
+    ghost from_gives = { λ _ e. e ≡ Full };
+
+    fn from(_e: node_store::Full) -> SolveRefusal {
+        SolveRefusal::Full
+    }
+}
+
+impl From<Memory> for SolveRefusal {
+    ghost use Rattle.std.specs.Prelude.{◌≡◌};
+    ghost use Rattle.fork_branches.specs.declared.solve.SolveRefusal.TheVariants.{Memory};
+
+    ghost from_gives = { λ _ e. e ≡ Memory };
+
+    fn from(_e: Memory) -> SolveRefusal {
+        SolveRefusal::Memory
+    }
+}
+
+// What all memory of a call is taken for: the answer, and the workers with their counter.
+struct Prepared {
+    handles: Vec<Handle>,
+    crew: Crew,
+    counter: Counter,
+    drawer: Drawer,
+}
+
+// The workers for so many jobs, before the first is drawn.
+fn prepare(alloc: Global, count: u32, workers: u32) -> Result<Prepared, Memory>
+    requires some { 1 ≤ count }
+    requires workers { (1 ≤ workers) × (workers ≤ 16) }
+    ensures handles { IfOk result (λ p. length p.handles.items ≡ count) }
+    ensures ready { IfOk result (λ p. IsReady count (2 ^ 40) p.crew) }
+    ensures workers { IfOk result (λ p. workers_of p.crew ≡ workers) }
+    ensures drawer { IfOk result (λ p. drawing p.drawer ≡ first_drawing (name p.counter)) }
+{
+    let handles = Vec::from_elem(alloc, Handle(0), count as usize)?;
+    let job_workers = workers.min(count);
+    let each = workers / job_workers;
+    let more = workers % job_workers;
+    let crew = make_crew(alloc, count, job_workers, each, more)?;
+    let (counter, drawer) = Counter::make(alloc)?;
+    Ok(Prepared {
+        handles,
+        crew,
+        counter,
+        drawer,
+    })
+}
+
+// Puts each answer at its number.
+fn put_answers(answers: &[Answer], handles: &mut [Handle])
+    requires { All (λ a. a.number < length handles.old) answers.now }
+    ensures { handles.new ≡ placed answers.now handles.old }
+{
+    for answer in answers {
+        handles[answer.number as usize] = answer.handle;
+    }
+}
+
+// Puts each answer of a crew at its number.
+fn put_all(crew: &Crew, handles: &mut [Handle])
+    requires { All (λ a. a.number < length handles.old) (answers_of crew.now) }
+    ensures { handles.new ≡ placed (answers_of crew.now) handles.old }
+{
+    match crew {
+        Crew::Away => {}
+        Crew::One(worker) => put_answers(worker.answers.as_slice(), handles),
+        Crew::Two(first, second) => {
+            put_all(first, handles);
+            put_all(second, handles);
+        }
+    }
+}
+
+/// Runs all jobs, and gives the handle of each, by number.
+///
+/// As many job workers as there are workers, or as there are jobs where these are fewer, draw the numbers one by one. They are
+/// started by halves, each of which enters the gate first: place 0 in the first half, and place 1 in the second. The workers are
+/// shared out among them evenly, the first ones getting one more, and a job worker's operations run in as many branches as it has
+/// workers. All memory is taken before the first number is drawn. Full where a worker found the table full, once all have ended.
+pub fn solve_all<R: Threads + Sync, J: Jobs>(
+    rt: &R,
+    alloc: Global,
+    pass: &mut CachedPass,
+    jobs: &J,
+    gate: &Rendezvous,
+    workers: u32,
+) -> Result<Vec<Handle>, SolveRefusal>
+    requires workers { (1 ≤ workers) × (workers ≤ 16) }
+    requires may { MayWork (J.tasks jobs.now) (cached_state pass.old) }
+    ensures grows { Grows (cached_state pass.old) (cached_state pass.new) }
+    ensures solved { IfOk result (λ v. AreSolved (J.tasks jobs.now) (cached_state pass.old) (cached_state pass.new) v.items) }
+    ensures refused { IfErr result (Refuses (cached_state pass.old) (cached_state pass.new)) }
+{
+    let count = jobs.count();
+    if count == 0 {
+        return Ok(Vec::new(alloc));
+    }
+    let Prepared {
+        mut handles,
+        mut crew,
+        counter,
+        mut drawer,
+    } = prepare(alloc, count, workers)?;
+    work_in(rt, gate, &counter, jobs, pass, &mut drawer, &mut crew)?;
+    counter.all_drawn(&mut drawer);
+    put_all(&crew, handles.as_mut_slice());
+    Ok(handles)
+}

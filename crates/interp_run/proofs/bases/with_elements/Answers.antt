@@ -1,0 +1,13 @@
+use Rattle.std.proofs.Common.{ℕ, List, ◌++◌, map, reverse, ap, ◌∙◌}
+use Rattle.interp_run.specs.Phases.{element_task}
+use Rattle.interp_run.proofs.SecondTasks.{with_more}
+use Rattle.interp_run.proofs.bases.with_elements.Goals as goal
+
+pub loop-lead-init : goal.loop-lead-init
+loop-lead-init c = ap (λ (xs : List ℕ). c.args.tasks.items ++ map (element_task c.args.output) (reverse xs))
+    (ap (λ r. r.iter.rest.now) c.into_iter-lead-iterator.ensures.into_iter_gives
+    ∙ (ap (λ i. i.rest.now) c.rev-lead-items.ensures.source ∙ (c.iter.ensures.rest ∙ c.as_slice.ensures)))
+
+pub loop-lead-preserved : goal.loop-lead-preserved
+loop-lead-preserved c = with_more c.args.output c.loop-lead.tasks.items c.push.new.self.items _ _ c.next.new.self.iter.rest.now
+    c.in-Some.lead.now c.in-Some.ensures.steps c.in_ok-push.ensures.items c.loop-lead.invariant

@@ -1,0 +1,142 @@
+//! Phase 2 of a run: the elements of the bases of all outputs, from the leads that phase 1 found.
+ghost use Rattle.std.specs.Prelude.{◌≡◌, ◌+◌, ◌<◌, ◌≤◌, ◌^◌, ◌++◌, [], IfOk, IsErrOf, OnOk, length, map, reverse, sum_by};
+ghost use Rattle.lattice.specs.Family.{Covers};
+ghost use Rattle.lattice.specs.Rows.{IsConsistent};
+ghost use Rattle.lattice.specs.WorkingLists.{output_numbers, second_phase, working_set};
+ghost use Rattle.lattice.specs.declared.kind.Mode.{Mode};
+ghost use Rattle.node_store.specs.Stores.{Grows, IsFull, Reads};
+ghost use Rattle.computed_cache.specs.Cached.{cached_state};
+ghost use Rattle.pla_reader.specs.Reading.{description};
+ghost use Rattle.interp_run.specs.Phases.{AreGrouped, AreLeads, AreOf, IsFirst, IsSecond, element_task, first_tasks, second_tasks, terms_of};
+
+use crate::phases::{First, Solved, Stop};
+use crate::printed::lists_of;
+use crate::tasks::{Part, Task, Tasks, all_done};
+use computed_cache::CachedPass;
+use fork_branches::Pool;
+use lattice::{Memory, Mode, MonoLists, Monos};
+use node_store::{Handle, Store};
+use outside::Rendezvous;
+use pla_reader::Pla;
+use std::alloc::Global;
+use std::thread::Threads;
+
+// A list without monomials for each output.
+fn no_leads(alloc: Global, outputs: u32) -> Result<MonoLists, Memory>
+    ensures { IfOk result (λ lists. map reverse lists ≡ map (λ _. []) (output_numbers outputs)) }
+{
+    let mut lists = MonoLists::new(alloc);
+    for before in 0..outputs {
+        lists.push(Monos::new(alloc))?;
+    }
+    Ok(lists)
+}
+
+/// The leads of each output, from the greatest down; none in mode anf. There are at most `limit` terms in what was found.
+pub(crate) fn lead_lists<S: Store>(
+    alloc: Global,
+    store: &mut S,
+    pla: &Pla,
+    mode: Mode,
+    found: &[Handle],
+    limit: u64,
+) -> Result<MonoLists, Memory>
+    requires found { AreOf (S.state store.old) (description pla.now) found.now (first_tasks (description pla.now) mode) }
+    requires few { terms_of (S.state store.old) found.now ≤ limit }
+    ensures reads { Reads (S.state store.old) (S.state store.new) }
+    ensures leads { IfOk result (AreLeads (description pla.now) mode) }
+{
+    match mode {
+        Mode::Basis => {
+            let (_, leads) = found.split_at(pla.outputs as usize);
+            lists_of(alloc, store, leads, limit)
+        }
+        Mode::Anf | Mode::Check | Mode::Gen => no_leads(alloc, pla.outputs),
+    }
+}
+
+// The tasks with those for the elements of an output behind them, by ascending lead.
+fn with_elements(mut tasks: Vec<Task>, output: u32, leads: &Monos) -> Result<Vec<Task>, Memory>
+    ensures { IfOk result (λ all. all.items ≡ tasks.items ++ map (element_task output) (reverse leads.now)) }
+{
+    for lead in leads.as_slice().iter().rev() {
+        tasks.push(Task {
+            output,
+            part: Part::Element { lead: *lead },
+        })?;
+    }
+    Ok(tasks)
+}
+
+// The tasks of phase 2: the elements of each output.
+fn second_tasks(alloc: Global, pla: &Pla, leads: &[Monos]) -> Result<Vec<Task>, Memory>
+    requires leads { length leads.now ≡ pla.now.outputs }
+    ensures { IfOk result (λ tasks. (mode : Mode) → AreLeads (description pla.now) mode leads.now → tasks.items ≡ second_tasks (description pla.now) mode) }
+{
+    let mut list = Vec::new(alloc);
+    for before in 0..pla.outputs {
+        list = with_elements(list, before + 1, &leads[before as usize])?;
+    }
+    Ok(list)
+}
+
+// The elements of each output beside its polynomial; there are as many elements as leads.
+fn grouped(
+    alloc: Global,
+    polynomials: &[Handle],
+    leads: &[Monos],
+    elements: &[Handle],
+) -> Result<Vec<Solved>, Memory>
+    requires polynomials { length leads.now ≤ length polynomials.now }
+    requires elements { length elements.now ≡ sum_by length leads.now }
+    ensures { IfOk result (λ solved. AreGrouped polynomials.now leads.now elements.now solved.items) }
+{
+    let mut solved = Vec::new(alloc);
+    let mut rest = elements;
+    for index in 0..leads.len() {
+        let (first, more) = rest.split_at(leads[index].len());
+        solved.push(Solved {
+            polynomial: polynomials[index],
+            basis: first.to_vec(alloc)?,
+        })?;
+        rest = more;
+    }
+    Ok(solved)
+}
+
+/// Phase 2, for the leads of phase 1.
+pub(crate) fn second_phase<R: Threads + Sync, P: Pool>(
+    rt: &R,
+    alloc: Global,
+    store: &mut CachedPass,
+    pool: &mut P,
+    gate: &Rendezvous,
+    workers: u32,
+    pla: &Pla,
+    mode: Mode,
+    first: &First,
+    leads: &[Monos],
+) -> Result<Vec<Solved>, Stop>
+    requires workers { (1 ≤ workers) × (workers ≤ 16) }
+    requires room { P.done pool.old < 2 ^ 30 }
+    requires vars { (cached_state store.old).vars ≡ pla.now.inputs }
+    requires consistent { IsConsistent pla.now.inputs pla.now.outputs pla.now.rows }
+    requires first { IsFirst (cached_state store.old) (description pla.now) mode first.now }
+    requires leads { AreLeads (description pla.now) mode leads.now }
+    requires few { length (second_tasks (description pla.now) mode) < 2 ^ 30 }
+    requires planned { Covers (cached_state store.old).plan (working_set pla.now.inputs (second_phase pla.now.inputs pla.now.outputs pla.now.kind pla.now.rows mode)) }
+    ensures grows { Grows (cached_state store.old) (cached_state store.new) }
+    ensures solved { IfOk result (λ solved. IsSecond (cached_state store.new) (description pla.now) mode solved.items) }
+    ensures jobs { OnOk result (P.done pool.new ≡ P.done pool.old + length (second_tasks (description pla.now) mode)) }
+    ensures full { IsErrOf result Stop.Full → IsFull (cached_state store.old) (cached_state store.new) }
+    ensures counted { ¬ IsErrOf result Stop.Terms }
+{
+    let list = second_tasks(alloc, pla, leads)?;
+    let tasks = Tasks {
+        pla,
+        cares: &first.cares,
+        list: &list,
+    };
+    let elements = all_done(rt, alloc, store, pool, gate, workers, &tasks)?;
+    Ok(grouped(alloc, &first.found, leads, &elements)?)
+}

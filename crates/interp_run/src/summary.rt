@@ -1,0 +1,97 @@
+//! Mode gen: the summary of the description that a seed makes.
+ghost use Rattle.std.specs.Prelude.{◌≡◌, ◌≢◌, ◌<◌, ◌≤◌, ◌^◌, ◌∷◌, ◌++◌, [], IfErr, IfOk, OnOk, List, ℕ, codes, decimal, length, map};
+ghost use Rattle.std.specs.List.{enumerate_from, flat_map};
+ghost use Rattle.lattice.specs.declared.limits.TheConstants.{MIN_BITS, MAX_BITS};
+ghost use Rattle.lattice.specs.declared.kind.Mode.TheVariants.{Gen};
+ghost use Rattle.anf_printer.specs.Text.{answer_of};
+ghost use Rattle.interp_run.specs.Answers.{summary_line};
+ghost use Rattle.interp_run.specs.Due.{IsDue};
+ghost use Rattle.interp_run.specs.Parts.{EndsWithout};
+ghost use Rattle.interp_run.specs.declared.outcome.Outcome.TheVariants as outcomes;
+
+use crate::Outcome;
+use crate::solve::solve_and_count;
+use anf_printer::Shown;
+use cli_words::Job;
+use fork_branches::Pool;
+use gen_pla::generate;
+use itoa::Buffer;
+use lattice::{Memory, Text};
+use outside::Rendezvous;
+use std::alloc::{AllocError, Global};
+use std::thread::Threads;
+
+// Puts the number at the end of the text.
+fn push_number(text: &mut Vec<u8>, number: u64) -> Result<(), AllocError>
+    ensures { OnOk result (text.new.items ≡ text.old.items ++ decimal number) }
+{
+    let mut digits = Buffer::new();
+    text.extend_from_slice(digits.format(number).as_bytes())
+}
+
+// Puts the line of an output at the end of the text.
+fn push_line(text: &mut Vec<u8>, output: u64, terms: u64) -> Result<(), AllocError>
+    ensures { OnOk result (text.new.items ≡ text.old.items ++ (codes "f" ++ decimal output ++ codes " " ++ decimal terms ++ codes "\n")) }
+{
+    text.push(b'f')?;
+    push_number(text, output)?;
+    text.push(b' ')?;
+    push_number(text, terms)?;
+    text.push(b'\n')?;
+    Ok(())
+}
+
+// The first line of a summary.
+fn points_line(alloc: Global, points: u64) -> Result<Vec<u8>, AllocError>
+    ensures { IfOk result (λ text. text.items ≡ codes "points " ++ decimal points ++ codes "\n") }
+{
+    let mut text = Vec::new(alloc);
+    text.extend_from_slice(b"points ")?;
+    push_number(&mut text, points)?;
+    text.push(b'\n')?;
+    Ok(text)
+}
+
+// The summary of these answers.
+fn summary_text(alloc: Global, points: u64, shown: &[Shown]) -> Result<Text, Memory>
+    requires few { length shown.now ≤ 64 }
+    ensures { IfOk result (λ text. text ≡ codes "points " ++ decimal points ++ codes "\n" ++ flat_map summary_line (enumerate_from 1 (map answer_of shown.now))) }
+{
+    let mut text = points_line(alloc, points)?;
+    for (before, output) in shown.iter().enumerate() {
+        push_line(
+            &mut text,
+            before as u64 + 1,
+            output.poly.as_slice().len() as u64,
+        )?;
+    }
+    Ok(Text::from_vec(text))
+}
+
+/// The summary of the description that the job's seed makes, or how the run ends without it.
+pub(crate) fn summary_of<R: Threads + Sync, P: Pool>(
+    rt: &R,
+    alloc: Global,
+    pool: &mut P,
+    gate: &Rendezvous,
+    job: &Job,
+) -> Result<Text, Outcome>
+    requires mode { job.now.mode ≡ Gen }
+    requires workers { (1 ≤ job.now.workers) × (job.now.workers ≤ 16) }
+    requires nodes { (MIN_BITS ≤ job.now.nodes) × (job.now.nodes ≤ MAX_BITS) }
+    requires terms { job.now.terms ≤ 1000000 }
+    requires room { P.done pool.old < 2 ^ 29 }
+    ensures ok { IfOk result (λ text. (bytes : List ℕ) → IsDue job.now bytes (record { outcome = outcomes.Done; pages = text ∷ []; notes = [] })) }
+    ensures jobs { OnOk result (2 ≤ P.done pool.new) }
+    ensures unfinished { IfErr result (λ o. o ≢ outcomes.Done) }
+    ensures err { IfErr result (λ o. (bytes : List ℕ) → EndsWithout job.now bytes o) }
+{
+    let Ok(pla) = generate(alloc, job.seed) else {
+        return Err(Outcome::Memory);
+    };
+    let (points, shown) = solve_and_count(rt, alloc, pool, gate, &pla, job)?;
+    match summary_text(alloc, points, &shown) {
+        Ok(text) => Ok(text),
+        Err(Memory) => Err(Outcome::Memory),
+    }
+}
