@@ -22,7 +22,8 @@ import time
 import make_files
 
 HERE = pathlib.Path(__file__).resolve().parent
-LIMIT = 120
+# Seconds after which a run is ended.
+LIMIT = 30
 
 
 def driver(folder):
@@ -66,11 +67,13 @@ def commands(options, mode, brial):
 
 
 def measure(columns, file, runs):
-    """For each column the least time, and the first run's other results."""
+    """For each column the least time, and the first run's other results. What had no answer is not run again."""
     results = [run(words, file) for _, words in columns]
     times = [result[0] for result in results]
     for _ in range(runs - 1):
-        times = [min(least, run(words, file)[0]) for least, (_, words) in zip(times, columns)]
+        for column, (_, words) in enumerate(columns):
+            if results[column][2] == 0:
+                times[column] = min(times[column], run(words, file)[0])
     return times, results
 
 

@@ -189,10 +189,12 @@ class Reader:
 
 
 def read(path):
-    """The file at a path, or else a PlaError."""
+    """The file at a path, or on standard input where this is -, or else a PlaError."""
     try:
-        with open(path, encoding="latin-1", newline="") as file:
+        with open(0 if path == "-" else path, encoding="latin-1", newline="") as file:
             text = file.read().replace("\r\n", "\n")
     except OSError as error:
         raise PlaError(f"{path}: {error.strerror}") from error
+    if re.search("[\0-\x08]", text):
+        raise PlaError(f"{path}: it has bytes that no text has: is it compressed, or an AIGER file?")
     return Reader(path).read(text.removeprefix("\u00ef\u00bb\u00bf"))

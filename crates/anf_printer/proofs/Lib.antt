@@ -1,4 +1,3 @@
 mod Variables
 mod Texts
-mod PrintedNames
 pub mod PrintedLists

@@ -2,23 +2,14 @@
 use Rattle.std.proofs.lemmas.Grind.{common_steps}
 use Rattle.std.proofs.Common.{◌≡◌, ◌≢◌, ℕ, zero, suc, ◌+◌, ◌-◌, ◌^◌, ◌<◌, ◌≤◌, List, [], ◌∷◌, ◌++◌, length, get_or, take, drop, map, rules}
 use Rattle.std.proofs.Common.{reverse, codes, refl, sym, ap, ◌∙◌, subst, arith, add-one, ne_eqb}
-use Rattle.std.specs.Prelude.{decimal}
 use Rattle.std.specs.List.{All, flat_map}
 use Rattle.std.proofs.lemmas.List.{take_all, length-map, get_or-map, map-append, reverse-reverse, length-reverse, get_or-reverse}
 use Rattle.std.proofs.lemmas.List.Elements.{All-take, All-drop}
-use Rattle.lattice.specs.Family.{numbers_below, IsFamily}
+use Rattle.lattice.specs.Family.{IsFamily}
 use Rattle.lattice.specs.declared.kind.Mode.{Mode}
 use Rattle.anf_printer.specs.declared.answer.Shown.{Shown}
-use Rattle.anf_printer.specs.Text.{Answer, answer_of, output_text, texts_of, numbered, variables_of, monomial_text, sum_text}
+use Rattle.anf_printer.specs.Text.{Answer, shown_answer, output_text, texts_of, variables_of, monomial_text, sum_text}
 use Rattle.anf_printer.specs.Text.{polynomial_text}
-
-pub numbered_none : (letter : List ℕ) → numbered letter 0 ≡ []
-unfolding numbered numbers_below
-numbered_none letter = refl
-
-pub numbered_more : (letter : List ℕ) (i : ℕ) → numbered letter (i + 1) ≡ numbered letter i ++ (letter ++ decimal (i + 1)) ∷ []
-unfolding numbered numbers_below
-numbered_more letter i = search (rules, arith, add-one, map-append)
 
 pub monomial_text_one : (names : List (List ℕ)) → monomial_text names 0 ≡ codes "1"
 unfolding monomial_text
@@ -81,6 +72,6 @@ texts_of_more mode names (n ∷ outputs) (b ∷ answers) (suc i) name a less sho
 -- one more pair of a name and what is shown
 pub texts_of_next : (mode : Mode) (names outputs : List (List ℕ)) (shown : List Shown) (i j : ℕ) (name : List ℕ) (s : Shown)
     → i < length outputs → i < length shown → name ≡ get_or outputs i name → s ≡ get_or shown i s → j ≡ i + 1
-    → texts_of mode names (take j outputs) (take j (map answer_of shown)) ≡ texts_of mode names (take i outputs)
-    (take i (map answer_of shown)) ++ output_text mode names name (answer_of s) ∷ []
+    → texts_of mode names (take j outputs) (take j (map shown_answer shown)) ≡ texts_of mode names (take i outputs)
+    (take i (map shown_answer shown)) ++ output_text mode names name (shown_answer s) ∷ []
 texts_of_next mode names outputs shown i j name s less short is same next = search (rules, arith, texts_of_more, length-map, get_or-map)

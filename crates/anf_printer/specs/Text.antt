@@ -1,28 +1,12 @@
 -- The answer's text: for each output its polynomial, and in basis mode its basis elements.
-use Rattle.std.specs.Prelude.{ℕ, ◌+◌, ◌^◌, List, [], ◌∷◌, ◌++◌, ◌==◌, if◌then◌else◌, length, map, reverse, codes, decimal}
+use Rattle.std.specs.Prelude.{ℕ, ◌^◌, List, [], ◌∷◌, ◌++◌, ◌==◌, if◌then◌else◌, length, map, reverse, codes}
 use Rattle.std.specs.List.{All, flat_map, join_by}
-use Rattle.lattice.specs.Family.{Family, divides, numbers_below, IsFamily}
+use Rattle.lattice.specs.Family.{Family, divides, IsFamily}
 use Rattle.lattice.specs.declared.kind.Mode.{Mode}
 use Rattle.lattice.specs.WorkingLists.{is_basis}
-use Rattle.pla_reader.specs.PlainNames.{are_plain}
+use Rattle.pla_reader.specs.PrintedNames.{input_names, output_names}
 use Rattle.pla_reader.specs.declared.pla.Pla.{Pla}
 use Rattle.anf_printer.specs.declared.answer.Shown.{Shown}
-
--- ---- names
-
--- the letter with 1, 2 and so on
-unfoldable pub numbered : List ℕ → ℕ → List (List ℕ)
-numbered letter count = map (λ i. letter ++ decimal (i + 1)) (numbers_below count)
-
--- the names that are printed: those that were given, where they can be printed
-unfoldable pub printed_names : List ℕ → ℕ → List (List ℕ) → List (List ℕ)
-printed_names letter count given = if are_plain given then given else numbered letter count
-
-abbrev pub input_names : Pla → List (List ℕ)
-input_names p = printed_names (codes "x") p.inputs p.in_names
-
-abbrev pub output_names : Pla → List (List ℕ)
-output_names p = printed_names (codes "f") p.outputs p.out_names
 
 -- ---- polynomials
 
@@ -73,8 +57,8 @@ answer_texts p mode answers = texts_of mode (input_names p) (output_names p) ans
 
 -- ---- what is handed to the printer, whose lists go from the greatest monomial to the least
 
-abbrev pub answer_of : Shown → Answer
-answer_of s = record { polynomial = reverse s.poly; basis = map reverse s.basis }
+abbrev pub shown_answer : Shown → Answer
+shown_answer s = record { polynomial = reverse s.poly; basis = map reverse s.basis }
 
 -- the polynomial and the basis elements are families of monomials over so many inputs
 pub record IsAnswerOver (inputs : ℕ) (a : Answer) : Type 0 where

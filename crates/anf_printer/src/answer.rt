@@ -2,12 +2,11 @@
 ghost use Rattle.std.specs.Prelude.{◌≡◌, ◌⊎◌, ◌++◌, IfOk, OnOk, All, length, map, reverse, codes};
 ghost use Rattle.std.specs.List.{flat_map};
 ghost use Rattle.lattice.specs.Family.{IsFamily};
-ghost use Rattle.anf_printer.specs.Text.{line, basis_lines, output_text, texts_of, answer_texts, answer_of, IsAnswerOver};
+ghost use Rattle.anf_printer.specs.Text.{line, basis_lines, output_text, texts_of, answer_texts, shown_answer, IsAnswerOver};
 
-use crate::names::{names_in_place, printed};
 use crate::polynomial::push_polynomial;
 use lattice::{Memory, Mode, Mono, MonoLists, Monos, Name, Pages, Text};
-use pla_reader::Pla;
+use pla_reader::{Pla, names_in_place, printed};
 use std::alloc::{AllocError, Global};
 
 /// What is printed of an output: its polynomial, and the elements of its basis. Each is given from its greatest monomial to
@@ -73,8 +72,8 @@ fn output_text(
     name: &[u8],
     shown: &Shown,
 ) -> Result<Text, Memory>
-    requires { IsAnswerOver (length names.now) (answer_of shown.now) }
-    ensures { IfOk result (λ text. text ≡ output_text mode names.now name.now (answer_of shown.now)) }
+    requires { IsAnswerOver (length names.now) (shown_answer shown.now) }
+    ensures { IfOk result (λ text. text ≡ output_text mode names.now name.now (shown_answer shown.now)) }
 {
     let mut text = Vec::new(alloc);
     push_line(&mut text, names, name, shown.poly.as_slice())?;
@@ -91,8 +90,8 @@ fn texts_of(
     shown: &[Shown],
 ) -> Result<Pages, Memory>
     requires count { length shown.now ≡ length outputs.now }
-    requires families { All (λ s. IsAnswerOver (length names.now) (answer_of s)) shown.now }
-    ensures { IfOk result (λ pages. pages ≡ texts_of mode names.now outputs.now (map answer_of shown.now)) }
+    requires families { All (λ s. IsAnswerOver (length names.now) (shown_answer s)) shown.now }
+    ensures { IfOk result (λ pages. pages ≡ texts_of mode names.now outputs.now (map shown_answer shown.now)) }
 {
     let mut pages = Pages::new(alloc);
     for (name, output) in outputs.iter().zip(shown) {
@@ -107,8 +106,8 @@ fn texts_of(
 pub fn answer_text(alloc: Global, p: &Pla, mode: Mode, shown: &[Shown]) -> Result<Pages, Memory>
     requires mode { (mode ≡ Mode.Anf) ⊎ (mode ≡ Mode.Basis) }
     requires count { length shown.now ≡ p.now.outputs }
-    requires families { All (λ s. IsAnswerOver p.now.inputs (answer_of s)) shown.now }
-    ensures { IfOk result (λ pages. pages ≡ answer_texts p.now mode (map answer_of shown.now)) }
+    requires families { All (λ s. IsAnswerOver p.now.inputs (shown_answer s)) shown.now }
+    ensures { IfOk result (λ pages. pages ≡ answer_texts p.now mode (map shown_answer shown.now)) }
 {
     let for_inputs = names_in_place(alloc, "x", p.inputs, &p.in_names)?;
     let inputs = printed(&for_inputs, &p.in_names);

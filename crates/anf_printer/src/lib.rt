@@ -2,11 +2,9 @@
 #![tactic(auto)]
 
 mod answer;
-mod names;
 mod polynomial;
 
 pub use crate::answer::{Shown, answer_text};
-pub use crate::names::{names_in_place, printed};
 pub use crate::polynomial::poly_text;
 
 #[cfg(test)]

@@ -2,11 +2,11 @@
 ghost use Rattle.std.specs.Prelude.{◌≡◌, ◌≢◌, ◌++◌, ◌∷◌, ◌^◌, ◌<◌, IfOk, OnOk, All, length, reverse, codes};
 ghost use Rattle.std.specs.List.{flat_map};
 ghost use Rattle.lattice.specs.Family.{IsFamily};
-ghost use Rattle.anf_printer.specs.Text.{input_names, variables_of, monomial_text, polynomial_text};
+ghost use Rattle.pla_reader.specs.PrintedNames.{input_names};
+ghost use Rattle.anf_printer.specs.Text.{variables_of, monomial_text, polynomial_text};
 
-use crate::names::{names_in_place, printed};
 use lattice::{Memory, Mono, Name, Text};
-use pla_reader::Pla;
+use pla_reader::{Pla, names_in_place, printed};
 use std::alloc::{AllocError, Global};
 
 /// The name of the first variable of the monomial `m`, and `m` without this variable.

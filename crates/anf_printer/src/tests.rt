@@ -1,7 +1,7 @@
 ghost use Rattle.std.specs.Prelude.{◌≡◌, ◌≤◌, ◌<◌, ◌^◌, IsTrue, IfOk, All, length, map, reverse, vec_len};
 ghost use Rattle.std.specs.List.Sorted.{IsStrictlyIncreasing};
 ghost use Rattle.lattice.specs.Family.{IsFamily};
-ghost use Rattle.anf_printer.specs.Text.{answer_of, IsAnswerOver};
+ghost use Rattle.anf_printer.specs.Text.{shown_answer, IsAnswerOver};
 
 use crate::{Shown, answer_text, poly_text};
 use lattice::{Kind, Mode, Mono, MonoLists, Monos, Name, Names};
@@ -91,7 +91,7 @@ fn polynomial(alloc: Global, inputs: u32, ascending: &[u64]) -> Result<Monos, Fa
 
 fn shown(alloc: Global, inputs: u32, output: &Output) -> Result<Shown, Fail>
     requires { inputs ≤ 62 }
-    ensures { IfOk result (λ s. IsAnswerOver inputs (answer_of s)) }
+    ensures { IfOk result (λ s. IsAnswerOver inputs (shown_answer s)) }
 {
     let mut basis = MonoLists::new(alloc);
     for element in output.basis {
@@ -106,7 +106,7 @@ fn shown(alloc: Global, inputs: u32, output: &Output) -> Result<Shown, Fail>
 fn all_shown(alloc: Global, inputs: u32, outputs: &[Output]) -> Result<Vec<Shown>, Fail>
     requires { inputs ≤ 62 }
     ensures count { IfOk result (λ all. vec_len all ≡ length outputs.now) }
-    ensures answers { IfOk result (λ all. All (λ s. IsAnswerOver inputs (answer_of s)) all.items) }
+    ensures answers { IfOk result (λ all. All (λ s. IsAnswerOver inputs (shown_answer s)) all.items) }
 {
     let mut all = Vec::new(alloc);
     for output in outputs {

@@ -13,7 +13,7 @@ use Rattle.std.specs.Io.BufRead.{strip_last}
 use Rattle.pla_reader.specs.Grammar.{first_failed}
 use Rattle.pla_reader.specs.PlainNames.{is_plain}
 use Rattle.pla_reader.specs.declared.pla.Pla.{Pla}
-use Rattle.anf_printer.specs.Text.{input_names, output_names}
+use Rattle.pla_reader.specs.PrintedNames.{input_names, output_names}
 use Rattle.cert_check.specs.declared.answer.Given.{Given}
 use Rattle.cert_check.specs.declared.answer.GivenOutput.{GivenOutput}
 use Rattle.cert_check.specs.declared.refusal.AnswerWhy.{AnswerWhy}

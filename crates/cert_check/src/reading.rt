@@ -11,9 +11,8 @@ use crate::form::{is_element, sides};
 use crate::lines::bare;
 use crate::refusal::{AnswerRefusal, AnswerWhy};
 use crate::terms::read_right;
-use anf_printer::{names_in_place, printed};
 use lattice::{Memory, Name, Seq};
-use pla_reader::{LineRefusal, Pla, includes, split_line};
+use pla_reader::{LineRefusal, Pla, includes, names_in_place, printed, split_line};
 use std::alloc::Global;
 
 /// Whether the name is that of the output behind so many.

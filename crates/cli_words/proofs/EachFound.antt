@@ -166,18 +166,19 @@ mode_among P text (x ∷ xs) holds among =
           (suc any.0, any.1, omega arith, any.3, any.4)
     ]
 
--- ---- the five arguments
+-- ---- the six arguments
 
 rules_at : NameList → List Rule
 rules_at list = mode_rule list ∷ options
 
-below_five : (P : ℕ → Type 0) → P 0 → P 1 → P 2 → P 3 → P 4 → (k : ℕ) → k < 5 → P k
-below_five P a b c d e zero lt = a
-below_five P a b c d e (suc zero) lt = b
-below_five P a b c d e (suc (suc zero)) lt = c
-below_five P a b c d e (suc (suc (suc zero))) lt = d
-below_five P a b c d e (suc (suc (suc (suc zero)))) lt = e
-below_five P a b c d e (suc (suc (suc (suc (suc k))))) lt = absurd (omega arith)
+below_six : (P : ℕ → Type 0) → P 0 → P 1 → P 2 → P 3 → P 4 → P 5 → (k : ℕ) → k < 6 → P k
+below_six P a b c d e f zero lt = a
+below_six P a b c d e f (suc zero) lt = b
+below_six P a b c d e f (suc (suc zero)) lt = c
+below_six P a b c d e f (suc (suc (suc zero))) lt = d
+below_six P a b c d e f (suc (suc (suc (suc zero)))) lt = e
+below_six P a b c d e f (suc (suc (suc (suc (suc zero))))) lt = f
+below_six P a b c d e f (suc (suc (suc (suc (suc (suc k)))))) lt = absurd (omega arith)
 
 -- an argument, told by its rule
 module _ (a : Arg) (r : Rule) (is : rule_of a ≡ r) (simple : IsSimpleArg a) (q : ValueParser) where
@@ -196,15 +197,15 @@ module _ (a : Arg) (r : Rule) (is : rule_of a ≡ r) (simple : IsSimpleArg a) (q
       (subst (λ (b : Bool). HasValue f a.id.now b q) (ap (λ (x : Rule). x.ignore_case) is ∙ case) has)
 
 abbrev ids : List Text
-ids = codes "mode" ∷ codes "workers" ∷ codes "nodes" ∷ codes "terms" ∷ codes "seed" ∷ []
+ids = codes "mode" ∷ codes "workers" ∷ codes "nodes" ∷ codes "terms" ∷ codes "seed" ∷ codes "order" ∷ []
 
 -- the k-th id is the only one that is this id
 abbrev IsOnlyAt : ℕ → Text → ℕ → Type 0
 IsOnlyAt k id j = bytes_eq (slice_index_or ids j []) id ≡ true → j ≡ k
 
--- what the rule of one of the five says
+-- what the rule of one of them says
 record IsRuleOfOne (k : ℕ) (r : Rule) (q : ValueParser) : Type 0 where
-  low : k < 5
+  low : k < 6
   set : r.action ≡ Some Set
   one : r.range ≡ None
   parser_is : r.parser ≡ Some q
@@ -212,11 +213,11 @@ record IsRuleOfOne (k : ℕ) (r : Rule) (q : ValueParser) : Type 0 where
   named : bytes_eq r.id [] ≡ false
   no_help : bytes_eq r.id (codes "help") ≡ false
   no_version : bytes_eq r.id (codes "version") ≡ false
-  only : (j : ℕ) → j < 5 → IsOnlyAt k r.id j
+  only : (j : ℕ) → j < 6 → IsOnlyAt k r.id j
 
-rule_of_one : {k : ℕ} {r : Rule} {q : ValueParser} → k < 5 → r.action ≡ Some Set → r.range ≡ None → r.parser ≡ Some q
+rule_of_one : {k : ℕ} {r : Rule} {q : ValueParser} → k < 6 → r.action ≡ Some Set → r.range ≡ None → r.parser ≡ Some q
     → r.ignore_case ≡ false → bytes_eq r.id [] ≡ false → bytes_eq r.id (codes "help") ≡ false
-    → bytes_eq r.id (codes "version") ≡ false → ((j : ℕ) → j < 5 → IsOnlyAt k r.id j) → IsRuleOfOne k r q
+    → bytes_eq r.id (codes "version") ≡ false → ((j : ℕ) → j < 6 → IsOnlyAt k r.id j) → IsRuleOfOne k r q
 rule_of_one a b c d e f g h i =
     record { low = a; set = b; one = c; parser_is = d; case = e; named = f; no_help = g; no_version = h; only = i }
 
@@ -240,35 +241,35 @@ module _ (list : NameList) (c : Command) (m : ArgMatches) (is : app_of c ≡ int
   unfolding rules_at
   rules_are = ap (λ (s : Shape). s.rules) shape
 
-  five : length (args_of c) ≡ 5
+  six : length (args_of c) ≡ 6
   unfolding rules_at
-  five = sym (length-map (args_of c) rule_of) ∙ ap (λ (rs : List Rule). length rs) rules_are
+  six = sym (length-map (args_of c) rule_of) ∙ ap (λ (rs : List Rule). length rs) rules_are
 
-  rule_is : (k : ℕ) (d : Arg) (e : Rule) → k < 5 → rule_of (slice_index_or (args_of c) k d) ≡ slice_index_or (rules_at list) k e
+  rule_is : (k : ℕ) (d : Arg) (e : Rule) → k < 6 → rule_of (slice_index_or (args_of c) k d) ≡ slice_index_or (rules_at list) k e
   rule_is k d e lt =
-      let low : k < length (args_of c) = omega (arith, five) in
+      let low : k < length (args_of c) = omega (arith, six) in
       sym (get_or-map rule_of (args_of c) k d e low) ∙ ap (λ (rs : List Rule). slice_index_or rs k e) rules_are
 
-  id_is : (k : ℕ) (d : Arg) → k < 5 → (slice_index_or (args_of c) k d).id.now ≡ slice_index_or ids k []
+  id_is : (k : ℕ) (d : Arg) → k < 6 → (slice_index_or (args_of c) k d).id.now ≡ slice_index_or ids k []
   unfolding rules_at
   id_is k d lt = ap (λ (x : Rule). x.id) (rule_is k d (mode_rule list) lt)
-      ∙ below_five (λ (j : ℕ). (slice_index_or (rules_at list) j (mode_rule list)).id ≡ slice_index_or ids j []) refl refl refl refl refl k
-      lt
+      ∙ below_six (λ (j : ℕ). (slice_index_or (rules_at list) j (mode_rule list)).id ≡ slice_index_or ids j [])
+      refl refl refl refl refl refl k lt
 
   module _ (k : ℕ) (d : Arg) (r : Rule) (q : ValueParser) (one : IsRuleOfOne k r q) (at : slice_index_or (rules_at list) k r ≡ r) where
     abbrev arg : Arg
     arg = slice_index_or (args_of c) k d
 
     low : k < length (args_of c)
-    low = let five_are = five in let lt = one.low in omega arith
+    low = let count = six in let lt = one.low in omega arith
 
     has_rule : rule_of arg ≡ r
     has_rule = rule_is k d r one.low ∙ at
 
     unique : (j : ℕ) (e : Arg) → j < length (args_of c) → bytes_eq (slice_index_or (args_of c) j e).id.now arg.id.now ≡ true → j ≡ k
     unique j e lt same =
-        let five_are = five in
-        let under : j < 5 = omega arith in
+        let count = six in
+        let under : j < 6 = omega arith in
         one.only j under (subst (λ (id : Text). bytes_eq (slice_index_or ids j []) id ≡ true) (ap (λ (x : Rule). x.id) has_rule)
         (subst (λ (id : Text). bytes_eq id arg.id.now ≡ true) (id_is j e under) same))
 
@@ -312,24 +313,24 @@ module _ (list : NameList) (c : Command) (m : ArgMatches) (is : app_of c ≡ int
   unfolding rules_at
   each_from names d =
       let mode = required_at 0 d (mode_rule list) (parser.Names list) (rule_of_one (omega arith) refl refl refl refl refl refl refl
-      (below_five (λ (j : ℕ). IsOnlyAt 0 (codes "mode") j) (λ _. refl) never never never never)) refl refl in
+      (below_six (λ (j : ℕ). IsOnlyAt 0 (codes "mode") j) (λ _. refl) never never never never never)) refl refl in
       record {
         mode = mode_among (λ (name : Text). first_value (found_of m) (codes "mode") ≡ Some name) mode.text modes mode.first
             (ap (list_any (λ (name : Text). bytes_eq name mode.text)) (sym names)
             ∙ (sym (list_any-map (λ (name : Text). bytes_eq name mode.text) (λ (name : Bor Text). name.now) list.now) ∙ mode.accepted));
         workers = number_at 1 (rule_at 1) 1 16 (rule_of_one (omega arith) refl refl refl refl refl refl refl
-            (below_five (λ (j : ℕ). IsOnlyAt 1 (codes "workers") j) never (λ _. refl) never never never)) refl (omega arith) d;
+            (below_six (λ (j : ℕ). IsOnlyAt 1 (codes "workers") j) never (λ _. refl) never never never never)) refl (omega arith) d;
         nodes = number_at 2 (rule_at 2) MIN_BITS MAX_BITS (rule_of_one (omega arith) refl refl refl refl refl refl refl
-            (below_five (λ (j : ℕ). IsOnlyAt 2 (codes "nodes") j) never never (λ _. refl) never never)) refl (omega arith) d;
+            (below_six (λ (j : ℕ). IsOnlyAt 2 (codes "nodes") j) never never (λ _. refl) never never never)) refl (omega arith) d;
         terms = number_at 3 (rule_at 3) 1 1000000 (rule_of_one (omega arith) refl refl refl refl refl refl refl
-            (below_five (λ (j : ℕ). IsOnlyAt 3 (codes "terms") j) never never never (λ _. refl) never)) refl (omega arith) d;
+            (below_six (λ (j : ℕ). IsOnlyAt 3 (codes "terms") j) never never never (λ _. refl) never never)) refl (omega arith) d;
         seed = number_at 4 (rule_at 4) 0 18446744073709551615 (rule_of_one (omega arith) refl refl refl refl refl refl refl
-            (below_five (λ (j : ℕ). IsOnlyAt 4 (codes "seed") j) never never never never (λ _. refl))) refl (omega arith) d;
+            (below_six (λ (j : ℕ). IsOnlyAt 4 (codes "seed") j) never never never never (λ _. refl) never)) refl (omega arith) d;
       }
 
   pub each_found : IsModeNames list → HasEach (found_of m)
-  each_found names = go (args_of c) five
+  each_found names = go (args_of c) six
     where
-      go : (xs : List Arg) → length xs ≡ 5 → HasEach (found_of m)
+      go : (xs : List Arg) → length xs ≡ 6 → HasEach (found_of m)
       go [] none = absurd (omega arith)
       go (d ∷ rest) is = each_from names d

@@ -1,6 +1,6 @@
 -- The definition computes at words that are written out.
-use Rattle.std.proofs.Common.{◌≡◌, ◌∷◌, [], List, refl, codes, Some}
-use Rattle.clap.specs.Words.{Text, fault_of, matches_of}
+use Rattle.std.proofs.Common.{◌≡◌, ◌∷◌, [], List, refl, codes, Some, None}
+use Rattle.clap.specs.Words.{Text, fault_of, first_of, matches_of}
 use Rattle.clap.specs.Kinds.{Kinds}
 use Rattle.clap.specs.declared.error.kind.ErrorKind.TheVariants as kind
 use Rattle.clap.proofs.OnLiterals.{clap_on_literals}
@@ -28,3 +28,15 @@ plus_eight = codes "interp" ∷ codes "--workers=+08" ∷ codes "--" ∷ codes "
 is_eight : HasFaults plus_eight [] × (number_of (codes "workers") (matches_of interp_command plus_eight) ≡ Some 8)
 unfolding clap_on_literals plus_eight
 is_eight = (refl, refl)
+
+-- the text of the order, as it was given; none where none was
+by_order : List Text
+by_order = codes "interp" ∷ codes "anf" ∷ codes "--order" ∷ codes "b,a" ∷ []
+
+is_by_order : HasFaults by_order [] × (first_of (codes "order") (matches_of interp_command by_order) ≡ Some (codes "b,a"))
+unfolding clap_on_literals by_order
+is_by_order = (refl, refl)
+
+has_no_order : first_of (codes "order") (matches_of interp_command plus_eight) ≡ None
+unfolding clap_on_literals plus_eight
+has_no_order = refl

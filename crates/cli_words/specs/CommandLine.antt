@@ -46,15 +46,23 @@ option_rule name values default = record (new_rule name) {
   defaults = default ∷ [];
 }
 
+-- the order of the inputs: an option with one value, any text, and no default
+abbrev pub order_rule : Rule
+order_rule = record (new_rule (codes "order")) {
+  long = Some (codes "order");
+  action = Some Set;
+}
+
 -- the options in their order
 abbrev pub options : List Rule
 options =
     option_rule (codes "workers") (parser.Unsigned 1 16) (codes "1")
     ∷ option_rule (codes "nodes") (parser.Unsigned MIN_BITS MAX_BITS) (codes "19")
     ∷ option_rule (codes "terms") (parser.Unsigned 1 1000000) (codes "1000000")
-    ∷ option_rule (codes "seed") (parser.Unsigned 0 18446744073709551615) (codes "0") ∷ []
+    ∷ option_rule (codes "seed") (parser.Unsigned 0 18446744073709551615) (codes "0")
+    ∷ order_rule ∷ []
 
--- `interp MODE [--workers N] [--nodes B] [--terms T] [--seed S]`, with the names at an address
+-- `interp MODE [--workers N] [--nodes B] [--terms T] [--seed S] [--order NAMES]`, with the names at an address
 abbrev pub interp_command_at : NameList → App
 interp_command_at list = fold with_rule (new_app (codes "interp")) (mode_rule list ∷ options)
 
@@ -76,6 +84,7 @@ pub record IsJob (rows : List Row) (job : Job) : Type 0 where
   pub nodes : number_of (codes "nodes") rows ≡ Some job.nodes
   pub terms : number_of (codes "terms") rows ≡ Some job.terms
   pub seed : number_of (codes "seed") rows ≡ Some job.seed
+  pub order : first_of (codes "order") rows ≡ job.order
 
 -- its numbers are within the ranges of the options
 pub record IsWithin (job : Job) : Type 0 where

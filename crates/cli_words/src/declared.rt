@@ -3,7 +3,7 @@ ghost use Rattle.std.specs.Prelude.{◌≡◌, IfOk, false, codes};
 ghost use Rattle.clap.specs.Words.{app_of, rule_of};
 ghost use Rattle.clap.specs.declared.builder.value_parser.ValueParser.TheVariants as parser;
 ghost use Rattle.lattice.specs.declared.limits.TheConstants.{MIN_BITS, MAX_BITS};
-ghost use Rattle.cli_words.specs.CommandLine.{IsModeNames, NameList, interp_command_at, mode_rule, option_rule};
+ghost use Rattle.cli_words.specs.CommandLine.{IsModeNames, NameList, interp_command_at, mode_rule, option_rule, order_rule};
 
 use clap::builder::ValueParser;
 use clap::{Arg, ArgAction, Command, value_parser};
@@ -66,7 +66,16 @@ fn seed<'a>(alloc: Global) -> Arg<'a>
     option(alloc, "seed", value_parser!(u64), "0")
 }
 
-/// `interp MODE [--workers N] [--nodes B] [--terms T] [--seed S]`
+fn order<'a>(alloc: Global) -> Arg<'a>
+    ensures rule { rule_of result ≡ order_rule }
+    ensures local { result.global ≡ false }
+{
+    Arg::new(alloc, "order")
+        .long("order")
+        .action(ArgAction::Set)
+}
+
+/// `interp MODE [--workers N] [--nodes B] [--terms T] [--seed S] [--order NAMES]`
 pub(crate) fn command<'a>(alloc: Global) -> Result<Command<'a>, AllocError>
     ensures app { IfOk result (λ c. (list : NameList) × IsModeNames list × (app_of c ≡ interp_command_at list)) }
 {
@@ -75,5 +84,6 @@ pub(crate) fn command<'a>(alloc: Global) -> Result<Command<'a>, AllocError>
         .arg(workers(alloc))?
         .arg(nodes(alloc))?
         .arg(terms(alloc))?
-        .arg(seed(alloc))
+        .arg(seed(alloc))?
+        .arg(order(alloc))
 }

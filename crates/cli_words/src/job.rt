@@ -7,13 +7,13 @@ ghost use Rattle.cli_words.specs.declared.job.WordsRefusal.TheVariants.{Memory};
 use crate::declared::command;
 use clap::ArgMatches;
 use clap::error::ErrorKind;
-use lattice::{Mode, Words};
+use lattice::{Mode, Text, Words};
 use std::alloc::{AllocError, Global};
 use thiserror::Error;
 
 /// What the words ask for: the mode, and the value of each option, which is its default where the
 /// option is not given.
-#[derive(Clone, Copy, Debug, Drop, PartialEq, Eq)]
+#[derive(Drop)]
 pub struct Job {
     pub mode: Mode,
     /// The number of threads, from 1 to 16, by default 1.
@@ -24,6 +24,8 @@ pub struct Job {
     pub terms: u64,
     /// Any number, by default 0.
     pub seed: u64,
+    /// The bytes of the text that the option asks for; none where it is not given.
+    pub order: Option<Text>,
 }
 
 /// Why there is no job.
@@ -68,23 +70,36 @@ fn number(matches: &ArgMatches<'_>, id: &str) -> u64
     matches.get_one::<u64>(id).unwrap()
 }
 
-// The job that a parse found.
-fn job_of(matches: &ArgMatches<'_>) -> Job
-    requires { HasEach (found_of matches.now) }
-    ensures job { IsJob (rows_of (found_of matches.now)) result }
-    ensures within { IsWithin result }
+// The text that a parse found as the value of an option.
+#[tactic(auto, using(crate::proofs::Taken::first_is))]
+fn text(alloc: Global, matches: &ArgMatches<'_>, id: &str) -> Result<Option<Text>, AllocError>
+    ensures { IfOk result (λ text. first_of id.now (rows_of (found_of matches.now)) ≡ text) }
 {
-    Job {
+    let Some(value) = matches.get_str(id) else {
+        return Ok(None);
+    };
+    let bytes = Vec::from_slice(alloc, value.as_bytes())?;
+    Ok(Some(Text::from_vec(bytes)))
+}
+
+// The job that a parse found.
+fn job_of(alloc: Global, matches: &ArgMatches<'_>) -> Result<Job, AllocError>
+    requires { HasEach (found_of matches.now) }
+    ensures job { IfOk result (IsJob (rows_of (found_of matches.now))) }
+    ensures within { IfOk result IsWithin }
+{
+    Ok(Job {
         mode: mode_of(matches),
         workers: number(matches, "workers") as u32,
         nodes: number(matches, "nodes") as u32,
         terms: number(matches, "terms"),
         seed: number(matches, "seed"),
-    }
+        order: text(alloc, matches, "order")?,
+    })
 }
 
 /// Reads the words, the program's name first, by the declared command
-/// `interp MODE [--workers N] [--nodes B] [--terms T] [--seed S]`, where MODE is `anf`, `basis`, `check` or `gen`.
+/// `interp MODE [--workers N] [--nodes B] [--terms T] [--seed S] [--order NAMES]`, where MODE is `anf`, `basis`, `check` or `gen`.
 /// Which words it takes, and with which values, is the rule of `clap` for a simple command.
 pub fn read_words(alloc: Global, words: &Words) -> Result<Job, WordsRefusal>
     ensures usage { IsErrOf result WordsRefusal.Usage → fault_of interp_command words.now ≢ [] }
@@ -94,7 +109,7 @@ pub fn read_words(alloc: Global, words: &Words) -> Result<Job, WordsRefusal>
 {
     let command = command(alloc)?;
     match command.try_get_matches_from(words.all()) {
-        Ok(matches) => Ok(job_of(&matches)),
+        Ok(matches) => Ok(job_of(alloc, &matches)?),
         Err(error) => match error.kind() {
             ErrorKind::OutOfMemory => Err(WordsRefusal::Memory),
             _ => Err(WordsRefusal::Usage),

@@ -1,13 +1,13 @@
 -- Calls one after the other that find the families of a list: what is planned for those to come, and what is held at the end.
 use Rattle.std.proofs.Common.{ℕ, Bool, List, [], ◌∷◌, ◌++◌, Ok, subst}
 use Rattle.lattice.specs.Family.{Family, Covers, combine, power, minus_of}
-use Rattle.lattice.specs.Rows.{cover}
-use Rattle.lattice.specs.WorkingLists.{working_set, cover_list}
-use Rattle.lattice.specs.declared.row.Row.{Row}
-use Rattle.lattice.proofs.Diagrams.{covers_append, covers_head, covers_left, covers_right}
+use Rattle.lattice.specs.WorkingLists.{working_set}
+use Rattle.lattice.proofs.Diagrams.{covers_append, covers_head, covers_left, covers_nil, covers_right}
 use Rattle.node_store.specs.Stores.{State, family, Denotes, IsPlanned, Grows, Reads, Gives, Builds}
 use Rattle.node_store.specs.declared.store.Handle.{Handle}
-use Rattle.node_store.proofs.StoreLaws.{builds_gives, Denotes-family, Gives-reads, Grows-trans, Reads-refl, Reads-trans}
+use Rattle.node_store.proofs.StoreLaws.{builds_gives, Denotes-family, Gives-reads, Grows-refl, Grows-trans, Reads-refl, Reads-trans}
+use Rattle.set_algebra.specs.GivenPoints.{GivesPoints}
+use Rattle.cube_build.specs.GivenCareSets.{outside_list}
 
 -- calls led from s to t, and of the families of `all` those of `rest` are still to be found
 pub record Underway (s t : State) (all rest : List Family) : Type 0 where
@@ -34,20 +34,6 @@ module _ (s t : State) (all rest : List Family) (list : ℕ → List Family) (he
             (covers_append s.vars v.held (list s.vars) rest (λ k i. later.held k (found k i)) held);
       }
 
--- ---- a call that finds the points of some rows
-
-module _ {s t : State} {all : List Family} (rest : List Family) (rows : List Row)
-    (here : Underway s t all (cover_list s.vars rows ++ rest)) where
-  pub cover_planned : Covers t.plan (working_set t.vars (cover_list t.vars rows))
-  cover_planned = next_planned s t all rest (λ v. cover_list v rows) here
-
-  module _ {u : State} {h : Handle} (is : Gives t u (Ok h) (cover t.vars rows) (working_set t.vars (cover_list t.vars rows))) where
-    pub cover_next : Underway s u all rest
-    cover_next = next s t all rest (λ v. cover_list v rows) here u h (cover t.vars rows) is
-
-    pub cover_is : Denotes u h (cover s.vars rows)
-    cover_is = rw here.reads.grows.vars at is.ok
-
 -- ---- a call that combines two families
 
 module _ {s t : State} {all : List Family} (rest : List Family) (test : Bool → Bool → Bool) (A B : Family) (a b : Handle)
@@ -71,19 +57,29 @@ module _ {s t : State} {all : List Family} (rest : List Family) (test : Bool →
 
 -- ---- a call that finds the points outside a family
 
-abbrev pub rest_of : Family → ℕ → List Family
-rest_of A n = power n ∷ minus_of n (power n) A ∷ []
+module _ {s t : State} {all : List Family} (A : Family) (a : Handle) (here : Underway s t all (outside_list s.vars A))
+    (a_is : Denotes t a A) where
+  pub outside_planned : Covers t.plan (working_set t.vars (outside_list t.vars (family t a)))
+  outside_planned = rw (Denotes-family t a A a_is) (next_planned s t all [] (λ v. outside_list v A) here)
 
-module _ {s t : State} {all : List Family} (A : Family) (a : Handle) (here : Underway s t all (rest_of A s.vars)) (a_is : Denotes t a A)
-  where
-    pub outside_planned : Covers t.plan (working_set t.vars (rest_of (family t a) t.vars))
-    outside_planned = rw (Denotes-family t a A a_is) (next_planned s t all [] (rest_of A) here)
+  module _ {u : State} {h : Handle}
+      (is : Gives t u (Ok h) (minus_of t.vars (power t.vars) (family t a)) (working_set t.vars (outside_list t.vars (family t a)))) where
+    pub outside_next : Underway s u all []
+    outside_next =
+        next s t all [] (λ v. outside_list v A) here u h (minus_of t.vars (power t.vars) A) (rw (Denotes-family t a A a_is) at is)
 
-    module _ {u : State} {h : Handle}
-        (is : Gives t u (Ok h) (minus_of t.vars (power t.vars) (family t a)) (working_set t.vars (rest_of (family t a) t.vars))) where
-      pub outside_next : Underway s u all []
-      outside_next =
-          next s t all [] (rest_of A) here u h (minus_of t.vars (power t.vars) A) (rw (Denotes-family t a A a_is) at is)
+    pub outside_is : Denotes u h (minus_of s.vars (power s.vars) A)
+    outside_is = rw (here.reads.grows.vars, Denotes-family t a A a_is) at is.ok
 
-      pub outside_is : Denotes u h (minus_of s.vars (power s.vars) A)
-      outside_is = rw (here.reads.grows.vars, Denotes-family t a A a_is) at is.ok
+-- ---- at the end
+
+pub points_end : {s t : State} {all : List Family} {zeros ones : Handle} {Z O : Family} → Underway s t all [] → Denotes t zeros Z
+    → Denotes t ones O → GivesPoints s t (Ok (record { zeros = zeros; ones = ones })) Z O (working_set s.vars all)
+points_end {s} {t} here z o = record {
+  grows = here.reads.grows;
+  zeros = z;
+  ones = o;
+  held = here.whole t (Grows-refl t) (covers_nil s.vars t.held);
+  quiet = here.reads.quiet;
+  full = tt;
+}

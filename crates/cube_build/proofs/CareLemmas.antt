@@ -1,20 +1,17 @@
 -- The care points of an output, by the type of the description.
-use Rattle.std.proofs.Common.{◌≡◌, ℕ, Bool, true, false, not, ◌&&◌, ◌||◌, List, [], ◌∷◌, ◌++◌, Ok, refl, ◌∙◌}
-use Rattle.std.proofs.Common.{ap, ap₂, append-nil}
-use Rattle.lattice.specs.Family.{Family, IsFamily, has, family_where, combine, power, first_only, union_of, minus_of, Covers}
+use Rattle.std.proofs.Common.{◌≡◌, ℕ, Bool, true, false, not, ◌&&◌, ◌||◌, List, [], ◌∷◌, ◌++◌, refl, ◌∙◌}
+use Rattle.std.proofs.Common.{ap, ap₂, append-nil, append_assoc}
+use Rattle.lattice.specs.Family.{Family, IsFamily, has, family_where, combine, power, first_only, union_of, minus_of}
 use Rattle.lattice.specs.Rows.{cover, in_cube, on_rows, off_rows, dc_rows, on_set, off_set, dc_set, points_where, care_zeros, care_ones}
 use Rattle.lattice.specs.WorkingLists.{cover_list, care_list}
-use Rattle.std.specs.List.{list_any}
+use Rattle.std.specs.List.{flat_map, list_any}
 use Rattle.lattice.specs.declared.row.Row.{Row}
 use Rattle.lattice.specs.declared.kind.Kind.{Kind}
 use Rattle.lattice.specs.declared.kind.Kind.TheVariants.{F, Fd, Fr, Fdr}
-use Rattle.lattice.proofs.Diagrams.{has-power, covers_nil}
+use Rattle.lattice.proofs.Diagrams.{has-power}
 use Rattle.lattice.proofs.Polynomials.{IsFamily-family_where, has-family_where_below, family_where_has, family_where-agree}
-use Rattle.node_store.specs.Stores.{State, Denotes}
-use Rattle.node_store.specs.declared.store.Handle.{Handle}
-use Rattle.node_store.proofs.StoreLaws.{Grows-refl}
-use Rattle.cube_build.specs.GivenCareSets.{care_needs, GivesCareSets}
-use Rattle.cube_build.proofs.CallsUnderway.{Underway, underway, rest_of}
+use Rattle.cube_build.specs.PointSets.{set_rows, sets_of}
+use Rattle.cube_build.specs.GivenCareSets.{fd_list, fdr_list, outside_list}
 
 IsFamily-cover : (n : ℕ) (rows : List Row) → IsFamily n (cover n rows)
 unfolding cover
@@ -64,9 +61,17 @@ module _ (n : ℕ) (rows : List Row) (output : ℕ) where
   unfolding points_where combine
   zeros_fdr = refl
 
--- ---- the calls that find the care sets, at the start and at the end
+-- ---- the list of the care sets: the covers, and what is built from them
 
--- the list as the calls find it
+abbrev pub covers_list : ℕ → Kind → List Row → ℕ → List Family
+covers_list n kind rows output = flat_map (λ set. cover_list n (set_rows set output rows)) (sets_of kind)
+
+abbrev pub rest_of : ℕ → Kind → (on off dc : Family) → List Family
+rest_of n F on off dc = outside_list n on
+rest_of n Fd on off dc = fd_list n on dc
+rest_of n Fr on off dc = []
+rest_of n Fdr on off dc = fdr_list n on off dc
+
 module _ (n : ℕ) (rows : List Row) (output : ℕ) where
   abbrev ons : List Family
   ons = cover_list n (on_rows output rows)
@@ -77,34 +82,17 @@ module _ (n : ℕ) (rows : List Row) (output : ℕ) where
   abbrev dcs : List Family
   dcs = cover_list n (dc_rows output rows)
 
-  abbrev pub calls_of : Kind → List Family
-  calls_of F = ons ++ rest_of (on_set n rows output) n
-  calls_of Fd = ons ++
-      (dcs ++ (minus_of n (on_set n rows output) (dc_set n rows output) ∷ union_of n (on_set n rows output) (dc_set n rows output)
-      ∷ rest_of (union_of n (on_set n rows output) (dc_set n rows output)) n))
-  calls_of Fr = ons ++ (offs ++ [])
-  calls_of Fdr = ons ++ (offs ++ (dcs ++ (minus_of n (on_set n rows output) (dc_set n rows output)
-      ∷ minus_of n (off_set n rows output) (dc_set n rows output) ∷ [])))
+  abbrev pub rest_in : Kind → List Family
+  rest_in kind = rest_of n kind (on_set n rows output) (off_set n rows output) (dc_set n rows output)
 
-  pub calls_are : (kind : Kind) → calls_of kind ≡ care_list n kind rows output
+  pub care_list_parts : (kind : Kind) → covers_list n kind rows output ++ rest_in kind ≡ care_list n kind rows output
   unfolding care_list points_where combine
-  calls_are F = ap (λ f. ons ++ power n ∷ f ∷ []) (zeros_f n rows output)
-  calls_are Fd = ap (λ f. ons ++
-      (dcs ++ (minus_of n (on_set n rows output) (dc_set n rows output) ∷ union_of n (on_set n rows output) (dc_set n rows output)
-      ∷ power n ∷ f ∷ []))) (zeros_fd n rows output)
-  calls_are Fr = ap (λ fs. ons ++ fs) (append-nil offs)
-  calls_are Fdr = refl
-
-pub calls_begin : {s : State} (kind : Kind) (rows : List Row) (output : ℕ) → Covers s.plan (care_needs s.vars kind rows output)
-    → Underway s s (calls_of s.vars rows output kind) (calls_of s.vars rows output kind)
-calls_begin {s} kind rows output planned =
-    underway s (calls_of s.vars rows output kind) (rw (calls_are s.vars rows output kind) planned)
-
-pub calls_end : (s t : State) (zeros ones : Handle) (kind : Kind) (rows : List Row) (output : ℕ)
-    → Underway s t (calls_of s.vars rows output kind) [] → Denotes t zeros (care_zeros s.vars kind rows output)
-    → Denotes t ones (care_ones s.vars kind rows output)
-    → GivesCareSets s t (Ok (record { zeros = zeros; ones = ones })) s.vars kind rows output
-calls_end s t zeros ones kind rows output here z o =
-    let all : Covers t.held (care_needs s.vars kind rows output) =
-    rw (← calls_are s.vars rows output kind) (here.whole t (Grows-refl t) (covers_nil s.vars t.held)) in
-    record { grows = here.reads.grows; zeros = z; ones = o; held = all; quiet = here.reads.quiet; full = tt }
+  care_list_parts F = ap₂ (λ fs f. fs ++ power n ∷ f ∷ []) (append-nil ons) (zeros_f n rows output)
+  care_list_parts Fd =
+      append_assoc ons (dcs ++ []) (rest_in Fd)
+      ∙ ap₂ (λ ds f. ons ++ (ds ++ (minus_of n (on_set n rows output) (dc_set n rows output)
+      ∷ union_of n (on_set n rows output) (dc_set n rows output) ∷ power n ∷ f ∷ []))) (append-nil dcs) (zeros_fd n rows output)
+  care_list_parts Fr = append-nil (ons ++ (offs ++ [])) ∙ ap (λ fs. ons ++ fs) (append-nil offs)
+  care_list_parts Fdr =
+      append_assoc ons (offs ++ (dcs ++ [])) (rest_in Fdr)
+      ∙ ap (λ fs. ons ++ fs) (append_assoc offs (dcs ++ []) (rest_in Fdr) ∙ ap (λ fs. offs ++ (fs ++ rest_in Fdr)) (append-nil dcs))

@@ -1,4 +1,5 @@
--- What callers use of the rows' cubes and of the care sets: the cubes in later states, and the plan of all outputs.
+-- What callers use of the rows' cubes, of covers and of the care sets: which rows are used, the cubes in later states, what is
+-- planned, and lists that are made place by place.
 use Rattle.std.proofs.Common.{◌≡◌, ℕ, ◌+◌, ◌-◌, ◌≤◌, List, subst, arith}
 use Rattle.std.specs.List.{flat_map}
 use Rattle.lattice.specs.Family.{Family, Covers}
@@ -10,6 +11,20 @@ use Rattle.cube_build.specs.GivenCareSets.{care_needs}
 use Rattle.cube_build.proofs.UsedCubeLemmas.{output_part}
 -- the handles of the rows' cubes stay so in later states
 pub use Rattle.cube_build.proofs.UsedCubeLemmas.{cubes_later}
+-- where the care sets of an output are planned, each of its covers is
+pub use Rattle.cube_build.proofs.GivenCovers.{cover_planned}
+-- a cover stays one in later states
+pub use Rattle.cube_build.proofs.GivenCovers.{cover_later}
+-- the list of an element is a part of the list of all
+pub use Rattle.cube_build.proofs.GivenCovers.{part_at}
+-- what holds at each place of two lists of one length holds of both
+pub use Rattle.cube_build.proofs.GivenCovers.{zip_from}
+-- the list of an output has the cube of each row in one of its sets
+pub use Rattle.cube_build.proofs.UsedCubeLemmas.{in_care_list}
+-- a row in a set of an output says something
+pub use Rattle.cube_build.proofs.UsedCubeLemmas.{names_where}
+-- the points of a row that says something are its cube
+pub use Rattle.cube_build.proofs.UsedCubeLemmas.{used_cube-some}
 
 -- the plan of the care sets of all outputs has those of each
 pub all_cares_have : (n outputs : ℕ) (kind : Kind) (rows : List Row) (output : ℕ) → 1 ≤ output → output ≤ outputs

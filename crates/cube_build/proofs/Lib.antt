@@ -5,5 +5,7 @@ mod UsedCubeLemmas
 mod CoverSteps
 mod CallsUnderway
 mod CareLemmas
+mod GivenCovers
+mod CareByType
 pub mod CareNeeds
 mod StoresForTests

@@ -116,7 +116,7 @@ module _ (n : ℕ) (rows : List Row) (i : ℕ) (less : i < length rows) where
       subst (λ rs. Has (cover_list n rs) (cube n (get_or rows i no_row))) (sym rest)
       (cover_list-cube n (rows_with mask output (take i rows)) (rows_with mask output (drop (i + 1) rows)) (get_or rows i no_row))
 
-  in_care_list : (outputs : ℕ) (kind : Kind) (set : PointSet) (output : ℕ) → FitsSizes n outputs kind (get_or rows i no_row)
+  pub in_care_list : (outputs : ℕ) (kind : Kind) (set : PointSet) (output : ℕ) → FitsSizes n outputs kind (get_or rows i no_row)
       → divides (2 ^ (output - 1)) (mask_of set (get_or rows i no_row)) ≡ true
       → Has (care_list n kind rows output) (cube n (get_or rows i no_row))
   unfolding care_list

@@ -1,14 +1,15 @@
 //! The care points of an output.
-ghost use Rattle.std.specs.Prelude.{◌≡◌, ◌≤◌, [], ◌∷◌};
-ghost use Rattle.lattice.specs.Family.{Covers, power, minus_of};
+ghost use Rattle.std.specs.Prelude.{◌≡◌, ◌≤◌};
+ghost use Rattle.lattice.specs.Family.{Covers, power, minus_of, union_of};
 ghost use Rattle.lattice.specs.Rows.{care_zeros, care_ones};
 ghost use Rattle.lattice.specs.WorkingLists.{working_set};
 ghost use Rattle.node_store.specs.Stores.{Knows, family, Gives};
 ghost use Rattle.cube_build.specs.UsedCubes.{AreCubes};
-ghost use Rattle.cube_build.specs.GivenCareSets.{care_needs, GivesCareSets};
+ghost use Rattle.cube_build.specs.GivenCareSets.{care_needs, fd_list, fdr_list, outside_list, GivesCareSets, GivesCareSetsFrom, MayGiveCareSets};
+ghost use Rattle.set_algebra.specs.GivenPoints.{GivesPoints};
 
-use crate::covers::{PointSet, cover};
-use lattice::{Kind, Row};
+use crate::covers::{cover, sets_of};
+use lattice::Kind;
 use node_store::{Full, Handle, Store};
 use pla_reader::Pla;
 use set_algebra::{ValuedPoints, minus, power, union};
@@ -16,86 +17,75 @@ use set_algebra::{ValuedPoints, minus, power, union};
 /// All points that are not in `a`.
 fn outside<S: Store>(store: &mut S, a: Handle) -> Result<Handle, Full>
     requires known { Knows (S.state store.old) a }
-    requires planned { let s = S.state store.old in Covers s.plan (working_set s.vars (power s.vars ∷ minus_of s.vars (power s.vars) (family s a) ∷ [])) }
-    ensures { let s = S.state store.old in Gives s (S.state store.new) result (minus_of s.vars (power s.vars) (family s a)) (working_set s.vars (power s.vars ∷ minus_of s.vars (power s.vars) (family s a) ∷ [])) }
+    requires planned { let s = S.state store.old in Covers s.plan (working_set s.vars (outside_list s.vars (family s a))) }
+    ensures { let s = S.state store.old in Gives s (S.state store.new) result (minus_of s.vars (power s.vars) (family s a)) (working_set s.vars (outside_list s.vars (family s a))) }
 {
     let all = power(store)?;
     minus(store, all, a)
 }
 
 /// In a description of type f the points that its rows do not list have value 0.
-fn sets_of_f<S: Store>(
-    store: &mut S,
-    rows: &[Row],
-    cubes: &[Handle],
-    output: u32,
-) -> Result<ValuedPoints, Full>
-    requires cubes { AreCubes (S.state store.old) rows.now cubes.now }
-    requires output { (1 ≤ output) × (output ≤ 64) }
-    requires planned { let s = S.state store.old in Covers s.plan (care_needs s.vars Kind.F rows.now output) }
-    ensures { let s = S.state store.old in GivesCareSets s (S.state store.new) result s.vars Kind.F rows.now output }
+fn sets_of_f<S: Store>(store: &mut S, on: Handle) -> Result<ValuedPoints, Full>
+    requires on { Knows (S.state store.old) on }
+    requires planned { let s = S.state store.old in Covers s.plan (working_set s.vars (outside_list s.vars (family s on))) }
+    ensures { let s = S.state store.old in let n = s.vars in GivesPoints s (S.state store.new) result (minus_of n (power n) (family s on)) (family s on) (working_set n (outside_list n (family s on))) }
 {
-    let ones = cover(store, rows, cubes, PointSet::On, output)?;
-    let zeros = outside(store, ones)?;
-    Ok(ValuedPoints { zeros, ones })
+    let zeros = outside(store, on)?;
+    Ok(ValuedPoints { zeros, ones: on })
 }
 
 /// In a description of type fd the points that its rows do not list have value 0, and those that they leave open are no care
 /// points.
-fn sets_of_fd<S: Store>(
-    store: &mut S,
-    rows: &[Row],
-    cubes: &[Handle],
-    output: u32,
-) -> Result<ValuedPoints, Full>
-    requires cubes { AreCubes (S.state store.old) rows.now cubes.now }
-    requires output { (1 ≤ output) × (output ≤ 64) }
-    requires planned { let s = S.state store.old in Covers s.plan (care_needs s.vars Kind.Fd rows.now output) }
-    ensures { let s = S.state store.old in GivesCareSets s (S.state store.new) result s.vars Kind.Fd rows.now output }
+fn sets_of_fd<S: Store>(store: &mut S, on: Handle, dc: Handle) -> Result<ValuedPoints, Full>
+    requires on { Knows (S.state store.old) on }
+    requires dc { Knows (S.state store.old) dc }
+    requires planned { let s = S.state store.old in Covers s.plan (working_set s.vars (fd_list s.vars (family s on) (family s dc))) }
+    ensures { let s = S.state store.old in let n = s.vars in GivesPoints s (S.state store.new) result (minus_of n (power n) (union_of n (family s on) (family s dc))) (minus_of n (family s on) (family s dc)) (working_set n (fd_list n (family s on) (family s dc))) }
 {
-    let on = cover(store, rows, cubes, PointSet::On, output)?;
-    let dc = cover(store, rows, cubes, PointSet::Dc, output)?;
     let ones = minus(store, on, dc)?;
     let listed = union(store, on, dc)?;
     let zeros = outside(store, listed)?;
     Ok(ValuedPoints { zeros, ones })
 }
 
-/// In a description of type fr the points that its rows do not list are no care points.
-fn sets_of_fr<S: Store>(
-    store: &mut S,
-    rows: &[Row],
-    cubes: &[Handle],
-    output: u32,
-) -> Result<ValuedPoints, Full>
-    requires cubes { AreCubes (S.state store.old) rows.now cubes.now }
-    requires output { (1 ≤ output) × (output ≤ 64) }
-    requires planned { let s = S.state store.old in Covers s.plan (care_needs s.vars Kind.Fr rows.now output) }
-    ensures { let s = S.state store.old in GivesCareSets s (S.state store.new) result s.vars Kind.Fr rows.now output }
-{
-    let ones = cover(store, rows, cubes, PointSet::On, output)?;
-    let zeros = cover(store, rows, cubes, PointSet::Off, output)?;
-    Ok(ValuedPoints { zeros, ones })
-}
-
 /// In a description of type fdr the points that its rows do not list or leave open are no care points.
 fn sets_of_fdr<S: Store>(
     store: &mut S,
-    rows: &[Row],
-    cubes: &[Handle],
-    output: u32,
+    on: Handle,
+    off: Handle,
+    dc: Handle,
 ) -> Result<ValuedPoints, Full>
-    requires cubes { AreCubes (S.state store.old) rows.now cubes.now }
-    requires output { (1 ≤ output) × (output ≤ 64) }
-    requires planned { let s = S.state store.old in Covers s.plan (care_needs s.vars Kind.Fdr rows.now output) }
-    ensures { let s = S.state store.old in GivesCareSets s (S.state store.new) result s.vars Kind.Fdr rows.now output }
+    requires on { Knows (S.state store.old) on }
+    requires off { Knows (S.state store.old) off }
+    requires dc { Knows (S.state store.old) dc }
+    requires planned { let s = S.state store.old in Covers s.plan (working_set s.vars (fdr_list s.vars (family s on) (family s off) (family s dc))) }
+    ensures { let s = S.state store.old in let n = s.vars in GivesPoints s (S.state store.new) result (minus_of n (family s off) (family s dc)) (minus_of n (family s on) (family s dc)) (working_set n (fdr_list n (family s on) (family s off) (family s dc))) }
 {
-    let on = cover(store, rows, cubes, PointSet::On, output)?;
-    let off = cover(store, rows, cubes, PointSet::Off, output)?;
-    let dc = cover(store, rows, cubes, PointSet::Dc, output)?;
     let ones = minus(store, on, dc)?;
     let zeros = minus(store, off, dc)?;
     Ok(ValuedPoints { zeros, ones })
+}
+
+/// The care points of an output, from its covers: a handle for each of its sets, in the order of `sets_of`. It is Full only where
+/// the plan has more families than the store has slots.
+pub fn care_sets_from<S: Store>(
+    store: &mut S,
+    kind: Kind,
+    covers: &[Handle],
+) -> Result<ValuedPoints, Full>
+    requires covers { MayGiveCareSets (S.state store.old) kind covers.now }
+    ensures { GivesCareSetsFrom (S.state store.old) (S.state store.new) result kind covers.now }
+{
+    match kind {
+        Kind::F => sets_of_f(store, covers[0]),
+        Kind::Fd => sets_of_fd(store, covers[0], covers[1]),
+        // The points that the rows do not list are no care points.
+        Kind::Fr => Ok(ValuedPoints {
+            zeros: covers[1],
+            ones: covers[0],
+        }),
+        Kind::Fdr => sets_of_fdr(store, covers[0], covers[1], covers[2]),
+    }
 }
 
 /// The care points of the output, whose numbers begin with 1, from the cubes that `row_cubes` gives, in a store with a variable
@@ -113,12 +103,12 @@ pub fn care_sets<S: Store>(
     ensures { GivesCareSets (S.state store.old) (S.state store.new) result p.now.inputs p.now.kind p.now.rows output }
 {
     let rows = p.rows.as_slice();
-    match p.kind {
-        Kind::F => sets_of_f(store, rows, cubes, output),
-        Kind::Fd => sets_of_fd(store, rows, cubes, output),
-        Kind::Fr => sets_of_fr(store, rows, cubes, output),
-        Kind::Fdr => sets_of_fdr(store, rows, cubes, output),
+    let sets = sets_of(p.kind);
+    let mut covers = [Handle(0); 3];
+    for place in 0..sets.len() {
+        covers[place] = cover(store, rows, cubes, sets[place], output)?;
     }
+    care_sets_from(store, p.kind, &covers[..sets.len()])
 }
 
 /// The care points of value 0, as `care_sets` gives them.

@@ -1,4 +1,4 @@
-//! The cubes of rows and the care points of outputs, over any store of nodes.
+//! The cubes of rows, and the points and the care points of outputs, over any store of nodes.
 #![tactic(auto)]
 
 mod care;
@@ -6,7 +6,8 @@ mod covers;
 mod cubes;
 mod rows;
 
-pub use crate::care::{care_sets, ones, zeros};
+pub use crate::care::{care_sets, care_sets_from, ones, zeros};
+pub use crate::covers::{PointSet, cover, sets_of};
 pub use crate::cubes::cube;
 pub use crate::rows::{CubesRefusal, row_cubes};
 

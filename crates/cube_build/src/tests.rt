@@ -5,8 +5,9 @@ ghost use Rattle.lattice.specs.Rows.{cube};
 ghost use Rattle.lattice.specs.WorkingLists.{working_set, care_list, output_numbers};
 ghost use Rattle.lattice.proofs.Diagrams.{working_set_is_node_list};
 ghost use Rattle.node_store.specs.PlainOf.{state_of};
+ghost use Rattle.cube_build.specs.PointSets.{sets_of};
 
-use crate::{CubesRefusal, cube, ones, row_cubes, zeros};
+use crate::{CubesRefusal, cover, cube, ones, row_cubes, sets_of, zeros};
 use lattice::{Memory, Mono, Monos, Planned, Row, plan_of};
 use node_store::{Full, Handle, PlainStore};
 use pla_reader::{Pla, read};
@@ -143,6 +144,54 @@ fn points_of_outputs(rt: HostRuntime) -> Result<(), Fail> {
         let (zeros, ones) = care_points_of(rt.alloc(), &p, output)?;
         assert_eq!(rt; zeros.as_slice(), zero_points);
         assert_eq!(rt; ones.as_slice(), one_points);
+    }
+    Ok(())
+}
+
+// The points of a set of the first output, by its place among those that the type has.
+fn points_of_set(alloc: Global, p: &Pla, place: usize) -> Result<Monos, Fail>
+    requires { place < length (sets_of p.now.kind) }
+{
+    let mut store = store_for(alloc, p.inputs, &AllCares(p))?;
+    let cubes = row_cubes(alloc, &mut store, p)?;
+    let set = sets_of(p.kind)[place];
+    let points = cover(&mut store, p.rows.as_slice(), &cubes, set, 1)?;
+    let members = walk_upto(alloc, &mut store, points, 4)?;
+    Ok(members)
+}
+
+// A file of type fdr of which each set has a row or two, and one of type fd: its sets are ON and DC.
+#[test]
+fn points_of_sets(rt: HostRuntime) -> Result<(), Fail> {
+    let cases: [(&[u8], usize, &[Mono]); 5] = [
+        (
+            b".i 2\n.o 1\n.type fdr\n1- 1\n00 0\n01 0\n-1 -\n",
+            0,
+            &[Mono(3), Mono(2)],
+        ),
+        (
+            b".i 2\n.o 1\n.type fdr\n1- 1\n00 0\n01 0\n-1 -\n",
+            1,
+            &[Mono(1), Mono(0)],
+        ),
+        (
+            b".i 2\n.o 1\n.type fdr\n1- 1\n00 0\n01 0\n-1 -\n",
+            2,
+            &[Mono(3), Mono(1)],
+        ),
+        (
+            b".i 2\n.o 1\n.type fd\n1- 1\n01 -\n",
+            0,
+            &[Mono(3), Mono(2)],
+        ),
+        (b".i 2\n.o 1\n.type fd\n1- 1\n01 -\n", 1, &[Mono(1)]),
+    ];
+    for (bytes, place, points) in cases {
+        assert!(rt; bytes.len() < 100);
+        let (p, _) = read(rt.alloc(), bytes)?;
+        assert!(rt; place < sets_of(p.kind).len());
+        let members = points_of_set(rt.alloc(), &p, place)?;
+        assert_eq!(rt; members.as_slice(), points);
     }
     Ok(())
 }

@@ -1,5 +1,6 @@
-//! `interp MODE [--workers N] [--nodes B] [--terms T] [--seed S]`: reads a description from standard input, and writes
-//! least Boolean polynomials to standard output and a line of progress for each of the first outputs to standard error.
+//! `interp MODE [--workers N] [--nodes B] [--terms T] [--seed S] [--order NAMES]`: reads a description from standard
+//! input, and writes least Boolean polynomials to standard output and a line of progress for each of the first outputs to standard
+//! error.
 #![tactic(auto)]
 
 ghost use Rattle.std.specs.Prelude.{◌≡◌, [], All, IfOk};

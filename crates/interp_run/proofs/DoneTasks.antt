@@ -13,6 +13,7 @@ use Rattle.lattice.proofs.Diagrams.{covers_part}
 use Rattle.node_store.specs.Stores.{State, Denotes, Grows}
 use Rattle.pla_reader.specs.Reading.{Description}
 use Rattle.cube_build.specs.GivenCareSets.{GivesCareSets}
+use Rattle.cube_build.proofs.CareNeeds.{part_at}
 use Rattle.set_algebra.specs.declared.points.ValuedPoints.{ValuedPoints}
 use Rattle.interp_run.specs.Phases.{AreCares, AreDone, CaresDone, IsFirst, IsTask, first_tasks, no_task, ones_in, task, task_family}
 use Rattle.interp_run.specs.Phases.{task_list, zeros_in}
@@ -21,7 +22,7 @@ use Rattle.interp_run.specs.declared.tasks.Task.{Task}
 use Rattle.interp_run.specs.declared.tasks.Part.{Part}
 use Rattle.interp_run.specs.declared.tasks.Part.TheVariants.{Element, Leads, Polynomial}
 use Rattle.interp_run.proofs.CountedTerms.{handles_later}
-use Rattle.interp_run.proofs.PhaseLists.{all_of_end, cares_list, first_held, part_at}
+use Rattle.interp_run.proofs.PhaseLists.{all_of_end, cares_list, first_held}
 use Rattle.interp_run.proofs.OutputLists.{get_output, length-output_numbers, output_numbers_more, zip_more, zip_weaker}
 
 -- ---- one task after the other

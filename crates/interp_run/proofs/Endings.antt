@@ -1,19 +1,22 @@
 -- How a run ends, from the file that its bytes have and from what its steps found, and what its status says then.
-use Rattle.interp_run.specs.declared.describe.TheConstants.{MOST_BYTES}
+use Rattle.run_parts.specs.declared.describe.TheConstants.{MOST_BYTES}
 use Rattle.cert_check.specs.declared.checking.TheConstants.{MOST_INPUTS}
 use Rattle.std.proofs.Common.{◌≡◌, ◌∙◌, ap, subst, ℕ, ◌+◌, ◌<◌, ◌≤◌, List, length, length-take, min, take, take_all, drop, refl, sym, inl}
 use Rattle.std.proofs.Common.{inr, ◌⊎◌, ⊎_elim, arith, [], Option, Some, None, ◌≢◌, ◌∷◌, append-nil, true, false}
 use Rattle.std.specs.Prelude.{Ok, Err, Result, IfErr, OnErr, OnOk}
-use Rattle.std.proofs.lemmas.Bool.{cases_lt, le-ltb, lt-ltb}
+use Rattle.std.proofs.lemmas.Bool.{cases_lt, false_from_ne_true, le-ltb, lt-ltb}
+use Rattle.pla_reader.specs.Orders.{IsOrder, arranged, is_order, order_named}
+use Rattle.pla_reader.specs.PrintedNames.{input_names}
 use Rattle.pla_reader.specs.Reading.{Description, bytes_taken, description, reading_of}
 use Rattle.pla_reader.specs.declared.pla.Pla.{Pla}
 use Rattle.pla_reader.specs.declared.refusal.Refusal.{Refusal}
+use Rattle.pla_reader.proofs.ArrangedInputs.{orders_by_test}
 use Rattle.cert_check.specs.Reading.{answer_reading, GivesAnswer}
 use Rattle.cert_check.specs.declared.answer.GivenOutput.{GivenOutput}
 use Rattle.cert_check.specs.declared.refusal.AnswerWhy.{AnswerWhy}
 use Rattle.gen_pla.specs.Generated.{generated}
 use Rattle.cli_words.specs.declared.job.Job.{Job}
-use Rattle.interp_run.specs.Due.{Due, IsDue, IsExhausted, checking, file_of, given_of, no_file, solving}
+use Rattle.interp_run.specs.Due.{Due, IsDue, checking, file_of, given_of, in_order, no_file, solving}
 use Rattle.interp_run.specs.Due.{IsDueChecking, contradicted, contradiction, contradiction_behind, judged, no_answer, silent, verdict}
 use Rattle.interp_run.specs.Due.{IsSolving, is_gen}
 use Rattle.lattice.specs.Rows.{IsConsistent}
@@ -22,11 +25,11 @@ use Rattle.cert_check.specs.Faults.{verdict_on}
 use Rattle.cert_check.specs.declared.refusal.AnswerRefusal.{AnswerRefusal}
 use Rattle.cert_check.specs.declared.refusal.AnswerRefusal.TheVariants.{Bad, Memory}
 use Rattle.cert_check.specs.declared.refusal.Verdict.{Verdict}
-use Rattle.interp_run.specs.Parts.{EndsUnsolved, EndsWithout, IsContradiction, due_unsolved, due_without, exhausted_without, no_memory}
-use Rattle.interp_run.specs.Parts.{no_memory_to_solve, nodes_over, refused_outcome}
+use Rattle.interp_run.specs.Parts.{EndsUnsolved, EndsWithout, IsContradiction, due_unsolved, due_without, no_memory}
+use Rattle.interp_run.specs.Parts.{no_memory_to_solve, refused_outcome}
 use Rattle.interp_run.specs.declared.outcome.Outcome.{Outcome}
 use Rattle.watch.specs.Notes.{WatcherState, left_after_all}
-use Rattle.interp_run.specs.Run.{Ends, HasText, IsAsked, IsRefused, Ran, as_due, exhausted, memory, read_fault, refused, status_of}
+use Rattle.interp_run.specs.Run.{Ends, HasText, IsAsked, IsRefused, Ran, as_due, memory, read_fault, refused, status_of}
 use Rattle.interp_run.specs.Run.{write_fault}
 use Rattle.std.specs.Result.{IsErrAnd, is_err}
 use Rattle.std.specs.List.{concat}
@@ -35,7 +38,7 @@ use Rattle.outside.specs.Causes.{GainsFront, GainsLess, GainsUnlessRose, HasCaus
 use Rattle.cert_check.specs.declared.refusal.Verdict.TheVariants.{Yes, No}
 use Rattle.watch.specs.declared.note.Note.{Note}
 use Rattle.watch.proofs.LeftAfter.{left_after_all-nil}
-use Rattle.interp_run.proofs.OneDue.{same_job, fits_with_text, same_due, check_silent, is_owed, shape, summary_silent}
+use Rattle.interp_run.proofs.OneDue.{same_job, same_due, check_silent, is_owed, shape, summary_silent}
 use Rattle.interp_run.proofs.Written.{appends_nothing, stopped_at}
 use Rattle.interp_run.specs.declared.outcome.Outcome.TheVariants as ends
 
@@ -45,11 +48,24 @@ module _ (job : Job) (reads : is_gen job.mode ≡ false) (bytes : List ℕ) wher
   pub file_too_long : MOST_BYTES < length bytes → file_of job bytes ≡ Err ends.TooLong
   file_too_long long = rw (reads, lt-ltb MOST_BYTES (length bytes) long) refl
 
-  pub file_read : (d : Description) → length bytes ≤ MOST_BYTES → reading_of bytes ≡ Ok d → file_of job bytes ≡ Ok d
-  file_read d few read = rw (reads, le-ltb MOST_BYTES (length bytes) few, read) refl
+  pub file_read : (d : Description) {file : Result Description Outcome} → length bytes ≤ MOST_BYTES → reading_of bytes ≡ Ok d
+      → in_order job.order d ≡ file
+      → file_of job bytes ≡ file
+  file_read d few read ordered = rw (reads, le-ltb MOST_BYTES (length bytes) few, read) ordered
 
   pub file_refused : (r : Refusal) → length bytes ≤ MOST_BYTES → reading_of bytes ≡ Err r → file_of job bytes ≡ Err (ends.Text r.line r.why)
   file_refused r few bad = rw (reads, le-ltb MOST_BYTES (length bytes) few, bad) refl
+
+-- the description by the order that a text asks for
+module _ (p : Pla) (text : List ℕ) where
+  pub by_order : IsOrder p.inputs (order_named (input_names p) text)
+      → in_order (Some text) (description p) ≡ Ok (arranged (description p) (order_named (input_names p) text))
+  by_order is = rw ((orders_by_test p.inputs (order_named (input_names p) text)).1 is) refl
+
+  pub by_no_order : (IsOrder p.inputs (order_named (input_names p) text) → ⊥) → in_order (Some text) (description p) ≡ Err ends.Order
+  by_no_order none =
+      let order = order_named (input_names p) text in
+      rw (false_from_ne_true (is_order p.inputs order) (λ is. none ((orders_by_test p.inputs order).0 is))) refl
 
 pub file_made : (job : Job) (bytes : List ℕ) (d : Description) → is_gen job.mode ≡ true → generated job.seed ≡ d → file_of job bytes ≡ Ok d
 file_made job bytes d gen is = rw (gen) (ap Ok is)
@@ -85,15 +101,9 @@ module _ (job : Job) (reads : is_gen job.mode ≡ false) (bytes read : List ℕ)
   pub due_of_read : {due : Due} → IsDue job read due → IsDue job bytes due
   due_of_read {due = due} h = ⊎_elim (λ same. subst (λ (b : List ℕ). IsDue job b due) same h) (λ long. too_long long.0 long.1 h) read_whole
 
-  exhausted_of_read : IsExhausted job read → IsExhausted job bytes
-  exhausted_of_read h =
-      ⊎_elim (λ same. subst (IsExhausted job) same h) (λ long. let bad = sym (file_too_long job reads read long.0) ∙ h.file in cc)
-      read_whole
-
   -- and so is an end without an answer
   pub without_of_read : {o : Outcome} → EndsWithout job read o → EndsWithout job bytes o
   without_of_read (due_without o due) = due_without o (due_of_read due)
-  without_of_read (exhausted_without h) = exhausted_without (exhausted_of_read h)
   without_of_read no_memory = no_memory
 
 -- ==== ends without an answer, from what the steps of a run found
@@ -106,8 +116,6 @@ module _ (job : Job) (bytes : List ℕ) (d : Description) (file : file_of job by
 
     pub unsolved_ends : {o : Outcome} → EndsUnsolved job d o → EndsWithout job bytes o
     unsolved_ends (due_unsolved o due) = due_without o (solving d (silent o) file mode due)
-    unsolved_ends (nodes_over ok over) = exhausted_without
-        (record { description = d; file = file; mode = mode; consistent = ok; over = over })
     unsolved_ends no_memory_to_solve = no_memory
 
 -- in mode check, with the text behind the description
@@ -218,7 +226,6 @@ module _ (words : List (List ℕ)) (bytes : List ℕ) (job : Job) (asked : IsAsk
   pub ends_without : {o : Outcome} (held : Option (List ℕ)) (states : List WatcherState) → EndsWithout job bytes o
       → Ends words bytes held held states states o
   ends_without held states (due_without o due) = as_due job (silent o) asked due (appends_nothing held) (sym (left_after_all-nil states))
-  ends_without held states (exhausted_without h) = exhausted job asked h (keeps_same held) refl
   ends_without held states no_memory = memory (keeps_same held) refl
 
   -- with a page, which is written whole
@@ -256,7 +263,6 @@ module _ (words : List (List ℕ)) (bytes : List ℕ) (old new : Option (List �
   others_taken (refused r keeps same) two seven = absurd (two refl)
   others_taken (as_due job due asked is gained left) two seven = λ r. r asked.0
   others_taken (write_fault job due asked is text front told) two seven = λ r. r asked.0
-  others_taken (exhausted job asked h keeps same) two seven = λ r. r asked.0
   others_taken (read_fault job asked keeps same) two seven = λ r. r asked.0
   others_taken (memory keeps same) two seven = absurd (seven refl)
 
@@ -268,7 +274,6 @@ module _ (words : List (List ℕ)) (bytes : List ℕ) (old new : Option (List �
       (shape job bytes is).1
   nothing_gained (write_fault job due asked is text front told) zero one nine = absurd (nine refl)
   nothing_gained (refused r keeps same) zero one nine = keeps
-  nothing_gained (exhausted job asked h keeps same) zero one nine = keeps
   nothing_gained (read_fault job asked keeps same) zero one nine = keeps
   nothing_gained (memory keeps same) zero one nine = keeps
 
@@ -280,7 +285,6 @@ module _ (words : List (List ℕ)) (bytes : List ℕ) (old new : Option (List �
       ⊎_elim (λ done. absurd (zero (ap status_of done))) (λ none. untold due.notes none left) (shape job bytes is).2
   nobody_told (write_fault job due asked is text front told) zero nine = absurd (nine refl)
   nobody_told (refused r keeps same) zero nine = same
-  nobody_told (exhausted job asked h keeps same) zero nine = same
   nobody_told (read_fault job asked keeps same) zero nine = same
   nobody_told (memory keeps same) zero nine = same
 
@@ -300,7 +304,6 @@ module _ (words : List (List ℕ)) (bytes : List ℕ) (old new : Option (List �
         untold (take told.count due.notes) (ap (take told.count) (silent_mode (asked_due other again is) mode)
         ∙ take_all told.count [] (omega arith)) told.left
     nobody_in_silence (refused r keeps same) mode = same
-    nobody_in_silence (exhausted other again h keeps same) mode = same
     nobody_in_silence (read_fault other again keeps same) mode = same
     nobody_in_silence (memory keeps same) mode = same
 
@@ -313,7 +316,5 @@ module _ (words : List (List ℕ)) (bytes : List ℕ) (old new : Option (List �
         let same : found ≡ due = same_due job bytes (asked_due other again so) is in
         inr (ap (λ (x : Due). status_of x.outcome) same, subst (λ (x : Due). Appends old new (concat x.pages)) same gained)
     written_or_memory due is text (write_fault other found again so t front told) calm quiet = absurd (quiet refl)
-    written_or_memory due is text (exhausted other again h keeps same) calm quiet =
-        absurd (fits_with_text other bytes h (subst (λ (j : Job). IsDue j bytes due) (same_job words job other asked again) is) text)
     written_or_memory due is text (read_fault other again keeps same) calm quiet = absurd (calm refl)
     written_or_memory due is text (memory keeps same) calm quiet = inl refl

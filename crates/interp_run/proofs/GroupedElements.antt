@@ -1,6 +1,6 @@
 -- The elements of each output beside its polynomial.
 use Rattle.std.specs.List.{All, flat_map, sum_by}
-use Rattle.std.proofs.Common.{◌≡◌, ◌⊎◌, inl, inr, ℕ, ◌+◌, ◌<◌, ◌≤◌, List, [], ◌∷◌, ◌++◌, length, map, reverse, take, drop, get_or}
+use Rattle.std.proofs.Common.{◌≡◌, ℕ, ◌+◌, ◌<◌, ◌≤◌, List, [], ◌∷◌, ◌++◌, length, map, reverse, take, drop, get_or}
 use Rattle.std.proofs.Common.{append_assoc, refl, sym, ap, ap₂, arith, subst, ◌∙◌}
 use Rattle.std.proofs.Math.Seq.{drop-append_seam, take-append_seam}
 use Rattle.std.proofs.lemmas.List.{append-nil, drop-map, drop_all, drop_more, length-append, length-map, length-reverse, map-append}
@@ -12,7 +12,7 @@ use Rattle.lattice.specs.Family.{Family}
 use Rattle.lattice.specs.Basis.{basis_element_of}
 use Rattle.lattice.specs.WorkingLists.{output_numbers}
 use Rattle.lattice.specs.declared.kind.Mode.{Mode}
-use Rattle.lattice.specs.declared.kind.Mode.TheVariants.{Anf, Basis, Check, Gen}
+use Rattle.lattice.specs.declared.kind.Mode.TheVariants.{Basis}
 use Rattle.node_store.specs.Stores.{State, Knows, family}
 use Rattle.node_store.specs.declared.store.Handle.{Handle}
 use Rattle.pla_reader.specs.Reading.{Description}
@@ -152,12 +152,6 @@ module _ (t : State) (d : Description) (hs : List Handle) where
 
 pub terms_behind : (t : State) (hs : List Handle) (k limit : ℕ) → terms_of t hs ≤ limit → terms_of t (drop k hs) ≤ limit
 terms_behind t hs k limit few = omega (arith, sum_by-take-drop (λ h. length (family t h)) hs k)
-
-pub leads_bare : (d : Description) (mode : Mode) (lists : List Family) → (mode ≡ Anf) ⊎ ((mode ≡ Check) ⊎ (mode ≡ Gen))
-    → map reverse lists ≡ map (λ _. []) (output_numbers d.outputs) → AreLeads d mode lists
-leads_bare d mode lists (inl e) are = subst (λ m. AreLeads d m lists) (sym e) are
-leads_bare d mode lists (inr (inl e)) are = subst (λ m. AreLeads d m lists) (sym e) are
-leads_bare d mode lists (inr (inr e)) are = subst (λ m. AreLeads d m lists) (sym e) are
 
 -- ---- one output after the other
 

@@ -1,9 +1,9 @@
--- What is due for a worked file of two points over two inputs, in modes anf, basis and check: the premises of the headline
--- are met.
-use Rattle.interp_run.specs.declared.describe.TheConstants.{MOST_BYTES}
+-- What is due for a worked file of two points over two inputs, in modes anf, basis and check, and by another order of the inputs:
+-- the premises of the headline are met.
+use Rattle.run_parts.specs.declared.describe.TheConstants.{MOST_BYTES}
 use Rattle.cert_check.specs.declared.checking.TheConstants.{MOST_INPUTS}
 use Rattle.std.proofs.Common.{◌≡◌, subst, sym, refl, ℕ, ◌≤◌, ◌^◌, ◌⊎◌, List, [], ◌∷◌, ◌++◌, codes, Ok, length, drop, zero, suc}
-use Rattle.std.proofs.Common.{inl, inr, lit<, lit≤, arith}
+use Rattle.std.proofs.Common.{inl, inr, lit<, lit≤, arith, Err, None, Option, Some}
 use Rattle.std.specs.List.Sorted.{IsStrictlyIncreasing}
 use Rattle.std.proofs.lemmas.Bool.{false≢true}
 use Rattle.std.proofs.lemmas.List.Elements.{All-nil, All-cons}
@@ -26,10 +26,12 @@ use Rattle.pla_reader.specs.Lines.{content, words_of}
 use Rattle.pla_reader.specs.Grammar.{kind_named, command_fault, arguments_on, arguments_of, symbols, size_fault, kind_fault, names_fault}
 use Rattle.pla_reader.specs.Grammar.{row_fault, fault_of}
 use Rattle.pla_reader.specs.Description.{FitsSizes}
+use Rattle.pla_reader.specs.Orders.{arranged_mask, is_order, names_in_order, order_named, position_named}
 use Rattle.pla_reader.specs.declared.pla.Pla.{Pla}
 use Rattle.pla_reader.specs.Reading.{Description, input_mask, output_mask, row_of, rows_of, up_to_end, first_fault, description}
 use Rattle.pla_reader.specs.Reading.{description_of, reading_of, bytes_taken}
-use Rattle.anf_printer.specs.Text.{numbered, printed_names, variables_of, monomial_text, sum_text, line, basis_lines, output_text, texts_of}
+use Rattle.pla_reader.specs.PrintedNames.{numbered, printed_names}
+use Rattle.anf_printer.specs.Text.{variables_of, monomial_text, sum_text, line, basis_lines, output_text, texts_of}
 use Rattle.cert_check.specs.Faults.{first_verdict, misses, is_one_in, greatest_of, is_comparable, is_below_last}
 use Rattle.cert_check.specs.Faults.{is_divided, miscounts, basis_checks, reduced_checks, output_checks, checks_from}
 use Rattle.cert_check.specs.Faults.{verdict_on}
@@ -39,16 +41,18 @@ use Rattle.cert_check.specs.Reading.{with_line, read_on}
 use Rattle.cert_check.specs.declared.answer.GivenOutput.{GivenOutput}
 use Rattle.cert_check.specs.declared.refusal.Verdict.{Verdict}
 use Rattle.cert_check.specs.declared.refusal.Verdict.TheVariants.{Yes}
+use Rattle.cli_words.specs.declared.job.Job.{Job}
 use Rattle.watch.specs.declared.note.Note.{Note}
 use Rattle.interp_run.specs.Answers.{first_count, second_count, last_nodes, texts, notes_from}
-use Rattle.interp_run.specs.Due.{IsDue, IsDueChecking, IsDueSolving, checking, judged, solved, solving}
+use Rattle.interp_run.specs.Due.{IsDue, IsDueChecking, IsDueSolving, checking, in_order, judged, no_file, silent, solved, solving}
 use Rattle.interp_run.specs.Due.{verdict}
 use Rattle.interp_run.proofs.OneDue.{solves_without_gen}
-use Rattle.interp_run.specs.Laws.{two_points, usual_job}
+use Rattle.interp_run.specs.Laws.{ordered_job, two_points, usual_job}
 use Rattle.interp_run.specs.declared.outcome.Outcome.TheVariants as ends
 use Rattle.interp_run.proofs.LimitsPassed.{within_limits}
 use Rattle.interp_run.proofs.Endings.{file_read, given_read}
-use Rattle.interp_run.proofs.SolvedAnswers.{answers_are, answers_for}
+use Rattle.interp_run.specs.Phases.{answers_for}
+use Rattle.interp_run.proofs.SolvedAnswers.{first_within_last}
 
 abbrev first_row : Row
 first_row = record { line = 6; care = 3; value = 3; on = 1; off = 0; dc = 0 }
@@ -140,29 +144,33 @@ short = lit≤ tt
 
 -- ---- modes anf and basis
 
-abbrev Fits : Mode → (pages : List (List ℕ)) → (notes : List Note) → Type 0
-Fits mode pages notes =
-    (first_count (answers_for d mode) ≤ 1000000) × (last_nodes d mode ≤ 2 ^ 19) × (second_count (answers_for d mode) ≤ 1000000)
-    × (texts d mode (answers_for d mode) ≡ pages) × (notes_from 1 (answers_for d mode) ≡ notes)
+abbrev Fits : Description → Mode → (pages : List (List ℕ)) → (notes : List Note) → Type 0
+Fits e mode pages notes =
+    (first_count (answers_for e mode) ≤ 1000000) × (last_nodes e mode ≤ 2 ^ 19) × (second_count (answers_for e mode) ≤ 1000000)
+    × (texts e mode (answers_for e mode) ≡ pages) × (notes_from 1 (answers_for e mode) ≡ notes)
 
-due_of : (mode : Mode) (pages : List (List ℕ)) (notes : List Note) → (mode ≡ Anf) ⊎ (mode ≡ Basis) → Fits mode pages notes
-    → IsDue (usual_job mode) two_points (record { outcome = ends.Done; pages = pages; notes = notes })
-due_of mode pages notes solves fits =
+-- by an order, or without one
+due_of : (mode : Mode) (order : Option (List ℕ)) (e : Description) (pages : List (List ℕ)) (notes : List Note)
+    → (mode ≡ Anf) ⊎ (mode ≡ Basis) → in_order order d ≡ Ok e → IsConsistent e.inputs e.outputs e.rows → Fits e mode pages notes
+    → IsDue (record (usual_job mode) { order = order }) two_points (record { outcome = ends.Done; pages = pages; notes = notes })
+due_of mode order e pages notes solves ordered ok fits =
+    let job : Job = record (usual_job mode) { order = order } in
     let modes = solves_without_gen mode solves in
-    let is : solved (usual_job mode) d (answers_for d mode) ≡ record { outcome = ends.Done; pages = pages; notes = notes } =
+    let is : solved job e (answers_for e mode) ≡ record { outcome = ends.Done; pages = pages; notes = notes } =
     rw (modes.1) (λ i. record { outcome = ends.Done; pages = fits.3 i; notes = fits.4 i }) in
-    solving d _ (file_read (usual_job mode) modes.1 two_points d short reads) modes.0
-    (subst (IsDueSolving (usual_job mode) d) is
-    (within_limits (usual_job mode) d (answers_for d mode) (answers_are d mode consistent) fits.0 fits.1 fits.2))
+    solving e _ (file_read job modes.1 two_points d short reads ordered) modes.0
+    (subst (IsDueSolving job e) is
+    (within_limits job e ok
+    (λ basis. record { nodes = let within = first_within_last e mode in omega (arith, within, fits.1); terms = fits.0 }) fits.1 fits.2))
 
-anf_fits : Fits Anf (codes "f = b\n" ∷ []) (record { output = 1; terms = 1; basis = 0 } ∷ [])
+anf_fits : Fits d Anf (codes "f = b\n" ∷ []) (record { output = 1; terms = 1; basis = 0 } ∷ [])
 unfolding rows p working_set distinct ones_list interpolation_list cover_list care_list output_list first_phase second_phase sub includes
     interpolate upper_zeros upper_ones lower_points ones_of combine family_where numbers_below low_cofactor high_cofactor join has value
     divides cube cover rows_with points_where in_cube are_plain is_plain numbered printed_names variables_of monomial_text sum_text
     line basis_lines output_text texts_of notes_from
 anf_fits = (lit≤ tt, lit≤ tt, lit≤ tt, refl, refl)
 
-basis_fits : Fits Basis (codes "f = b\n0 = a + b\n" ∷ []) (record { output = 1; terms = 1; basis = 1 } ∷ [])
+basis_fits : Fits d Basis (codes "f = b\n0 = a + b\n" ∷ []) (record { output = 1; terms = 1; basis = 1 } ∷ [])
 unfolding rows p working_set distinct ones_list interpolation_list cover_list care_list output_list first_phase second_phase sub includes
     interpolate upper_zeros upper_ones lower_points ones_of combine family_where numbers_below low_cofactor high_cofactor join has value
     divides cube cover rows_with points_where in_cube are_plain is_plain numbered printed_names variables_of monomial_text sum_text
@@ -172,11 +180,40 @@ basis_fits = (lit≤ tt, lit≤ tt, lit≤ tt, refl, refl)
 
 pub due_in_anf : IsDue (usual_job Anf) two_points
     (record { outcome = ends.Done; pages = codes "f = b\n" ∷ []; notes = record { output = 1; terms = 1; basis = 0 } ∷ [] })
-due_in_anf = due_of Anf _ _ (inl refl) anf_fits
+due_in_anf = due_of Anf None d _ _ (inl refl) refl consistent anf_fits
 
 pub due_in_basis : IsDue (usual_job Basis) two_points
     (record { outcome = ends.Done; pages = codes "f = b\n0 = a + b\n" ∷ []; notes = record { output = 1; terms = 1; basis = 1 } ∷ [] })
-due_in_basis = due_of Basis _ _ (inr refl) basis_fits
+due_in_basis = due_of Basis None d _ _ (inr refl) refl consistent basis_fits
+
+-- ---- by another order
+
+-- the description over the variables
+abbrev turned : Description
+turned = record d { in_names = codes "b" ∷ codes "a" ∷ [] }
+
+turns : in_order (Some (codes "b,a")) d ≡ Ok turned
+unfolding rows p is_order has order_named position_named printed_names are_plain is_plain includes names_in_order arranged_mask input_mask
+    divides
+turns = refl
+
+turned_fits : Fits turned Anf (codes "f = a\n" ∷ []) (record { output = 1; terms = 1; basis = 0 } ∷ [])
+unfolding rows p working_set distinct ones_list interpolation_list cover_list care_list output_list first_phase second_phase sub includes
+    interpolate upper_zeros upper_ones lower_points ones_of combine family_where numbers_below low_cofactor high_cofactor join has value
+    divides cube cover rows_with points_where in_cube are_plain is_plain numbered printed_names variables_of monomial_text sum_text
+    line basis_lines output_text texts_of notes_from
+turned_fits = (lit≤ tt, lit≤ tt, lit≤ tt, refl, refl)
+
+pub due_by_order : IsDue (ordered_job Anf (codes "b,a")) two_points
+    (record { outcome = ends.Done; pages = codes "f = a\n" ∷ []; notes = record { output = 1; terms = 1; basis = 0 } ∷ [] })
+due_by_order = due_of Anf (Some (codes "b,a")) turned _ _ (inl refl) turns consistent turned_fits
+
+no_order : in_order (Some (codes "b")) d ≡ Err ends.Order
+unfolding rows p is_order order_named position_named printed_names are_plain is_plain includes
+no_order = refl
+
+pub due_without_order : IsDue (ordered_job Anf (codes "b")) two_points (silent ends.Order)
+due_without_order = no_file ends.Order (file_read (ordered_job Anf (codes "b")) refl two_points d short reads no_order)
 
 -- ---- mode check
 
@@ -215,7 +252,7 @@ short_too = lit≤ tt
 
 pub due_in_check : IsDue (usual_job Check) (two_points ++ text) (judged Yes)
 due_in_check =
-    checking p (judged Yes) (file_read (usual_job Check) refl (two_points ++ text) (description p) short_too reads_too) refl
+    checking p (judged Yes) (file_read (usual_job Check) refl (two_points ++ text) (description p) short_too reads_too refl) refl
     (subst (λ (t : List ℕ). IsDueChecking p t (judged Yes)) (sym text_is)
     (subst (λ (v : Verdict). IsDueChecking p text (judged v)) verdict_is
     (verdict answer (given_read p text answer few answered) consistent)))

@@ -1,5 +1,6 @@
 mod PhaseLists
 mod DoneTasks
+mod CoverLists
 mod TaskFamilies
 mod TaskJobs
 mod SecondTasks

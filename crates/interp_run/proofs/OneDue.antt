@@ -1,8 +1,8 @@
 -- Words ask for one job at most. Exactly one thing is due for a job and bytes that have a file; it is no fault of the run.
-use Rattle.interp_run.specs.declared.describe.TheConstants.{MOST_BYTES}
+use Rattle.run_parts.specs.declared.describe.TheConstants.{MOST_BYTES}
 use Rattle.cert_check.specs.declared.checking.TheConstants.{MOST_INPUTS}
-use Rattle.std.proofs.Common.{◌≡◌, ◌≢◌, ◌∙◌, ap, ℕ, length, List, [], ◌∷◌, Option, Some, refl, sym, inl, inr, ◌⊎◌, ⊎_elim}
-use Rattle.std.proofs.Common.{arith, subst, Bool, true, false, ap₂, ◌+◌, ◌^◌, ◌≤◌, ◌++◌, get_or, codes, None, drop}
+use Rattle.std.proofs.Common.{◌≡◌, ◌≢◌, ◌∙◌, ap, ℕ, length, List, [], ◌∷◌, Option, Some, refl, sym, inl, inr, ◌⊎◌}
+use Rattle.std.proofs.Common.{arith, subst, Bool, true, false, ap₂, ◌+◌, ◌^◌, ◌++◌, get_or, codes, None, drop}
 use Rattle.std.specs.Prelude.{Result, Ok, Err, if◌then◌else◌, nat_lt, length, ◌↔◌, IsNone, IfSome}
 use Rattle.std.specs.Result.{result_map_both}
 use Rattle.lattice.specs.declared.kind.Mode.{Mode}
@@ -11,18 +11,21 @@ use Rattle.gen_pla.specs.Generated.{generated}
 use Rattle.cli_words.specs.CommandLine.{mode_name}
 use Rattle.cli_words.specs.declared.job.Job.{Job}
 use Rattle.interp_run.specs.Run.{HasText, IsAsked}
-use Rattle.std.proofs.lemmas.Bool.{false≢true, cases_Bool, lt-ltb, cases_lt}
+use Rattle.std.proofs.lemmas.Bool.{false≢true, cases_Bool}
 use Rattle.pla_reader.specs.Reading.{Description, reading_of, description, bytes_taken}
+use Rattle.pla_reader.specs.Orders.{is_order}
+use Rattle.pla_reader.specs.PrintedNames.{printed_names, input_names, output_names}
 use Rattle.pla_reader.specs.declared.pla.Pla.{Pla}
+use Rattle.pla_reader.specs.declared.refusal.Refusal.{Refusal}
 use Rattle.cert_check.specs.Faults.{verdict_on, checks_from, first_verdict, output_checks, Check as Test}
 use Rattle.cert_check.specs.Reading.{answer_reading, read_on}
 use Rattle.cert_check.specs.declared.refusal.Verdict.{Verdict}
 use Rattle.cert_check.specs.declared.refusal.Verdict.TheVariants.{Yes, No}
 use Rattle.interp_run.specs.Due.{Due, IsDue, IsDueChecking, IsDueSolving, checking, contradiction, contradiction_behind}
 use Rattle.interp_run.specs.Due.{first_passed, has_answers, judged}
-use Rattle.interp_run.specs.Due.{no_answer, no_file, silent, solving, verdict, IsExhausted, contradicted}
-use Rattle.interp_run.specs.Due.{IsSolving, file_of, given_of, is_gen, solved}
-use Rattle.interp_run.specs.Parts.{EndsWithout, due_without, exhausted_without, no_memory}
+use Rattle.interp_run.specs.Due.{no_answer, no_file, silent, solving, verdict, contradicted}
+use Rattle.interp_run.specs.Due.{IsSolving, file_of, given_of, is_gen, read_in_order, solved}
+use Rattle.interp_run.specs.Parts.{EndsWithout, due_without, no_memory}
 use Rattle.interp_run.specs.declared.outcome.Outcome.{Outcome}
 use Rattle.std.proofs.lemmas.List.{same_lists}
 use Rattle.std.proofs.lemmas.Option.{slice_get-get_or}
@@ -31,13 +34,14 @@ use Rattle.lattice.specs.WorkingLists.{care_set, is_basis}
 use Rattle.lattice.specs.declared.row.Row.{Row}
 use Rattle.lattice.proofs.Polynomials.{IsLeast-unique, IsReducedBasis-unique, consistent_by_rows}
 use Rattle.pla_reader.specs.Lines.{lines_of}
-use Rattle.anf_printer.specs.Text.{Answer, printed_names, input_names, output_names}
+use Rattle.anf_printer.specs.Text.{Answer}
 use Rattle.cube_sets.specs.Clashes.{IsClash, IsLeastOf, IsNotAfter}
 use Rattle.cube_sets.specs.declared.clash.Clash.{Clash}
 use Rattle.cert_check.specs.declared.answer.GivenOutput.{GivenOutput}
 use Rattle.interp_run.specs.Answers.{AreAnswers, IsAnswerOf, first_count, second_count, first_nodes, last_nodes}
-use Rattle.interp_run.proofs.SolvedAnswers.{answers_are, answers_for}
-use Rattle.anf_printer.proofs.PrintedLists.{count_printed}
+use Rattle.interp_run.specs.Phases.{answers_for}
+use Rattle.interp_run.proofs.SolvedAnswers.{answers_are}
+use Rattle.pla_reader.proofs.ArrangedInputs.{count_printed}
 use Rattle.cert_check.specs.Right.{IsRight}
 use Rattle.cert_check.proofs.Verdicts.{answer_fits, yes_where_right}
 use Rattle.interp_run.specs.declared.outcome.Outcome.TheVariants as ends
@@ -67,7 +71,8 @@ same_job words a b x y =
     let nodes : a.nodes ≡ b.nodes = some_is (sym x.1.nodes ∙ y.1.nodes) in
     let terms : a.terms ≡ b.terms = some_is (sym x.1.terms ∙ y.1.terms) in
     let seed : a.seed ≡ b.seed = some_is (sym x.1.seed ∙ y.1.seed) in
-    λ i. record { mode = mode i; workers = workers i; nodes = nodes i; terms = terms i; seed = seed i }
+    let order : a.order ≡ b.order = sym x.1.order ∙ y.1.order in
+    λ i. record { mode = mode i; workers = workers i; nodes = nodes i; terms = terms i; seed = seed i; order = order i }
 
 -- a mode solves or checks
 pub mode_cases : (m : Mode) → IsSolving m ⊎ (m ≡ Check)
@@ -101,12 +106,25 @@ file_owed : {T : Type 0} (made : Bool) (file : T) (o : Outcome) (read : Result T
 file_owed true file o read h e = cc
 file_owed false file o read h e = h e
 
-error_owed : {T E : Type 0} (test : Bool) (first o : Outcome) (end : E → Outcome) (r : Result T E) → is_owed first ≡ true
-    → ((e : E) → is_owed (end e) ≡ true)
-    → (if test then Err first else result_map_both (λ x. x) end r) ≡ Err o → is_owed o ≡ true
-error_owed true first o end r a b e = let same : first ≡ o = cc in ap is_owed (sym same) ∙ a
-error_owed false first o end (Ok x) a b e = cc
-error_owed false first o end (Err y) a b e = let same : end y ≡ o = cc in ap is_owed (sym same) ∙ b y
+error_owed : {T : Type 0} (test : Bool) (first o : Outcome) (rest : Result T Outcome) → is_owed first ≡ true
+    → (rest ≡ Err o → is_owed o ≡ true)
+    → (if test then Err first else rest) ≡ Err o → is_owed o ≡ true
+error_owed true first o rest a b e = let same : first ≡ o = cc in ap is_owed (sym same) ∙ a
+error_owed false first o rest a b e = b e
+
+given_owed : {T E : Type 0} (o : Outcome) (end : E → Outcome) (r : Result T E) → ((e : E) → is_owed (end e) ≡ true)
+    → result_map_both (λ x. x) end r ≡ Err o → is_owed o ≡ true
+given_owed o end (Ok x) b e = cc
+given_owed o end (Err y) b e = let same : end y ≡ o = cc in ap is_owed (sym same) ∙ b y
+
+disordered_owed : {T : Type 0} (test : Bool) (x : T) (o : Outcome) → (if test then Ok x else Err ends.Order) ≡ Err o → is_owed o ≡ true
+disordered_owed true x o e = cc
+disordered_owed false x o e = let same : ends.Order ≡ o = cc in ap is_owed (sym same)
+
+read_owed : (order : Option (List ℕ)) (r : Result Description Refusal) (o : Outcome) → read_in_order order r ≡ Err o → is_owed o ≡ true
+read_owed None (Ok d) o e = cc
+read_owed (Some text) (Ok d) o e = disordered_owed (is_order d.inputs _) _ o e
+read_owed order (Err refusal) o e = let same : ends.Text refusal.line refusal.why ≡ o = cc in ap is_owed (sym same)
 
 -- the modes that solve are not the one that checks
 pub other_mode : (m : Mode) → IsSolving m → m ≡ Check → ⊥
@@ -150,14 +168,17 @@ module _ (job : Job) where
       (solved_shape (is_gen job.mode) _ _ (refl, inl (omega arith), inl refl) (refl, inl (omega arith), inl refl))
 
   checking_shape : (p : Pla) (text : List ℕ) {due : Due} → IsDueChecking p text due → Shape due × (due.notes ≡ [])
-  checking_shape p text (no_answer o e) =
-      (silent_shape o (error_owed (nat_lt MOST_INPUTS p.inputs) ends.TooWide o _ (answer_reading p text) refl (λ r. refl) e), refl)
+  checking_shape p text (no_answer o e) = (
+    silent_shape o (error_owed (nat_lt MOST_INPUTS p.inputs) ends.TooWide o _ refl
+        (given_owed o _ (answer_reading p text) (λ r. refl)) e),
+    refl,
+  )
   checking_shape p text (contradiction_behind answer c e least) = (silent_shape _ refl, refl)
   checking_shape p text (verdict answer e ok) = (judged_shape (verdict_on p answer), judged_notes (verdict_on p answer))
 
   pub shape : (bytes : List ℕ) {due : Due} → IsDue job bytes due → Shape due
   shape bytes (no_file o e) = silent_shape o (file_owed (is_gen job.mode) (generated job.seed) o _
-      (error_owed (nat_lt MOST_BYTES (length bytes)) ends.TooLong o _ (reading_of bytes) refl (λ r. refl)) e)
+      (error_owed (nat_lt MOST_BYTES (length bytes)) ends.TooLong o _ refl (read_owed job.order (reading_of bytes) o)) e)
   shape bytes (solving d due e mode is) = solving_shape d is
   shape bytes (checking p due e mode is) = (checking_shape p _ is).0
 
@@ -215,17 +236,7 @@ module _ (job : Job) where
   without_owed bytes (due_without o is) =
       let fault = λ (p : Outcome) (bad : is_owed p ≡ false) (e : o ≡ p). false≢true (sym bad ∙ (sym (ap is_owed e) ∙ (shape bytes is).0)) in
       (fault ends.Usage refl, fault ends.ReadFault refl, fault ends.WriteFault refl)
-  without_owed bytes (exhausted_without h) = (λ e. cc, λ e. cc, λ e. cc)
   without_owed bytes no_memory = (λ e. cc, λ e. cc, λ e. cc)
-
--- a job of mode check
-checking_job : Job
-checking_job = record { mode = Check; workers = 1; nodes = 4; terms = 1; seed = 0 }
-
-pub unjudged_owed : (bytes : List ℕ) {o : Outcome} → ((job : Job) → job.mode ≡ Check → EndsWithout job bytes o) → (o ≢ ends.Usage)
-    × (o ≢ ends.ReadFault) × (o ≢ ends.WriteFault)
-unfolding checking_job
-unjudged_owed bytes h = without_owed checking_job bytes (h checking_job refl)
 
 pub checked_owed : (v : Verdict) → ((judged v).outcome ≢ ends.Usage) × ((judged v).outcome ≢ ends.ReadFault)
     × ((judged v).outcome ≢ ends.WriteFault)
@@ -284,13 +295,6 @@ one_least holds c e a b = neither_after c e (a.least e b.clash) (b.least c a.cla
 
 -- ---- one end in modes anf and basis
 
--- where the third limit is passed there is no answer
-no_text : (a b : Bool) (nodes terms : ℕ) → HasText (if a then silent (ends.Exhausted nodes) else (if b then silent (ends.Terms terms)
-    else silent (ends.Exhausted nodes))).outcome → ⊥
-no_text true b nodes terms text = omega (arith, text)
-no_text false true nodes terms text = omega (arith, text)
-no_text false false nodes terms text = omega (arith, text)
-
 module _ (job : Job) (d : Description) where
   abbrev IsFound : Due → Type 0
   IsFound due = ((c : Clash) × IsLeastOf (IsClash d.inputs d.outputs d.rows d.rows) c × (due ≡ contradicted c))
@@ -303,13 +307,6 @@ module _ (job : Job) (d : Description) where
     ap (first_passed job d)
         (same_answers d job.mode answers (answers_for d job.mode) are (answers_are d job.mode are.consistent)),
   )
-
-  fits_solved : {due : Due} → IsDueSolving job d due → HasText due.outcome → last_nodes d job.mode ≤ 2 ^ job.nodes
-  fits_solved (contradiction c least) text = absurd (omega (arith, text))
-  fits_solved (has_answers answers are) text = ⊎_elim
-      (λ over. absurd (no_text (nat_lt (2 ^ job.nodes) (first_nodes d job.mode)) (nat_lt job.terms (first_count answers)) (2 ^ job.nodes)
-      job.terms (rw (lt-ltb (2 ^ job.nodes) (last_nodes d job.mode) over) at text)))
-      (λ last. last) (cases_lt (2 ^ job.nodes) (last_nodes d job.mode))
 
   same_found : {a b : Due} → IsFound a → IsFound b → a ≡ b
   same_found (inl x) (inl y) = x.2 ∙ (ap contradicted (one_least _ x.0 y.0 x.1 y.1) ∙ sym y.2)
@@ -373,16 +370,6 @@ module _ (job : Job) (bytes : List ℕ) where
       (found job f so)
   same_due (checking p due x mode is) (checking q other y mode' so) = same_checking p q
       (ok_is (description p) (description q) (file_of job bytes) x y) _ is so
-
-  -- a run that has an answer fits into its slots
-  pub fits_with_text : {due : Due} → IsExhausted job bytes → IsDue job bytes due → HasText due.outcome → ⊥
-  fits_with_text h (no_file o x) text = let bad = sym x ∙ h.file in cc
-  fits_with_text h (checking p due x checks is) text = other_mode job.mode h.mode checks
-  fits_with_text h (solving d due x mode is) text =
-      let same : last_nodes h.description job.mode ≡ last_nodes d job.mode = ap (λ (g : Description). last_nodes g job.mode)
-      (ok_is h.description d (file_of job bytes) h.file x) in
-      let last = fits_solved job d is text in
-      omega (arith, same, last, h.over)
 
 -- ==== something is due for each job on a file, and its verdict is yes exactly where the answer is right
 

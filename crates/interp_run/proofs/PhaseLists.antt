@@ -1,7 +1,7 @@
 -- The families that the two phases need, beside those of the care sets and of the tasks.
 use Rattle.std.specs.List.{flat_map}
-use Rattle.std.proofs.Common.{◌≡◌, ℕ, zero, suc, ◌<◌, Bool, true, false, cond, List, [], ◌∷◌, ◌++◌, get_or, length, map}
-use Rattle.std.proofs.Common.{refl, sym, ap, ap₂, ◌∙◌, arith}
+use Rattle.std.proofs.Common.{◌≡◌, ℕ, Bool, true, false, cond, List, [], ◌∷◌, ◌++◌, map}
+use Rattle.std.proofs.Common.{refl, sym, ap, ap₂, ◌∙◌}
 use Rattle.std.proofs.lemmas.List.{flat_map_more}
 use Rattle.std.proofs.lemmas.List.Concat.{flat_map-append}
 use Rattle.std.proofs.lemmas.List.Folds.{flat_map-map}
@@ -25,13 +25,6 @@ all_of_all : {X Y : Type 0} (list : Y → List Family) (f : X → List Y) (xs : 
     → flat_map list (flat_map f xs) ≡ flat_map (λ x. flat_map list (f x)) xs
 all_of_all list f [] = refl
 all_of_all list f (x ∷ xs) = flat_map-append list (f x) (flat_map f xs) ∙ ap (λ rest. flat_map list (f x) ++ rest) (all_of_all list f xs)
-
--- the list of an element is a part of the whole
-pub part_at : {X : Type 0} (list : X → List Family) (xs : List X) (i : ℕ) (d : X) → i < length xs
-    → Covers (flat_map list xs) (list (get_or xs i d))
-part_at list [] i d less f h = absurd (omega arith)
-part_at list (x ∷ xs) zero d less f h = Has-append_left (list x) (flat_map list xs) f h
-part_at list (x ∷ xs) (suc i) d less f h = Has-append_right (list x) (flat_map list xs) f (part_at list xs i d (omega (arith, less)) f h)
 
 -- lists that cover others one by one cover all of them
 each_covers : {X : Type 0} (more list : X → List Family) → ((x : X) → Covers (more x) (list x)) → (xs : List X)

@@ -1,7 +1,7 @@
 -- The answers of a consistent description, and what a store holds that found them.
 use Rattle.std.proofs.Common.{◌≡◌, ℕ, ◌+◌, ◌<◌, ◌≤◌, Bool, true, false, cond, List, [], ◌∷◌, ◌++◌, length, map, Option, Some}
 use Rattle.std.proofs.Common.{None, ◌&&◌, not, is_some, IfNone, IfSome, refl, sym, ap, ap₂, subst, ◌∙◌}
-use Rattle.std.proofs.Common.{arith}
+use Rattle.std.proofs.Common.{append-nil, arith}
 use Rattle.std.specs.List.{All, sum_by, flat_map}
 use Rattle.std.proofs.lemmas.List.Folds.{fold-map}
 use Rattle.std.proofs.lemmas.List.Sums.{sum_by-append, sum_by-cons}
@@ -24,7 +24,7 @@ use Rattle.node_store.specs.declared.store.Handle.{Handle}
 use Rattle.pla_reader.specs.Reading.{Description}
 use Rattle.anf_printer.specs.Text.{Answer}
 use Rattle.interp_run.specs.Answers.{IsAnswerOf, AreAnswers, first_count, second_count, first_nodes, last_nodes}
-use Rattle.interp_run.specs.Phases.{AreOf, IsSecond, KnowsSolved, answer_for, answer_in, first_tasks, leads_in, ones_in}
+use Rattle.interp_run.specs.Phases.{AreOf, IsSecond, KnowsSolved, answer_for, answer_in, answers_for, first_tasks, leads_in, ones_in}
 use Rattle.interp_run.specs.Phases.{points_in, second_terms, task, task_family, terms_of, zeros_in}
 use Rattle.interp_run.specs.declared.tasks.Task.{Task}
 use Rattle.interp_run.specs.declared.tasks.Part.TheVariants.{Leads, Polynomial}
@@ -33,9 +33,6 @@ use Rattle.interp_run.proofs.CountedTerms.{solved_terms, All_known-later, famili
 use Rattle.interp_run.proofs.OutputLists.{at_output, length-output_numbers}
 
 -- ---- the answers
-
-abbrev pub answers_for : Description → Mode → List Answer
-answers_for d mode = map (answer_for d mode) (output_numbers d.outputs)
 
 where_family : (test : Bool → Bool → Bool → Bool) (d : Description) (output : ℕ)
     → IsFamily d.inputs (points_where test d.inputs d.rows output)
@@ -88,6 +85,12 @@ part_within n part rest = covered_length (working_set n part) (working_set n (pa
 pub first_within_last : (d : Description) (mode : Mode) → first_nodes d mode ≤ last_nodes d mode
 unfolding second_phase
 first_within_last d mode = part_within d.inputs (first_phase d.inputs d.outputs d.kind d.rows mode) _
+
+-- but in mode basis phase 1 is all
+pub first_is_last : (d : Description) (mode : Mode) → is_basis mode ≡ false → last_nodes d mode ≡ first_nodes d mode
+unfolding second_phase
+first_is_last d mode bare =
+    ap (λ list. length (working_set d.inputs list)) (rw (bare) (append-nil (first_phase d.inputs d.outputs d.kind d.rows mode)))
 
 -- a working set that is held fits into the slots
 pub fits : (s : State) (n : ℕ) (list : List Family) → IsSound s → Covers s.held (working_set n list)
@@ -207,6 +210,35 @@ module _ (d : Description) (mode : Mode) (t : State) (solved : List Solved) (are
   -- the terms that are counted are those of the answers
   pub answers_counted : second_terms t solved ≡ second_count (answers_for d mode)
   answers_counted = second_counted t solved ∙ ap second_count are.answers
+
+-- ---- without bases
+
+module _ (d : Description) (mode : Mode) (bare : is_basis mode ≡ false) where
+  no_basis : (o : ℕ) → (answer_for d mode o).basis ≡ []
+  no_basis o = rw (bare) refl
+
+  pub no_elements : (os : List ℕ) → sum_by (λ (a : Answer). length a.basis) (map (answer_for d mode) os) ≡ 0
+  no_elements [] = refl
+  no_elements (o ∷ os) = omega (
+    arith,
+    sum_by-cons (λ (a : Answer). length a.basis) (answer_for d mode o) (map (answer_for d mode) os),
+    ap length (no_basis o),
+    no_elements os,
+  )
+
+  same_counts : (os : List ℕ) → second_count (map (answer_for d mode) os) ≡ first_count (map (answer_for d mode) os)
+  same_counts [] = refl
+  same_counts (o ∷ os) = omega (
+    arith,
+    sum_by-cons (λ (a : Answer). length a.polynomial + sum_by length a.basis) (answer_for d mode o) (map (answer_for d mode) os),
+    sum_by-cons (λ (a : Answer). length a.polynomial + length a.basis) (answer_for d mode o) (map (answer_for d mode) os),
+    ap (sum_by length) (no_basis o),
+    ap length (no_basis o),
+    same_counts os,
+  )
+
+  pub second_is_first : second_count (answers_for d mode) ≡ first_count (answers_for d mode)
+  second_is_first = same_counts (output_numbers d.outputs)
 
 -- ---- the counts
 

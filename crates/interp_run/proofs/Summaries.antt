@@ -3,7 +3,7 @@ use Rattle.std.proofs.Common.{◌≡◌, ℕ, suc, ◌+◌, ◌<◌, List, [], �
 use Rattle.std.proofs.Common.{append-nil, append_assoc, ap, subst, sym, ◌∙◌, arith}
 use Rattle.std.proofs.lemmas.List.{length-map, take_more, length-reverse, map-append}
 use Rattle.std.specs.List.{enumerate_from, flat_map}
-use Rattle.anf_printer.specs.Text.{Answer, answer_of}
+use Rattle.anf_printer.specs.Text.{Answer, shown_answer}
 use Rattle.anf_printer.specs.declared.answer.Shown.{Shown}
 use Rattle.std.proofs.Common.{◌≤◌, ◌^◌, Bool, not, refl, Option, Some, None}
 use Rattle.std.specs.Prelude.{IfNone, IfSome, IsSome}
@@ -31,26 +31,28 @@ lines_more output (b ∷ answers) a =
     ∙ sym (append_assoc (summary_line (output, b)) (lines_from (output + 1) answers) (summary_line (output + suc (length answers), a)))
 
 pub line_next : (shown : List Shown) (i : ℕ) (s : Shown) (front text next : List ℕ) (output terms : ℕ) → i < length shown
-    → s ≡ get_or shown i s → text ≡ front ++ lines_from 1 (map answer_of (take i shown)) → output ≡ i + 1 → terms ≡ length s.poly
+    → s ≡ get_or shown i s → text ≡ front ++ lines_from 1 (map shown_answer (take i shown)) → output ≡ i + 1 → terms ≡ length s.poly
     → next ≡ text ++ (codes "f" ++ decimal output ++ codes " " ++ decimal terms ++ codes "\n")
-    → next ≡ front ++ lines_from 1 (map answer_of (take (i + 1) shown))
+    → next ≡ front ++ lines_from 1 (map shown_answer (take (i + 1) shown))
 line_next shown i s front text next output terms within is sofar number many here =
-    let more : map answer_of (take (i + 1) shown) ≡ map answer_of (take i shown) ++ answer_of s ∷ [] =
-    ap (map answer_of) (take_more shown i s within ∙ ap (λ (t : Shown). take i shown ++ t ∷ []) (sym is))
-    ∙ map-append answer_of (take i shown) (s ∷ []) in
-    let size : length (map answer_of (take i shown)) ≡ i = length-map (take i shown) answer_of
+    let more : map shown_answer (take (i + 1) shown) ≡ map shown_answer (take i shown) ++ shown_answer s ∷ [] =
+    ap (map shown_answer) (take_more shown i s within ∙ ap (λ (t : Shown). take i shown ++ t ∷ []) (sym is))
+    ∙ map-append shown_answer (take i shown) (s ∷ []) in
+    let size : length (map shown_answer (take i shown)) ≡ i = length-map (take i shown) shown_answer
     ∙ (length-take i shown ∙ omega (arith, within)) in
-    let o : output ≡ 1 + length (map answer_of (take i shown)) = omega (arith, number, size) in
+    let o : output ≡ 1 + length (map shown_answer (take i shown)) = omega (arith, number, size) in
     let t : terms ≡ length (reverse s.poly) = many ∙ sym (length-reverse s.poly) in
     here ∙ ap (λ (x : List ℕ). x ++ (codes "f" ++ decimal output ++ codes " " ++ decimal terms ++ codes "\n")) sofar
-    ∙ append_assoc front (lines_from 1 (map answer_of (take i shown))) (codes "f" ++ decimal output ++ codes " " ++ decimal terms ++
+    ∙ append_assoc front (lines_from 1 (map shown_answer (take i shown))) (codes "f" ++ decimal output ++ codes " " ++ decimal terms ++
     codes "\n")
-    ∙ ap (λ (x : List ℕ). front ++ x) (last o t ∙ sym (ap (lines_from 1) more ∙ lines_more 1 (map answer_of (take i shown)) (answer_of s)))
+    ∙ ap (λ (x : List ℕ). front ++ x) (last o t
+    ∙ sym (ap (lines_from 1) more ∙ lines_more 1 (map shown_answer (take i shown)) (shown_answer s)))
   where
     last : {o₂ t₂ : ℕ} → output ≡ o₂ → terms ≡ t₂
-        → lines_from 1 (map answer_of (take i shown)) ++ (codes "f" ++ decimal output ++ codes " " ++ decimal terms ++ codes "\n")
-        ≡ lines_from 1 (map answer_of (take i shown)) ++ (codes "f" ++ decimal o₂ ++ codes " " ++ decimal t₂ ++ codes "\n")
-    last p q = λ j. lines_from 1 (map answer_of (take i shown)) ++ (codes "f" ++ decimal (p j) ++ codes " " ++ decimal (q j) ++ codes "\n")
+        → lines_from 1 (map shown_answer (take i shown)) ++ (codes "f" ++ decimal output ++ codes " " ++ decimal terms ++ codes "\n")
+        ≡ lines_from 1 (map shown_answer (take i shown)) ++ (codes "f" ++ decimal o₂ ++ codes " " ++ decimal t₂ ++ codes "\n")
+    last p q = λ j. lines_from 1 (map shown_answer (take i shown))
+        ++ (codes "f" ++ decimal (p j) ++ codes " " ++ decimal (q j) ++ codes "\n")
 
 -- ---- care points
 

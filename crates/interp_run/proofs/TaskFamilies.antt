@@ -1,23 +1,20 @@
 -- What each task finds, from the care sets of its output.
-use Rattle.std.proofs.Common.{◌≡◌, ℕ, ◌+◌, ◌-◌, ◌<◌, Result, Ok, List, [], ◌∷◌, ◌++◌, Some, get_or}
+use Rattle.std.proofs.Common.{◌≡◌, ℕ, ◌+◌, ◌-◌, ◌<◌, Result, Ok, List, [], ◌∷◌, Some, get_or}
 use Rattle.std.proofs.Common.{refl, ◌∙◌, ap, arith, length}
 use Rattle.lattice.specs.Family.{Family, AreDisjoint, Covers, union_of}
 use Rattle.lattice.specs.Basis.{IsLead, basis_element_of, leads_of, standard_of}
-use Rattle.lattice.specs.Operations.{IsClosed}
 use Rattle.lattice.specs.Rows.{IsConsistent}
-use Rattle.lattice.specs.WorkingLists.{basis_element_list, leads_list, output_numbers, standard_list, working_set}
-use Rattle.lattice.specs.declared.op.Op.TheVariants.{Standard, Leads as LeadsOp}
-use Rattle.lattice.proofs.Diagrams.{covers_head, covers_left, covers_right, covers_tail}
+use Rattle.lattice.specs.WorkingLists.{basis_element_list, output_numbers, working_set}
+use Rattle.lattice.proofs.Diagrams.{covers_head, covers_tail}
 use Rattle.lattice.proofs.Polynomials.{care_points_disjoint}
-use Rattle.node_store.specs.Stores.{State, Builds, Denotes, Gives, IsPlanned, IsSound, Reads, family, needs_of}
+use Rattle.node_store.specs.Stores.{State, Builds, Denotes, Gives, IsPlanned, family}
 use Rattle.node_store.specs.declared.store.Full.{Full}
 use Rattle.node_store.specs.declared.store.Handle.{Handle}
-use Rattle.node_store.proofs.StoreLaws.{Denotes-family, Denotes-knows, Found, found_built, found_call, found_gives, found_start}
-use Rattle.node_store.proofs.StoreLaws.{gives_as, known_after}
+use Rattle.node_store.proofs.StoreLaws.{Denotes-family, Found, found_built, found_gives, found_start}
+use Rattle.node_store.proofs.StoreLaws.{gives_as}
 use Rattle.pla_reader.specs.Reading.{Description}
 use Rattle.set_algebra.specs.declared.points.ValuedPoints.{ValuedPoints}
-use Rattle.std_monomials.specs.Monomials.{AreStandard}
-use Rattle.std_monomials.proofs.MonomialNeeds.{standard_closed, needs-standard, needs-leads}
+use Rattle.run_parts.specs.Found.{point_leads_list}
 use Rattle.interp_run.specs.Phases.{AreCares, IsPart, IsTask, element_list, no_cares, ones_in, part_family, part_list, points_list}
 use Rattle.interp_run.specs.Phases.{task_family, task_list, zeros_in}
 use Rattle.interp_run.specs.declared.tasks.Task.{Task}
@@ -32,11 +29,8 @@ module _ (s : State) (a b : Handle) where
   abbrev P : Family
   P = union_of n (family s a) (family s b)
 
-  abbrev M : Family
-  M = standard_of n P
-
   abbrev rest : List Family
-  rest = standard_list n P ++ leads_list n M
+  rest = point_leads_list n P
 
   abbrev Planned : Type 0
   Planned = Covers s.plan (working_set n (points_list n P))
@@ -49,51 +43,18 @@ module _ (s : State) (a b : Handle) where
     to_t : Found s t (P ∷ [])
     to_t = found_built P (found_start s) refl one
 
-    pub union_read : Reads s t
-    union_read = to_t.reads
-
     p_is : family t p ≡ P
     p_is = Denotes-family t p P one.ok
 
-    needs_standard : needs_of t Standard p 0 ≡ working_set n (standard_list n P)
-    needs_standard = needs-standard t.vars (family t p) ∙ rw (one.grows.vars, p_is) refl
+    pub leads_are_planned : Planned → Covers t.plan (working_set t.vars (point_leads_list t.vars (family t p)))
+    leads_are_planned planned = rw (one.grows.vars, p_is, one.grows.plan) (covers_tail n s.plan rest P planned)
 
-    pub standard_planned : Planned → Covers t.plan (needs_of t Standard p 0)
-    standard_planned planned = rw (needs_standard, one.grows.plan)
-        (covers_left n s.plan (standard_list n P) (leads_list n M) (covers_tail n s.plan rest P planned))
-
-    -- u is the state after the standard monomials
-    module _ {u : State} {m : Handle} (two : Gives t u (Ok m) (standard_of t.vars (family t p)) (needs_of t Standard p 0)) where
-      m_is : family u m ≡ M
-      m_is = Denotes-family u m M (rw (one.grows.vars, p_is) at two.ok)
-
-      u_vars : u.vars ≡ n
-      u_vars = two.grows.vars ∙ one.grows.vars
-
-      pub standard_are_closed : IsSound t → AreStandard t.vars (family t p) (family u m) → IsClosed (family u m)
-      standard_are_closed ok are =
-          standard_closed t.vars (family t p) (family u m) (known_after t p ok (Denotes-knows t p P one.ok)) are
-
-      needs_leads : needs_of u LeadsOp m 1 ≡ working_set u.vars (leads_list n M)
-      needs_leads =
-          let all : u.vars + 1 - 1 ≡ u.vars = omega arith in
-          needs-leads u.vars 1 u.vars (family u m) all ∙ rw (u_vars, m_is) refl
-
-      pub leads_are_planned : Planned → Covers u.plan (needs_of u LeadsOp m 1)
-      leads_are_planned planned = rw (needs_leads, u_vars, two.grows.plan, one.grows.plan)
-          (covers_right n s.plan (standard_list n P) (leads_list n M) (covers_tail n s.plan rest P planned))
-
-      to_u : Found s u (P ∷ standard_list n P)
-      to_u = found_call (standard_list n P) to_t needs_standard two
-
-      -- v is the state after the leads
-      pub leads_given : {v : State} {r : Result Handle Full}
-          → Gives u v r (leads_of (u.vars + 1 - 1) (family u m)) (needs_of u LeadsOp m 1)
-          → Gives s v r (leads_of n M) (working_set n (points_list n P))
-      leads_given {v = v} {r = r} three =
-          let all : u.vars + 1 - 1 ≡ n = omega (arith, u_vars) in
-          found_gives s u v r (leads_of n M) (P ∷ standard_list n P) (leads_list n M) to_u
-          (gives_as (rw (all, m_is) refl) needs_leads three)
+    -- u is the state after the leads
+    pub leads_given : {u : State} {r : Result Handle Full}
+        → Gives t u r (leads_of t.vars (standard_of t.vars (family t p))) (working_set t.vars (point_leads_list t.vars (family t p)))
+        → Gives s u r (leads_of n (standard_of n P)) (working_set n (points_list n P))
+    leads_given {u = u} {r = r} two = found_gives s t u r (leads_of n (standard_of n P)) (P ∷ []) rest to_t
+        (gives_as (rw (one.grows.vars, p_is) refl) (rw (one.grows.vars, p_is) refl) two)
 
 -- ---- the element of two sets of points together; s is the state at the call
 

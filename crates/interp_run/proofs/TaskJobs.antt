@@ -1,5 +1,5 @@
 -- Tasks as the jobs of a pool: what they use, what they need, and what they give.
-use Rattle.std.specs.List.{AllZip, Contains, flat_map}
+use Rattle.std.specs.List.{Contains, flat_map}
 use Rattle.std.proofs.Common.{◌≡◌, ℕ, zero, suc, ◌+◌, ◌-◌, ◌^◌, ◌<◌, ◌≤◌, List, [], ◌∷◌, get_or, length, map, cond, Bool, true}
 use Rattle.std.proofs.Common.{false}
 use Rattle.std.proofs.Common.{refl, sym, ap, subst, ◌∙◌, arith, ⊎_elim}
@@ -17,20 +17,23 @@ use Rattle.node_store.specs.declared.store.Handle.{Handle}
 use Rattle.node_store.proofs.StoreLaws.{Denotes-family, Denotes-knows}
 use Rattle.pla_reader.specs.Reading.{Description}
 use Rattle.set_algebra.specs.declared.points.ValuedPoints.{ValuedPoints}
+use Rattle.cube_build.proofs.CareNeeds.{zip_from}
 use Rattle.fork_branches.specs.Jobs.{KnowsUses}
 use Rattle.fork_branches.specs.Work.{MayWork}
 use Rattle.fork_branches.specs.Solves.{AreSolved}
 use Rattle.anf_printer.specs.Text.{Answer}
-use Rattle.interp_run.specs.Answers.{first_count, jobs_for}
+use Rattle.interp_run.specs.Answers.{first_count}
+use Rattle.interp_run.specs.Parts.{jobs_for}
 use Rattle.lattice.specs.Basis.{basis_element_of}
 use Rattle.interp_run.specs.Phases.{points_in}
-use Rattle.interp_run.specs.Phases.{AreCares, AreDone, answer_for, element_task, first_tasks, jobs_of, leads_in, no_cares, no_task, ones_in}
+use Rattle.interp_run.specs.Phases.{AreCares, AreDone, answer_for, answers_for, element_task, first_tasks, jobs_of, leads_in, no_cares}
+use Rattle.interp_run.specs.Phases.{no_task, ones_in}
 use Rattle.interp_run.specs.Phases.{ones_used, second_tasks, task, task_family, task_list, zeros_in, zeros_used}
 use Rattle.interp_run.specs.declared.tasks.Task.{Task}
 use Rattle.interp_run.specs.declared.tasks.Part.TheVariants.{Polynomial, Leads}
 use Rattle.interp_run.proofs.DoneTasks.{task_planned}
 use Rattle.interp_run.proofs.OutputLists.{get_output, length-output_numbers, zip_at}
-use Rattle.interp_run.proofs.SolvedAnswers.{answers_for}
+use Rattle.interp_run.proofs.SolvedAnswers.{no_elements}
 
 -- ---- what they use
 
@@ -76,16 +79,6 @@ module _ (s : State) (d : Description) (cares : List ValuedPoints) (list : List 
             (contains_map (ones_used d cares) numbers (k + 1) (number_in k less))),
       )
 
-  zip_from : {X : Type 0} (R : X → ℕ → Type 0) (e : X) (xs : List X) (ys : List ℕ) → length xs ≡ length ys
-      → ((k : ℕ) → k < length ys → R (get_or xs k e) (get_or ys k 0)) → AllZip R xs ys
-  zip_from R e [] [] long each = tt
-  zip_from R e (x ∷ xs) [] long each = absurd (omega (arith, long))
-  zip_from R e [] (y ∷ ys) long each = absurd (omega (arith, long))
-  zip_from R e (x ∷ xs) (y ∷ ys) long each = (
-    each 0 (omega arith),
-    zip_from R e xs ys (omega (arith, long)) (λ k less. each (suc k) (omega arith)),
-  )
-
   number_at : (k x : ℕ) → k < d.outputs → get_or numbers k x ≡ k + 1
   number_at k x less = get_or_from_slice_get numbers k (k + 1) x (get_output d.outputs k less)
 
@@ -93,8 +86,9 @@ module _ (s : State) (d : Description) (cares : List ValuedPoints) (list : List 
   below k less = omega (arith, length-output_numbers d.outputs, less)
 
   pub cares_from_uses : length cares ≡ d.outputs → KnowsUses (jobs_of d cares list) s → AreCares s d d.outputs cares
-  cares_from_uses many knows = zip_from InState no_cares cares numbers (many ∙ sym (length-output_numbers d.outputs))
-      (λ k less. subst (InState (get_or cares k no_cares)) (sym (number_at k 0 (below k less))) (care_known knows k (below k less)))
+  cares_from_uses many knows = zip_from InState cares numbers no_cares 0 (many ∙ sym (length-output_numbers d.outputs))
+      (λ k less. let within : k < d.outputs = omega (arith, less, many) in
+      subst (InState (get_or cares k no_cares)) (sym (number_at k 0 within)) (care_known knows k within))
 
   known_care : AreCares s d d.outputs cares → (x : ℕ) → Contains numbers x → InState (get_or cares (x - 1) no_cares) x
   known_care are x (k, less, is) =
@@ -177,6 +171,10 @@ module _ (d : Description) (mode : Mode) where
 
   pub second_few : length (second_tasks d mode) ≤ first_count (answers_for d mode)
   second_few = let same = elements_of (output_numbers d.outputs) in let few = within_count (answers_for d mode) in omega arith
+
+  -- without bases there are none
+  pub second_none : is_basis mode ≡ false → length (second_tasks d mode) ≡ 0
+  second_none bare = elements_of (output_numbers d.outputs) ∙ no_elements d mode bare (output_numbers d.outputs)
 
   either : {X : Type 0} (b : Bool) (xs : List X) (n : ℕ) → length xs ≡ n → length (cond b xs []) ≡ cond b n 0
   either true xs n long = long

@@ -9,10 +9,10 @@ use Rattle.lattice.specs.WorkingLists.{is_basis}
 use Rattle.lattice.specs.declared.kind.Mode.{Mode}
 use Rattle.anf_printer.specs.Text.{Answer}
 use Rattle.watch.specs.declared.note.Note.{Note}
-use Rattle.interp_run.specs.Answers.{jobs_for, notes_from}
+use Rattle.interp_run.specs.Answers.{notes_from}
 use Rattle.cli_words.specs.declared.job.Job.{Job}
 use Rattle.interp_run.specs.Due.{Due, IsDue, is_gen, least_jobs, silent}
-use Rattle.interp_run.specs.Parts.{EndsWithout, due_without, exhausted_without, no_memory}
+use Rattle.interp_run.specs.Parts.{EndsWithout, due_without, jobs_for, no_memory}
 use Rattle.interp_run.proofs.OneDue.{same_due}
 use Rattle.interp_run.specs.Run.{status_of}
 use Rattle.interp_run.specs.declared.outcome.Outcome.{Outcome}
@@ -62,7 +62,5 @@ without_jobs job bytes other (due_without o is) ended due so =
 
     no_jobs : (mode : Mode) → is_gen mode ≡ false → least_jobs mode [] ≡ 0
     no_jobs mode other = rw (other) (omega (arith, either_none (is_basis mode)))
-without_jobs job bytes other (exhausted_without h) (inl e) due so = cc
-without_jobs job bytes other (exhausted_without h) (inr e) due so = cc
 without_jobs job bytes other no_memory (inl e) due so = cc
 without_jobs job bytes other no_memory (inr e) due so = cc

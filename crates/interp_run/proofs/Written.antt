@@ -13,9 +13,10 @@ use Rattle.lattice.specs.WorkingLists.{is_basis}
 use Rattle.lattice.specs.declared.kind.Mode.{Mode}
 use Rattle.pla_reader.specs.Reading.{Description, description}
 use Rattle.pla_reader.specs.declared.pla.Pla.{Pla}
-use Rattle.anf_printer.specs.Text.{Answer, IsAnswerOver as IsAnswer, answer_of, printed_names, texts_of}
+use Rattle.anf_printer.specs.Text.{Answer, IsAnswerOver as IsAnswer, shown_answer, texts_of}
 use Rattle.anf_printer.specs.declared.answer.Shown.{Shown}
-use Rattle.anf_printer.proofs.PrintedLists.{count_printed}
+use Rattle.pla_reader.specs.PrintedNames.{printed_names}
+use Rattle.pla_reader.proofs.ArrangedInputs.{count_printed}
 use Rattle.watch.specs.declared.note.Note.{Note}
 use Rattle.interp_run.specs.Due.{Due}
 use Rattle.interp_run.specs.Answers.{AreAnswers, IsAnswerOf, notes_from, texts}
@@ -74,15 +75,15 @@ is_answer d mode output a is = record {
   ];
 }
 
-pub are_answers : (d : Description) (mode : Mode) (shown : List Shown) → AreAnswers d mode (map answer_of shown)
-    → All (λ s. IsAnswer d.inputs (answer_of s)) shown
+pub are_answers : (d : Description) (mode : Mode) (shown : List Shown) → AreAnswers d mode (map shown_answer shown)
+    → All (λ s. IsAnswer d.inputs (shown_answer s)) shown
 are_answers d mode shown are k e within =
-    let small : k < length (map answer_of shown) = omega (arith, within, length-map shown answer_of) in
-    let there = slice_get-get_or (map answer_of shown) k (answer_of e) small in
-    let same : get_or (map answer_of shown) k (answer_of e) ≡ answer_of (get_or shown k e) = get_or-map answer_of shown k e (answer_of e)
-    within in
-    is_answer d mode (k + 1) (answer_of (get_or shown k e))
-    (subst (IsAnswerOf d mode (k + 1)) same (are.each k (get_or (map answer_of shown) k (answer_of e)) there))
+    let small : k < length (map shown_answer shown) = omega (arith, within, length-map shown shown_answer) in
+    let there = slice_get-get_or (map shown_answer shown) k (shown_answer e) small in
+    let same : get_or (map shown_answer shown) k (shown_answer e) ≡ shown_answer (get_or shown k e) =
+    get_or-map shown_answer shown k e (shown_answer e) within in
+    is_answer d mode (k + 1) (shown_answer (get_or shown k e))
+    (subst (IsAnswerOf d mode (k + 1)) same (are.each k (get_or (map shown_answer shown) k (shown_answer e)) there))
 
 -- ==== texts that are written one after the other, and what the watchers are told of each
 
@@ -235,24 +236,24 @@ notes_more output (b ∷ answers) a =
     ∙ ap (λ (o : ℕ). notes_from (output + 1) answers ++ note_of o a ∷ []) e)
 
 pub notes_next : (shown : List Shown) (i : ℕ) (s : Shown) (notes next : List Note) (output terms basis : ℕ) → i < length shown
-    → s ≡ get_or shown i s → notes ≡ notes_from 1 (map answer_of (take i shown))
+    → s ≡ get_or shown i s → notes ≡ notes_from 1 (map shown_answer (take i shown))
     → output ≡ i + 1 → terms ≡ length s.poly → basis ≡ length s.basis
     → next ≡ notes ++ record { output = output; terms = terms; basis = basis } ∷ []
-    → next ≡ notes_from 1 (map answer_of (take (i + 1) shown))
+    → next ≡ notes_from 1 (map shown_answer (take (i + 1) shown))
 unfolding note_of
 notes_next shown i s notes next output terms basis within is sofar number many elements here =
-    let more : map answer_of (take (i + 1) shown) ≡ map answer_of (take i shown) ++ answer_of s ∷ [] =
-    ap (map answer_of) (take_more shown i s within ∙ ap (λ (t : Shown). take i shown ++ t ∷ []) (sym is))
-    ∙ map-append answer_of (take i shown) (s ∷ []) in
-    let size : length (map answer_of (take i shown)) ≡ i = length-map (take i shown) answer_of
+    let more : map shown_answer (take (i + 1) shown) ≡ map shown_answer (take i shown) ++ shown_answer s ∷ [] =
+    ap (map shown_answer) (take_more shown i s within ∙ ap (λ (t : Shown). take i shown ++ t ∷ []) (sym is))
+    ∙ map-append shown_answer (take i shown) (s ∷ []) in
+    let size : length (map shown_answer (take i shown)) ≡ i = length-map (take i shown) shown_answer
     ∙ (length-take i shown ∙ omega (arith, within)) in
-    let o : output ≡ 1 + length (map answer_of (take i shown)) = omega (arith, number, size) in
+    let o : output ≡ 1 + length (map shown_answer (take i shown)) = omega (arith, number, size) in
     let t : terms ≡ length (reverse s.poly) = many ∙ sym (length-reverse s.poly) in
     let b : basis ≡ length (map reverse s.basis) = elements ∙ sym (length-map s.basis (λ (f : Family). reverse f)) in
     here ∙ (ap (λ (ns : List Note). ns ++ record { output = output; terms = terms; basis = basis } ∷ []) sofar
-    ∙ (last o t b ∙ sym (ap (notes_from 1) more ∙ notes_more 1 (map answer_of (take i shown)) (answer_of s))))
+    ∙ (last o t b ∙ sym (ap (notes_from 1) more ∙ notes_more 1 (map shown_answer (take i shown)) (shown_answer s))))
   where
     last : {o₂ t₂ b₂ : ℕ} → output ≡ o₂ → terms ≡ t₂ → basis ≡ b₂
-        → notes_from 1 (map answer_of (take i shown)) ++ record { output = output; terms = terms; basis = basis } ∷ [] ≡ notes_from 1
-        (map answer_of (take i shown)) ++ record { output = o₂; terms = t₂; basis = b₂ } ∷ []
-    last p q r = λ j. notes_from 1 (map answer_of (take i shown)) ++ record { output = p j; terms = q j; basis = r j } ∷ []
+        → notes_from 1 (map shown_answer (take i shown)) ++ record { output = output; terms = terms; basis = basis } ∷ [] ≡ notes_from 1
+        (map shown_answer (take i shown)) ++ record { output = o₂; terms = t₂; basis = b₂ } ∷ []
+    last p q r = λ j. notes_from 1 (map shown_answer (take i shown)) ++ record { output = p j; terms = q j; basis = r j } ∷ []

@@ -1,5 +1,5 @@
 -- The answers that a consistent description is due, and what counts their terms.
-use Rattle.std.specs.Prelude.{◌≡◌, ℕ, ◌+◌, ◌++◌, List, [], true, false, cond, Some, length, map, slice_get, sum_by, codes, decimal}
+use Rattle.std.specs.Prelude.{◌≡◌, ℕ, ◌+◌, ◌++◌, List, [], true, false, Some, length, map, slice_get, sum_by, codes, decimal}
 use Rattle.std.specs.List.{enumerate_from, flat_map}
 use Rattle.lattice.specs.Interpolation.{IsLeast}
 use Rattle.lattice.specs.Basis.{IsReducedBasis}
@@ -7,7 +7,8 @@ use Rattle.lattice.specs.Rows.{IsConsistent, care_zeros, care_ones}
 use Rattle.lattice.specs.WorkingLists.{care_set, is_basis, first_phase, second_phase, working_set}
 use Rattle.lattice.specs.declared.kind.Mode.{Mode}
 use Rattle.pla_reader.specs.Reading.{Description}
-use Rattle.anf_printer.specs.Text.{Answer, printed_names, texts_of}
+use Rattle.pla_reader.specs.PrintedNames.{printed_names}
+use Rattle.anf_printer.specs.Text.{Answer, texts_of}
 use Rattle.watch.specs.declared.note.Note.{Note}
 
 -- the answer of an output: its least polynomial and, in mode basis, the reduced basis of its care points
@@ -29,10 +30,6 @@ first_count answers = sum_by (λ a. length a.polynomial + length a.basis) answer
 -- the terms that are printed: those of all polynomials, and of all elements of the bases
 abbrev pub second_count : List Answer → ℕ
 second_count answers = sum_by (λ a. length a.polynomial + sum_by length a.basis) answers
-
--- the jobs that find them: the polynomials, the elements and, in mode basis, the leads of each output
-abbrev pub jobs_for : Mode → List Answer → ℕ
-jobs_for mode answers = length answers + sum_by (λ a. length a.basis) answers + cond (is_basis mode) (length answers) 0
 
 -- the nodes that are needed for the polynomials and the leads, and those that are needed for the bases too
 abbrev pub first_nodes : Description → Mode → ℕ

@@ -1,13 +1,16 @@
 -- What is due for a job and the bytes of a source: how the run ends, what out gains, and what the watchers are told.
-use Rattle.std.specs.Prelude.{◌≡◌, Bool, true, false, ◌+◌, cond, sum_by, ℕ, ◌^◌, ◌<◌, nat_lt, List, [], ◌∷◌, ◌++◌, length, drop, codes, decimal, Result, Ok, Err}
-use Rattle.std.specs.Prelude.{if◌then◌else◌}
+use Rattle.std.specs.Prelude.{◌≡◌, Bool, true, false, ◌+◌, cond, sum_by, ℕ, ◌^◌, nat_lt, List, [], ◌∷◌, ◌++◌, length, drop, codes, decimal, Result, Ok, Err}
+use Rattle.std.specs.Prelude.{if◌then◌else◌, Option, Some, None}
 use Rattle.std.specs.Result.{result_map_both}
 use Rattle.lattice.specs.Rows.{IsConsistent}
 use Rattle.lattice.specs.WorkingLists.{is_basis}
 use Rattle.lattice.specs.declared.kind.Mode.{Mode}
 use Rattle.lattice.specs.declared.kind.Mode.TheVariants.{Check, Gen}
+use Rattle.pla_reader.specs.Orders.{arranged, is_order, order_named}
+use Rattle.pla_reader.specs.PrintedNames.{printed_names}
 use Rattle.pla_reader.specs.Reading.{Description, bytes_taken, description, reading_of}
 use Rattle.pla_reader.specs.declared.pla.Pla.{Pla}
+use Rattle.pla_reader.specs.declared.refusal.Refusal.{Refusal}
 use Rattle.cube_sets.specs.Clashes.{IsClash, IsLeastOf}
 use Rattle.cube_sets.specs.declared.clash.Clash.{Clash}
 use Rattle.anf_printer.specs.Text.{Answer}
@@ -22,7 +25,7 @@ use Rattle.gen_pla.specs.Generated.{generated}
 use Rattle.cli_words.specs.declared.job.Job.{Job}
 use Rattle.watch.specs.declared.note.Note.{Note}
 use Rattle.interp_run.specs.Answers.{AreAnswers, first_count, second_count, first_nodes, last_nodes, texts, summary, notes_from}
-use Rattle.interp_run.specs.declared.describe.TheConstants.{MOST_BYTES}
+use Rattle.run_parts.specs.declared.describe.TheConstants.{MOST_BYTES}
 use Rattle.interp_run.specs.declared.outcome.Outcome.{Outcome}
 use Rattle.interp_run.specs.declared.outcome.Outcome.TheVariants as ends
 
@@ -35,12 +38,25 @@ abbrev pub IsSolving : Mode → Type 0
 IsSolving Check = ⊥
 IsSolving _ = Unit {0}
 
+-- the description over the order that the text of an option asks for; without a text it stays as it is. A text is refused that, cut
+-- at its commas, is no list of all printed names of the inputs, each once
+abbrev pub in_order : Option (List ℕ) → Description → Result Description Outcome
+in_order None d = Ok d
+in_order (Some text) d =
+    let order = order_named (printed_names (codes "x") d.inputs d.in_names) text in
+    if is_order d.inputs order then Ok (arranged d order) else Err ends.Order
+
+-- of what was read
+abbrev pub read_in_order : Option (List ℕ) → Result Description Refusal → Result Description Outcome
+read_in_order order (Ok d) = in_order order d
+read_in_order order (Err refusal) = Err (ends.Text refusal.line refusal.why)
+
 -- the file that a run is about, or how the run ends that has none
 abbrev pub file_of : Job → List ℕ → Result Description Outcome
 file_of job bytes =
     if is_gen job.mode then Ok (generated job.seed)
     else if nat_lt MOST_BYTES (length bytes) then Err ends.TooLong
-    else result_map_both (λ d. d) (λ refusal. ends.Text refusal.line refusal.why) (reading_of bytes)
+    else read_in_order job.order (reading_of bytes)
 
 -- the answer that is judged, or how the run ends that has none
 abbrev pub given_of : Pla → List ℕ → Result (List GivenOutput) Outcome
@@ -113,11 +129,3 @@ pub data IsDue (job : Job) (bytes : List ℕ) : Due → Type 0 where
 abbrev pub least_jobs : Mode → List Note → ℕ
 least_jobs mode notes =
     if is_gen mode then 2 else length notes + sum_by (λ n. n.basis) notes + cond (is_basis mode) (length notes) 0
-
--- the bytes are a consistent description that needs more nodes than the store has slots
-pub record IsExhausted (job : Job) (bytes : List ℕ) : Type 0 where
-  pub description : Description
-  pub file : file_of job bytes ≡ Ok description
-  pub mode : IsSolving job.mode
-  pub consistent : IsConsistent description.inputs description.outputs description.rows
-  pub over : 2 ^ job.nodes < last_nodes description job.mode

@@ -1,5 +1,5 @@
 -- Laws of what is due. The functions of src/laws.rt have them as their contracts.
-use Rattle.std.specs.Prelude.{◌≡◌, ◌↔◌, List, [], ◌∷◌, ◌++◌, ℕ, Ok, codes}
+use Rattle.std.specs.Prelude.{◌≡◌, ◌↔◌, List, [], ◌∷◌, ◌++◌, ℕ, None, Some, Ok, codes}
 use Rattle.lattice.specs.declared.kind.Mode.{Mode}
 use Rattle.lattice.specs.declared.kind.Mode.TheVariants.{Anf, Basis, Check}
 use Rattle.pla_reader.specs.Reading.{description}
@@ -10,7 +10,7 @@ use Rattle.cert_check.specs.Right.{IsRight}
 use Rattle.cert_check.specs.declared.answer.GivenOutput.{GivenOutput}
 use Rattle.cert_check.specs.declared.refusal.Verdict.TheVariants.{Yes}
 use Rattle.cli_words.specs.declared.job.Job.{Job}
-use Rattle.interp_run.specs.Due.{Due, IsDue, file_of, judged}
+use Rattle.interp_run.specs.Due.{Due, IsDue, file_of, judged, silent}
 use Rattle.interp_run.specs.declared.outcome.Outcome.TheVariants as ends
 
 -- no more than one thing is due for a job and bytes
@@ -28,13 +28,17 @@ YesIsRight = (p : Pla) (text : List ℕ) (answer : List GivenOutput) → answer_
 
 -- a job with the limits that words without options ask for
 abbrev pub usual_job : Mode → Job
-usual_job mode = record { mode = mode; workers = 1; nodes = 19; terms = 1000000; seed = 0 }
+usual_job mode = record { mode = mode; workers = 1; nodes = 19; terms = 1000000; seed = 0; order = None }
+
+-- and one that asks for this order of the inputs
+abbrev pub ordered_job : Mode → List ℕ → Job
+ordered_job mode order = record (usual_job mode) { order = Some order }
 
 -- a file of two points over two inputs
 abbrev pub two_points : List ℕ
 two_points = codes ".i 2\n.o 1\n.ilb a b\n.ob f\n.type fr\n11 1\n00 0\n.e\n"
 
--- what is due for it: so the premises of the clauses of `run` are met in each mode
+-- what is due for it: so the premises of the clauses of `run` are met in each mode, and with an order
 abbrev pub DueForTwoPoints : Type 0
 DueForTwoPoints =
     IsDue (usual_job Anf) two_points
@@ -42,3 +46,6 @@ DueForTwoPoints =
     × IsDue (usual_job Basis) two_points
     (record { outcome = ends.Done; pages = codes "f = b\n0 = a + b\n" ∷ []; notes = record { output = 1; terms = 1; basis = 1 } ∷ [] })
     × IsDue (usual_job Check) (two_points ++ codes "f = b\n0 = a + b\n") (judged Yes)
+    × IsDue (ordered_job Anf (codes "b,a")) two_points
+    (record { outcome = ends.Done; pages = codes "f = a\n" ∷ []; notes = record { output = 1; terms = 1; basis = 0 } ∷ [] })
+    × IsDue (ordered_job Anf (codes "b")) two_points (silent ends.Order)

@@ -1,14 +1,21 @@
 -- What the steps of a run find: words that the contract of `run` does not need.
-use Rattle.std.specs.Prelude.{◌≡◌, ℕ, ◌^◌, ◌<◌, List}
-use Rattle.lattice.specs.Rows.{IsConsistent}
+use Rattle.std.specs.Prelude.{◌≡◌, ℕ, ◌+◌, ◌^◌, ◌≤◌, List, cond, length, sum_by}
+use Rattle.lattice.specs.WorkingLists.{is_basis}
+use Rattle.lattice.specs.declared.kind.Mode.{Mode}
 use Rattle.pla_reader.specs.Reading.{Description}
+use Rattle.pla_reader.specs.declared.order.OrderRefusal.{OrderRefusal}
+use Rattle.pla_reader.specs.declared.order.OrderRefusal.TheVariants as disordered
 use Rattle.cube_sets.specs.Clashes.{IsClash, IsLeastOf}
 use Rattle.cube_sets.specs.declared.clash.Clash.{Clash}
 use Rattle.cert_check.specs.declared.refusal.AnswerRefusal.{AnswerRefusal}
 use Rattle.cert_check.specs.declared.refusal.AnswerRefusal.TheVariants.{Bad, Memory}
+use Rattle.run_parts.specs.declared.describe.DescribeRefusal.{DescribeRefusal}
+use Rattle.run_parts.specs.declared.describe.DescribeRefusal.TheVariants as undescribed
 use Rattle.cli_words.specs.declared.job.Job.{Job}
-use Rattle.interp_run.specs.Answers.{last_nodes}
-use Rattle.interp_run.specs.Due.{IsDue, IsDueSolving, IsExhausted, silent}
+use Rattle.anf_printer.specs.Text.{Answer}
+use Rattle.interp_run.specs.Answers.{first_count, first_nodes}
+use Rattle.interp_run.specs.Due.{IsDue, IsDueSolving, silent}
+use Rattle.interp_run.specs.Phases.{answers_for}
 use Rattle.interp_run.specs.declared.outcome.Outcome.{Outcome}
 use Rattle.interp_run.specs.declared.phases.Stop.{Stop}
 use Rattle.interp_run.specs.declared.phases.Stop.TheVariants as stops
@@ -20,11 +27,18 @@ pub record IsContradiction (d : Description) (o : Outcome) : Type 0 where
   pub least : IsLeastOf (IsClash d.inputs d.outputs d.rows d.rows) clash
   pub outcome_is : o ≡ ends.Contradiction clash.output clash.on_line clash.off_line
 
--- a run on a consistent description ends without its answers: as is due, with more nodes than slots, or for want of memory
+-- phase 1 is within the limits of the job: its nodes fit the slots, and its terms are not too many
+pub record FirstFits (job : Job) (d : Description) : Type 0 where
+  pub nodes : first_nodes d job.mode ≤ 2 ^ job.nodes
+  pub terms : first_count (answers_for d job.mode) ≤ job.terms
+
+-- the jobs that find answers: the polynomials, the elements and, in mode basis, the leads of each output
+abbrev pub jobs_for : Mode → List Answer → ℕ
+jobs_for mode answers = length answers + sum_by (λ a. length a.basis) answers + cond (is_basis mode) (length answers) 0
+
+-- a run on a consistent description ends without its answers: as is due, or for want of memory
 pub data EndsUnsolved (job : Job) (d : Description) : Outcome → Type 0 where
   due_unsolved : (o : Outcome) → IsDueSolving job d (silent o) → EndsUnsolved job d o
-  nodes_over : IsConsistent d.inputs d.outputs d.rows → 2 ^ job.nodes < last_nodes d job.mode
-      → EndsUnsolved job d (ends.Exhausted (2 ^ job.nodes))
   no_memory_to_solve : EndsUnsolved job d ends.Memory
 
 -- how it ends that stopped so
@@ -33,11 +47,21 @@ stopped_outcome job stops.Full = ends.Exhausted (2 ^ job.nodes)
 stopped_outcome job stops.Terms = ends.Terms job.terms
 stopped_outcome job stops.Memory = ends.Memory
 
--- a run of the job on the bytes ends without an answer
+-- a run of the job on the bytes ends without an answer: as is due, or for want of memory
 pub data EndsWithout (job : Job) (bytes : List ℕ) : Outcome → Type 0 where
   due_without : (o : Outcome) → IsDue job bytes (silent o) → EndsWithout job bytes o
-  exhausted_without : IsExhausted job bytes → EndsWithout job bytes (ends.Exhausted (2 ^ job.nodes))
   no_memory : EndsWithout job bytes ends.Memory
+
+-- how a run ends whose bytes have no description
+abbrev pub undescribed_outcome : DescribeRefusal → Outcome
+undescribed_outcome undescribed.TooLong = ends.TooLong
+undescribed_outcome (undescribed.Text line why) = ends.Text line why
+undescribed_outcome undescribed.Memory = ends.Memory
+
+-- how a run ends whose order is refused
+abbrev pub disordered_outcome : OrderRefusal → Outcome
+disordered_outcome disordered.Bad = ends.Order
+disordered_outcome disordered.Memory = ends.Memory
 
 -- how a run ends whose answer is refused
 abbrev pub refused_outcome : AnswerRefusal → Outcome

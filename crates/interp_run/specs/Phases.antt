@@ -6,8 +6,8 @@ use Rattle.lattice.specs.Family.{Family, Covers, union_of}
 use Rattle.lattice.specs.Interpolation.{interpolate}
 use Rattle.lattice.specs.Basis.{IsLead, basis_element_of, leads_of, standard_of}
 use Rattle.lattice.specs.Rows.{care_ones, care_zeros}
-use Rattle.lattice.specs.WorkingLists.{basis_element_list, care_list, care_set, first_phase, interpolation_list, is_basis, leads_list}
-use Rattle.lattice.specs.WorkingLists.{output_numbers, second_phase, standard_list, working_set}
+use Rattle.lattice.specs.WorkingLists.{basis_element_list, care_list, care_set, first_phase, interpolation_list, is_basis}
+use Rattle.lattice.specs.WorkingLists.{output_numbers, second_phase, working_set}
 use Rattle.lattice.specs.declared.kind.Mode.{Mode}
 use Rattle.node_store.specs.Stores.{Denotes, Knows, State, family}
 use Rattle.pla_reader.specs.Reading.{Description}
@@ -18,6 +18,8 @@ use Rattle.fork_branches.specs.declared.solve.SolveRefusal.{SolveRefusal}
 use Rattle.anf_printer.specs.Text.{Answer}
 use Rattle.node_store.specs.declared.store.Handle.{Handle}
 use Rattle.set_algebra.specs.declared.points.ValuedPoints.{ValuedPoints}
+use Rattle.run_parts.specs.Found.{point_leads_list}
+pub use Rattle.run_parts.specs.Found.{terms_of}
 use Rattle.interp_run.specs.declared.tasks.Task.{Task}
 use Rattle.interp_run.specs.declared.tasks.Part.{Part}
 use Rattle.interp_run.specs.declared.tasks.Part.TheVariants.{Polynomial, Leads, Element}
@@ -56,7 +58,7 @@ part_family n zeros ones (Element lead) = basis_element_of n lead (union_of n ze
 
 -- the families that are needed for the leads, and for an element
 abbrev pub points_list : ℕ → Family → List Family
-points_list n points = points ∷ (standard_list n points ++ leads_list n (standard_of n points))
+points_list n points = points ∷ point_leads_list n points
 
 abbrev pub element_list : ℕ → ℕ → Family → List Family
 element_list n lead points = points ∷ basis_element_list n lead points
@@ -180,11 +182,10 @@ answer_for d mode output = record {
   basis = map (λ m. basis_element_of d.inputs m (points_in d output)) (leads_in d mode output);
 }
 
--- ---- what is counted and printed
+abbrev pub answers_for : Description → Mode → List Answer
+answers_for d mode = map (answer_for d mode) (output_numbers d.outputs)
 
--- the terms of some polynomials
-abbrev pub terms_of : State → List Handle → ℕ
-terms_of s polynomials = sum_by (λ h. length (family s h)) polynomials
+-- ---- what is counted and printed
 
 abbrev pub second_terms : State → List Solved → ℕ
 second_terms s solved = sum_by (λ f. length (family s f.polynomial) + terms_of s f.basis.items) solved
@@ -200,5 +201,5 @@ answer_in s f = record { polynomial = family s f.polynomial; basis = map (family
 -- phase 2 was done
 pub record IsSecond (s : State) (d : Description) (mode : Mode) (solved : List Solved) : Type 0 where
   pub known : All (KnowsSolved s) solved
-  pub answers : map (answer_in s) solved ≡ map (answer_for d mode) (output_numbers d.outputs)
+  pub answers : map (answer_in s) solved ≡ answers_for d mode
   pub held : Covers s.held (working_set d.inputs (second_phase d.inputs d.outputs d.kind d.rows mode))

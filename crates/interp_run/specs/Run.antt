@@ -1,5 +1,5 @@
 -- What a run owes for the words and the bytes: its outcome, its status, what it writes, and who is told.
-use Rattle.std.specs.Prelude.{◌≡◌, ◌≢◌, ◌++◌, ◌^◌, ◌≤◌, [], ℕ, List, length, take, Option, Some, codes, decimal}
+use Rattle.std.specs.Prelude.{◌≡◌, ◌≢◌, ◌++◌, ◌≤◌, [], ℕ, List, length, take, Option, Some, codes, decimal}
 use Rattle.std.specs.List.{concat}
 use Rattle.std.specs.Io.{StartsWith}
 use Rattle.std.specs.Io.KnownBytes.{Appends, Keeps}
@@ -10,7 +10,7 @@ use Rattle.clap.specs.Words.{fault_of, matches_of}
 use Rattle.cli_words.specs.CommandLine.{IsJob, interp_command}
 use Rattle.cli_words.specs.declared.job.Job.{Job}
 use Rattle.watch.specs.Notes.{WatcherState, left_after_all}
-use Rattle.interp_run.specs.Due.{Due, IsDue, IsExhausted}
+use Rattle.interp_run.specs.Due.{Due, IsDue}
 use Rattle.interp_run.specs.declared.outcome.Outcome.{Outcome}
 use Rattle.interp_run.specs.declared.outcome.Outcome.TheVariants as ends
 
@@ -38,6 +38,7 @@ status_of ends.Memory = 7
 status_of ends.ReadFault = 8
 status_of ends.WriteFault = 9
 status_of ends.TooLong = 10
+status_of ends.Order = 12
 
 -- the outcomes that have an answer
 abbrev pub HasText : Outcome → Type 0
@@ -47,7 +48,7 @@ HasText o = status_of o ≤ 1
 abbrev pub line_of : Outcome → List ℕ
 line_of ends.Done = []
 line_of (ends.No line why) = []
-line_of ends.Usage = codes "interp: usage: interp MODE [--workers N] [--nodes B] [--terms T] [--seed S]\n"
+line_of ends.Usage = codes "interp: usage: interp MODE [--workers N] [--nodes B] [--terms T] [--seed S] [--order NAMES]\n"
 line_of (ends.Text line why) = codes "interp: line " ++ decimal line ++ codes ": " ++ why_name why ++ codes "\n"
 line_of ends.TooWide = codes "interp: more than 14 inputs cannot be checked\n"
 line_of (ends.AnswerText line why) = codes "interp: answer line " ++ decimal line ++ codes ": " ++ answer_why_name why ++ codes "\n"
@@ -59,6 +60,7 @@ line_of ends.Memory = codes "interp: out of memory\n"
 line_of ends.ReadFault = codes "interp: read fault\n"
 line_of ends.WriteFault = codes "interp: write fault\n"
 line_of ends.TooLong = codes "interp: longer than 4194304 bytes\n"
+line_of ends.Order = codes "interp: order must name every input once\n"
 
 -- ---- what a run does
 
@@ -74,8 +76,8 @@ pub record TellsFirst (old new : Option (List ℕ)) (due : Due) (before after : 
   pub left : after ≡ left_after_all (take count due.notes) before
   pub holds : (bytes gained : List ℕ) → old ≡ Some bytes → new ≡ Some (bytes ++ gained) → HoldsFirst due.pages gained count
 
--- a run with these words on these bytes ends with an outcome: with the one that is due, or for a fault, for want of memory, or
--- because it needs more nodes than there are slots. The rest says what out gained, and who of the watchers is left.
+-- a run with these words on these bytes ends with an outcome: with the one that is due, or for a fault or want of memory. The
+-- rest says what out gained, and who of the watchers is left.
 pub data Ends (words : List (List ℕ)) (bytes : List ℕ) (old new : Option (List ℕ)) (before after : List WatcherState) : Outcome
     → Type 0 where
   refused : IsRefused words → Keeps old new → after ≡ before → Ends words bytes old new before after ends.Usage
@@ -84,8 +86,6 @@ pub data Ends (words : List (List ℕ)) (bytes : List ℕ) (old new : Option (Li
   write_fault : (job : Job) (due : Due) → IsAsked words job → IsDue job bytes due → HasText due.outcome
       → GainsFront old new (concat due.pages) → TellsFirst old new due before after
       → Ends words bytes old new before after ends.WriteFault
-  exhausted : (job : Job) → IsAsked words job → IsExhausted job bytes → Keeps old new → after ≡ before
-      → Ends words bytes old new before after (ends.Exhausted (2 ^ job.nodes))
   read_fault : (job : Job) → IsAsked words job → Keeps old new → after ≡ before → Ends words bytes old new before after ends.ReadFault
   memory : Keeps old new → after ≡ before → Ends words bytes old new before after ends.Memory
 

@@ -4,13 +4,13 @@ ghost use Rattle.lattice.specs.Family.{Covers};
 ghost use Rattle.lattice.specs.Rows.{IsConsistent};
 ghost use Rattle.lattice.specs.WorkingLists.{output_numbers, second_phase, working_set};
 ghost use Rattle.lattice.specs.declared.kind.Mode.{Mode};
+ghost use Rattle.lattice.specs.declared.kind.Mode.TheVariants.{Basis};
 ghost use Rattle.node_store.specs.Stores.{Grows, IsFull, Reads};
 ghost use Rattle.computed_cache.specs.Cached.{cached_state};
 ghost use Rattle.pla_reader.specs.Reading.{description};
 ghost use Rattle.interp_run.specs.Phases.{AreGrouped, AreLeads, AreOf, IsFirst, IsSecond, element_task, first_tasks, second_tasks, terms_of};
 
 use crate::phases::{First, Solved, Stop};
-use crate::printed::lists_of;
 use crate::tasks::{Part, Task, Tasks, all_done};
 use computed_cache::CachedPass;
 use fork_branches::Pool;
@@ -18,11 +18,12 @@ use lattice::{Memory, Mode, MonoLists, Monos};
 use node_store::{Handle, Store};
 use outside::Rendezvous;
 use pla_reader::Pla;
+use run_parts::lists_of;
 use std::alloc::Global;
 use std::thread::Threads;
 
-// A list without monomials for each output.
-fn no_leads(alloc: Global, outputs: u32) -> Result<MonoLists, Memory>
+/// A list without monomials for each output.
+pub(crate) fn no_leads(alloc: Global, outputs: u32) -> Result<MonoLists, Memory>
     ensures { IfOk result (λ lists. map reverse lists ≡ map (λ _. []) (output_numbers outputs)) }
 {
     let mut lists = MonoLists::new(alloc);
@@ -32,27 +33,21 @@ fn no_leads(alloc: Global, outputs: u32) -> Result<MonoLists, Memory>
     Ok(lists)
 }
 
-/// The leads of each output, from the greatest down; none in mode anf. There are at most `limit` terms in what was found.
+/// The leads of each output, from the greatest down, in mode basis. There are at most `limit` terms in what was found.
 pub(crate) fn lead_lists<S: Store>(
     alloc: Global,
     store: &mut S,
     pla: &Pla,
-    mode: Mode,
     found: &[Handle],
     limit: u64,
 ) -> Result<MonoLists, Memory>
-    requires found { AreOf (S.state store.old) (description pla.now) found.now (first_tasks (description pla.now) mode) }
+    requires found { AreOf (S.state store.old) (description pla.now) found.now (first_tasks (description pla.now) Basis) }
     requires few { terms_of (S.state store.old) found.now ≤ limit }
     ensures reads { Reads (S.state store.old) (S.state store.new) }
-    ensures leads { IfOk result (AreLeads (description pla.now) mode) }
+    ensures leads { IfOk result (AreLeads (description pla.now) Basis) }
 {
-    match mode {
-        Mode::Basis => {
-            let (_, leads) = found.split_at(pla.outputs as usize);
-            lists_of(alloc, store, leads, limit)
-        }
-        Mode::Anf | Mode::Check | Mode::Gen => no_leads(alloc, pla.outputs),
-    }
+    let (_, leads) = found.split_at(pla.outputs as usize);
+    lists_of(alloc, store, leads, limit)
 }
 
 // The tasks with those for the elements of an output behind them, by ascending lead.
@@ -123,11 +118,13 @@ pub(crate) fn second_phase<R: Threads + Sync, P: Pool>(
     requires consistent { IsConsistent pla.now.inputs pla.now.outputs pla.now.rows }
     requires first { IsFirst (cached_state store.old) (description pla.now) mode first.now }
     requires leads { AreLeads (description pla.now) mode leads.now }
-    requires few { length (second_tasks (description pla.now) mode) < 2 ^ 30 }
+    requires few { length (second_tasks (description pla.now) mode) ≤ 1000000 }
     requires planned { Covers (cached_state store.old).plan (working_set pla.now.inputs (second_phase pla.now.inputs pla.now.outputs pla.now.kind pla.now.rows mode)) }
     ensures grows { Grows (cached_state store.old) (cached_state store.new) }
     ensures solved { IfOk result (λ solved. IsSecond (cached_state store.new) (description pla.now) mode solved.items) }
-    ensures jobs { OnOk result (P.done pool.new ≡ P.done pool.old + length (second_tasks (description pla.now) mode)) }
+    ensures jobs { OnOk result (P.done pool.old + length (second_tasks (description pla.now) mode) ≤ P.done pool.new) }
+    ensures least { P.done pool.old ≤ P.done pool.new }
+    ensures most { P.done pool.new ≤ P.done pool.old + 2 ^ 24 }
     ensures full { IsErrOf result Stop.Full → IsFull (cached_state store.old) (cached_state store.new) }
     ensures counted { ¬ IsErrOf result Stop.Terms }
 {

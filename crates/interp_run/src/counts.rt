@@ -6,23 +6,8 @@ ghost use Rattle.interp_run.specs.Phases.{KnowsSolved, second_terms, terms_of};
 
 use crate::phases::Solved;
 use node_store::{Handle, Store};
+use run_parts::count_terms;
 use set_algebra::count_upto;
-
-// The count and the terms of polynomials; None exactly where they pass `limit`.
-fn add_all<S: Store>(store: &mut S, before: u64, polynomials: &[Handle], limit: u64) -> Option<u64>
-    requires few { before ≤ limit }
-    requires known { All (Knows (S.state store.old)) polynomials.now }
-    ensures reads { Reads (S.state store.old) (S.state store.new) }
-    ensures count { let s = S.state store.old in IfSome result (λ n. n ≡ before + terms_of s polynomials.now) }
-    ensures within { IfSome result (λ n. n ≤ limit) }
-    ensures over { let s = S.state store.old in IfNone result (limit < before + terms_of s polynomials.now) }
-{
-    let mut count = before;
-    for polynomial in polynomials {
-        count += count_upto(store, *polynomial, limit - count)?;
-    }
-    Some(count)
-}
 
 // The count and the terms of an output: of its polynomial and of others; None exactly where they pass `limit`.
 fn add_terms<S: Store>(
@@ -40,7 +25,7 @@ fn add_terms<S: Store>(
     ensures over { let s = S.state store.old in IfNone result (limit < before + length (family s polynomial) + terms_of s others.now) }
 {
     let count = before + count_upto(store, polynomial, limit - before)?;
-    add_all(store, count, others, limit)
+    count_terms(store, count, others, limit)
 }
 
 /// The terms of what phase 1 found: of the polynomials and, as the leads, of the bases; None exactly where they pass `limit`.
@@ -51,7 +36,7 @@ pub(crate) fn first_count<S: Store>(store: &mut S, found: &[Handle], limit: u64)
     ensures within { IfSome result (λ n. n ≤ limit) }
     ensures over { IfNone result (limit < terms_of (S.state store.old) found.now) }
 {
-    add_all(store, 0, found, limit)
+    count_terms(store, 0, found, limit)
 }
 
 /// The terms of all polynomials and of all elements of bases; None exactly where they pass `limit`.

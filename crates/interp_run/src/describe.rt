@@ -1,37 +1,78 @@
-//! The description of a run, and its contradictions.
-ghost use Rattle.std.specs.Prelude.{◌≡◌, ◌≤◌, false, IfOk, IfErr, IfSome, IsNone, Ok, OnOk, length};
+//! The description of a run, in the order that is asked for, and its contradictions.
+ghost use Rattle.std.specs.Prelude.{◌≡◌, ◌≤◌, ◌⊎◌, false, Err, IfOk, IfErr, IfSome, IsNone, Ok, OnOk, length};
 ghost use Rattle.lattice.specs.Rows.{IsConsistent};
-ghost use Rattle.cli_words.specs.declared.job.Job.{Job};
 ghost use Rattle.pla_reader.specs.Reading.{bytes_taken, description};
-ghost use Rattle.interp_run.specs.Due.{file_of, is_gen};
-ghost use Rattle.interp_run.specs.Parts.{EndsWithout, IsContradiction};
+ghost use Rattle.run_parts.specs.declared.describe.TheConstants.{MOST_BYTES};
+ghost use Rattle.interp_run.specs.Due.{file_of, in_order, is_gen};
+ghost use Rattle.interp_run.specs.Parts.{EndsWithout, IsContradiction, disordered_outcome, undescribed_outcome};
+ghost use Rattle.interp_run.specs.declared.outcome.Outcome.TheVariants as outcomes;
 
 use crate::Outcome;
+use cli_words::Job;
 use cube_sets::conflict;
-use pla_reader::{Pla, ReadRefusal, read};
+use lattice::Memory;
+use pla_reader::{OrderRefusal, Pla, arrange, read_order};
+use run_parts::{DescribeRefusal, described};
 use std::alloc::Global;
 
-/// A source may give so many bytes.
-pub(crate) const MOST_BYTES: usize = 4_194_304;
+// How the run ends whose bytes have no description.
+fn undescribed(refusal: DescribeRefusal) -> Outcome
+    ensures { result ≡ undescribed_outcome refusal }
+{
+    match refusal {
+        DescribeRefusal::TooLong => Outcome::TooLong,
+        DescribeRefusal::Text { line, why } => Outcome::Text { line, why },
+        DescribeRefusal::Memory => Outcome::Memory,
+    }
+}
 
-/// The description of the bytes and the number of bytes that it takes, or how the run ends without it.
-pub(crate) fn description_of(alloc: Global, bytes: &[u8]) -> Result<(Pla, usize), Outcome>
-    ensures ok { IfOk result (λ found. (job : Job) → is_gen job.mode ≡ false → file_of job bytes.now ≡ Ok (description found.0)) }
+// How the run ends whose order is refused.
+fn disordered(refusal: OrderRefusal) -> Outcome
+    ensures { result ≡ disordered_outcome refusal }
+{
+    match refusal {
+        OrderRefusal::Bad => Outcome::Order,
+        OrderRefusal::Memory => Outcome::Memory,
+    }
+}
+
+// The description in the order that the job asks for, or how the run ends without it.
+fn in_order(alloc: Global, job: &Job, pla: Pla) -> Result<Pla, Outcome>
+    ensures ok { IfOk result (λ file. in_order job.now.order (description pla) ≡ Ok (description file)) }
+    ensures err { IfErr result (λ o. (in_order job.now.order (description pla) ≡ Err o) ⊎ (o ≡ outcomes.Memory)) }
+{
+    let Some(text) = &job.order else {
+        return Ok(pla);
+    };
+    let order = match read_order(alloc, &pla, text.as_slice()) {
+        Ok(order) => order,
+        Err(refusal) => return Err(disordered(refusal)),
+    };
+    match arrange(alloc, &pla, &order) {
+        Ok(file) => Ok(file),
+        Err(Memory) => Err(Outcome::Memory),
+    }
+}
+
+/// The description of the bytes, in the order that the job asks for, and the number of bytes that it takes, or how the run ends
+/// without it.
+pub(crate) fn description_of(
+    alloc: Global,
+    job: &Job,
+    bytes: &[u8],
+) -> Result<(Pla, usize), Outcome>
+    requires reads { is_gen job.now.mode ≡ false }
+    ensures ok { IfOk result (λ found. file_of job.now bytes.now ≡ Ok (description found.0)) }
     ensures few { OnOk result (length bytes.now ≤ MOST_BYTES) }
     ensures taken { IfOk result (λ found. found.1 ≡ bytes_taken bytes.now) }
-    ensures err { IfErr result (λ o. (job : Job) → is_gen job.mode ≡ false → EndsWithout job bytes.now o) }
+    ensures err { IfErr result (EndsWithout job.now bytes.now) }
 {
-    if bytes.len() > MOST_BYTES {
-        return Err(Outcome::TooLong);
-    }
-    match read(alloc, bytes) {
-        Ok((pla, taken)) => Ok((pla, taken)),
-        Err(ReadRefusal::Bad(refusal)) => Err(Outcome::Text {
-            line: refusal.line,
-            why: refusal.why,
-        }),
-        Err(ReadRefusal::Memory) => Err(Outcome::Memory),
-    }
+    let (pla, taken) = match described(alloc, bytes) {
+        Ok(found) => found,
+        Err(refusal) => return Err(undescribed(refusal)),
+    };
+    let file = in_order(alloc, job, pla)?;
+    Ok((file, taken))
 }
 
 /// How the run ends where rows contradict each other.

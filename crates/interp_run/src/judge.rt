@@ -1,6 +1,5 @@
 //! Mode check: an answer that stands after its description is judged.
 ghost use Rattle.std.specs.Prelude.{◌≡◌, ◌∷◌, [], drop, IfErr, IfOk};
-ghost use Rattle.cli_words.specs.declared.job.Job.{Job};
 ghost use Rattle.lattice.specs.declared.kind.Mode.TheVariants.{Check};
 ghost use Rattle.interp_run.specs.Due.{IsDue, judged};
 ghost use Rattle.interp_run.specs.Parts.{EndsWithout, refused_outcome};
@@ -9,6 +8,7 @@ use crate::Outcome;
 use crate::describe::{contradiction_of, description_of};
 use arrayvec::ArrayString;
 use cert_check::{AnswerRefusal, CheckRefusal, MOST_INPUTS, Verdict, check, read_answer};
+use cli_words::Job;
 use itoa::Buffer;
 use std::alloc::Global;
 
@@ -33,11 +33,12 @@ fn behind(bytes: &[u8], taken: usize) -> &[u8]
 }
 
 /// The verdict on the answer that stands after the description, or how the run ends without it.
-pub(crate) fn verdict_of(alloc: Global, bytes: &[u8]) -> Result<Verdict, Outcome>
-    ensures ok { IfOk result (λ v. (job : Job) → job.mode ≡ Check → IsDue job bytes.now (judged v)) }
-    ensures err { IfErr result (λ o. (job : Job) → job.mode ≡ Check → EndsWithout job bytes.now o) }
+pub(crate) fn verdict_of(alloc: Global, job: &Job, bytes: &[u8]) -> Result<Verdict, Outcome>
+    requires mode { job.now.mode ≡ Check }
+    ensures ok { IfOk result (λ v. IsDue job.now bytes.now (judged v)) }
+    ensures err { IfErr result (EndsWithout job.now bytes.now) }
 {
-    let (pla, taken) = description_of(alloc, bytes)?;
+    let (pla, taken) = description_of(alloc, job, bytes)?;
     if pla.inputs > MOST_INPUTS {
         return Err(Outcome::TooWide);
     }

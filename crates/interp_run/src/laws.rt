@@ -21,7 +21,7 @@ pub fn yes_is_right()
     ensures { YesIsRight }
 {}
 
-/// What is due for a worked file in the modes anf, basis and check.
+/// What is due for a worked file in the modes anf, basis and check, by another order of its inputs, and by a text that is none.
 pub fn due_for_two_points()
     ensures { DueForTwoPoints }
 {}

@@ -1,8 +1,10 @@
 //! The top call: from the words and the bytes to the text and the status.
 #![tactic(auto)]
 
+mod answer;
 mod bases;
 mod counts;
+mod cover_jobs;
 mod describe;
 mod judge;
 pub mod laws;
@@ -15,8 +17,9 @@ mod summary;
 mod tasks;
 mod top;
 
+pub use crate::answer::{Answered, Notes, answer_of};
 pub use crate::outcome::Outcome;
-pub use crate::plan::run_plan;
+pub use crate::plan::{first_plan, run_plan};
 pub use crate::top::{report, run};
 
 #[cfg(test)]

@@ -1,21 +1,20 @@
 //! The two phases of a run: the polynomials and the leads of all outputs, and the elements of their bases.
 ghost use Rattle.std.specs.Prelude.{◌≡◌, ◌+◌, ◌++◌, ◌<◌, ◌≤◌, ◌^◌, IfOk, IsErrOf, OnOk, length, map};
-ghost use Rattle.std.specs.List.{flat_map};
 ghost use Rattle.lattice.specs.Family.{Covers};
 ghost use Rattle.lattice.specs.Rows.{IsConsistent};
-ghost use Rattle.lattice.specs.WorkingLists.{care_list, first_phase, output_numbers, working_set};
+ghost use Rattle.lattice.specs.WorkingLists.{first_phase, output_numbers, working_set};
 ghost use Rattle.node_store.specs.Stores.{Grows, IsFull};
-ghost use Rattle.cube_build.specs.UsedCubes.{AreCubes};
 ghost use Rattle.computed_cache.specs.Cached.{cached_state};
 ghost use Rattle.pla_reader.specs.Reading.{description};
-ghost use Rattle.interp_run.specs.Phases.{CaresDone, IsFirst, first_tasks, task};
+ghost use Rattle.interp_run.specs.Phases.{IsFirst, first_tasks, task};
 
+use crate::cover_jobs::all_cares;
 use crate::tasks::{Part, Task, Tasks, all_done};
 use computed_cache::CachedPass;
-use cube_build::{CubesRefusal, care_sets, row_cubes};
+use cube_build::CubesRefusal;
 use fork_branches::{Pool, SolveRefusal};
 use lattice::{Memory, Mode};
-use node_store::{Full, Handle, Store};
+use node_store::{Full, Handle};
 use outside::Rendezvous;
 use pla_reader::Pla;
 use set_algebra::ValuedPoints;
@@ -103,45 +102,6 @@ pub(crate) struct Solved {
     pub basis: Vec<Handle>,
 }
 
-// The care sets of all outputs, from the cubes of the rows.
-fn cares_with<S: Store>(
-    alloc: Global,
-    store: &mut S,
-    pla: &Pla,
-    cubes: &[Handle],
-) -> Result<Vec<ValuedPoints>, Stop>
-    requires vars { (S.state store.old).vars ≡ pla.now.inputs }
-    requires cubes { AreCubes (S.state store.old) pla.now.rows cubes.now }
-    requires planned { let p = pla.now in Covers (S.state store.old).plan (working_set p.inputs (flat_map (care_list p.inputs p.kind p.rows) (output_numbers p.outputs))) }
-    ensures grows { Grows (S.state store.old) (S.state store.new) }
-    ensures cares { IfOk result (λ cares. CaresDone (S.state store.new) (description pla.now) pla.now.outputs cares.items) }
-    ensures full { IsErrOf result Stop.Full → IsFull (S.state store.old) (S.state store.new) }
-    ensures counted { ¬ IsErrOf result Stop.Terms }
-{
-    let mut cares = Vec::new(alloc);
-    for before in 0..pla.outputs {
-        cares.push(care_sets(store, pla, cubes, before + 1)?)?;
-    }
-    Ok(cares)
-}
-
-/// The care sets of all outputs. Each row's cube is built once.
-pub(crate) fn all_cares<S: Store>(
-    alloc: Global,
-    store: &mut S,
-    pla: &Pla,
-) -> Result<Vec<ValuedPoints>, Stop>
-    requires vars { (S.state store.old).vars ≡ pla.now.inputs }
-    requires planned { let p = pla.now in Covers (S.state store.old).plan (working_set p.inputs (flat_map (care_list p.inputs p.kind p.rows) (output_numbers p.outputs))) }
-    ensures grows { Grows (S.state store.old) (S.state store.new) }
-    ensures cares { IfOk result (λ cares. CaresDone (S.state store.new) (description pla.now) pla.now.outputs cares.items) }
-    ensures full { IsErrOf result Stop.Full → IsFull (S.state store.old) (S.state store.new) }
-    ensures counted { ¬ IsErrOf result Stop.Terms }
-{
-    let cubes = row_cubes(alloc, store, pla)?;
-    cares_with(alloc, store, pla, &cubes)
-}
-
 // The tasks with this part of each output behind them.
 fn with_all(mut tasks: Vec<Task>, part: &Part, outputs: u32) -> Result<Vec<Task>, Memory>
     ensures { IfOk result (λ all. all.items ≡ tasks.items ++ map (task part.now) (output_numbers outputs)) }
@@ -166,7 +126,7 @@ fn first_tasks(alloc: Global, pla: &Pla, mode: Mode) -> Result<Vec<Task>, Memory
     }
 }
 
-/// Phase 1.
+/// Phase 1. The jobs of the pool are the covers of the outputs' sets, and then the tasks.
 pub(crate) fn first_phase<R: Threads + Sync, P: Pool>(
     rt: &R,
     alloc: Global,
@@ -184,11 +144,13 @@ pub(crate) fn first_phase<R: Threads + Sync, P: Pool>(
     requires planned { Covers (cached_state store.old).plan (working_set pla.now.inputs (first_phase pla.now.inputs pla.now.outputs pla.now.kind pla.now.rows mode)) }
     ensures grows { Grows (cached_state store.old) (cached_state store.new) }
     ensures found { IfOk result (IsFirst (cached_state store.new) (description pla.now) mode) }
-    ensures jobs { OnOk result (P.done pool.new ≡ P.done pool.old + length (first_tasks (description pla.now) mode)) }
+    ensures jobs { OnOk result (P.done pool.old + length (first_tasks (description pla.now) mode) ≤ P.done pool.new) }
+    ensures least { P.done pool.old ≤ P.done pool.new }
+    ensures most { P.done pool.new ≤ P.done pool.old + 2 ^ 24 }
     ensures full { IsErrOf result Stop.Full → IsFull (cached_state store.old) (cached_state store.new) }
     ensures counted { ¬ IsErrOf result Stop.Terms }
 {
-    let cares = all_cares(alloc, store, pla)?;
+    let cares = all_cares(rt, alloc, store, pool, gate, workers, pla)?;
     let list = first_tasks(alloc, pla, mode)?;
     let tasks = Tasks {
         pla,

@@ -1,30 +1,31 @@
-//! A consistent description solved on a table of its own.
-ghost use Rattle.std.specs.Prelude.{◌≡◌, ◌≢◌, ◌⊎◌, ◌<◌, ◌≤◌, ◌^◌, ◌+◌, IfOk, IfErr, IsErrOf, OnOk, length, map};
+//! A consistent description solved, each phase on a table of its own.
+ghost use Rattle.std.specs.Prelude.{◌≡◌, ◌≢◌, ◌<◌, ◌≤◌, ◌^◌, ◌+◌, true, IfOk, IfErr, IsErrOf, OnOk, length, map};
 ghost use Rattle.std.specs.List.{All};
+ghost use Rattle.lattice.specs.declared.kind.Mode.TheVariants.{Basis, Gen};
 ghost use Rattle.lattice.specs.declared.limits.TheConstants.{MIN_BITS, MAX_BITS};
 ghost use Rattle.lattice.specs.Rows.{IsConsistent};
-ghost use Rattle.lattice.specs.WorkingLists.{second_phase, working_set};
-ghost use Rattle.node_store.specs.Stores.{Denotes, Grows, Reads};
-ghost use Rattle.computed_cache.specs.Cached.{cached_state};
+ghost use Rattle.lattice.specs.WorkingLists.{is_basis};
+ghost use Rattle.node_store.specs.Stores.{Denotes, Reads};
 ghost use Rattle.pla_reader.specs.Reading.{description};
-ghost use Rattle.anf_printer.specs.Text.{answer_of};
-ghost use Rattle.interp_run.specs.Answers.{AreAnswers, jobs_for, last_nodes};
+ghost use Rattle.anf_printer.specs.Text.{shown_answer};
+ghost use Rattle.cli_words.specs.CommandLine.{IsWithin};
+ghost use Rattle.interp_run.specs.Answers.{AreAnswers, first_nodes, last_nodes};
 ghost use Rattle.interp_run.specs.Due.{IsDueSolving, silent, solved};
-ghost use Rattle.interp_run.specs.Parts.{EndsUnsolved, stopped_outcome};
-ghost use Rattle.interp_run.specs.Phases.{AreCares, IsFirst, KnowsSolved, answer_in, first_tasks, ones_in, second_terms, terms_of, zeros_in};
+ghost use Rattle.interp_run.specs.Parts.{EndsUnsolved, FirstFits, jobs_for, stopped_outcome};
+ghost use Rattle.interp_run.specs.Phases.{AreCares, AreLeads, KnowsSolved, answer_in, ones_in, second_terms, zeros_in};
 ghost use Rattle.interp_run.specs.declared.outcome.Outcome.TheVariants as outcomes;
 
 use crate::Outcome;
-use crate::bases::{lead_lists, second_phase};
+use crate::bases::{lead_lists, no_leads, second_phase};
 use crate::counts::{first_count, second_count};
-use crate::phases::{First, Solved, Stop, all_cares, first_phase};
-use crate::plan::run_plan;
+use crate::phases::{Solved, Stop, first_phase};
+use crate::plan::{first_plan, run_plan};
 use crate::printed::shown_of;
 use anf_printer::Shown;
 use cli_words::Job;
 use computed_cache::CachedPass;
 use fork_branches::Pool;
-use lattice::{MAX_VARS, Memory};
+use lattice::{MAX_VARS, Memory, Mode, MonoLists, Monos};
 use node_store::Store;
 use outside::Rendezvous;
 use pla_reader::Pla;
@@ -33,33 +34,77 @@ use std::alloc::Global;
 use std::thread::Threads;
 use unique_table::Shared;
 
-// What phase 1 finds, where its terms are within the limit.
-fn found_in<R: Threads + Sync, P: Pool>(
+// A run begins on tables of 2^12 slots, where its own are greater: most descriptions need no more, and a great table takes
+// longer to make than these to solve.
+const SMALL_BITS: u32 = 12;
+
+/// What is printed of each output, and in mode gen how many care points the first one has.
+#[derive(Drop)]
+pub(crate) struct Solution {
+    pub points: u64,
+    pub shown: Vec<Shown>,
+}
+
+// The leads of each output in mode basis, where phase 1 fits 2^bits slots and its terms are within the limit. Its table is
+// given up.
+fn leads_on<R: Threads + Sync, P: Pool>(
     rt: &R,
     alloc: Global,
-    store: &mut CachedPass,
     pool: &mut P,
     gate: &Rendezvous,
     pla: &Pla,
     job: &Job,
-) -> Result<First, Stop>
-    requires workers { (1 ≤ job.now.workers) × (job.now.workers ≤ 16) }
+    bits: u32,
+) -> Result<MonoLists, Stop>
+    requires basis { job.now.mode ≡ Basis }
+    requires within { IsWithin job.now }
+    requires bits { (MIN_BITS ≤ bits) × (bits ≤ job.now.nodes) }
     requires room { P.done pool.old < 2 ^ 29 }
-    requires vars { (cached_state store.old).vars ≡ pla.now.inputs }
-    requires plan { let p = pla.now in (cached_state store.old).plan ≡ working_set p.inputs (second_phase p.inputs p.outputs p.kind p.rows job.now.mode) }
-    requires capacity { (cached_state store.old).capacity ≡ 2 ^ job.now.nodes }
     requires consistent { IsConsistent pla.now.inputs pla.now.outputs pla.now.rows }
-    ensures grows { Grows (cached_state store.old) (cached_state store.new) }
-    ensures found { IfOk result (λ first. IsFirst (cached_state store.new) (description pla.now) job.now.mode first × (terms_of (cached_state store.new) first.found.items ≤ job.now.terms)) }
-    ensures jobs { OnOk result (P.done pool.new ≡ P.done pool.old + length (first_tasks (description pla.now) job.now.mode)) }
-    ensures full { IsErrOf result Stop.Full → 2 ^ job.now.nodes < last_nodes (description pla.now) job.now.mode }
+    ensures leads { IfOk result (AreLeads (description pla.now) job.now.mode) }
+    ensures fits { OnOk result (FirstFits job.now (description pla.now)) }
+    ensures full { IsErrOf result Stop.Full → 2 ^ bits < first_nodes (description pla.now) job.now.mode }
     ensures terms { IsErrOf result Stop.Terms → IsDueSolving job.now (description pla.now) (silent (outcomes.Terms job.now.terms)) }
+    ensures most { P.done pool.new ≤ P.done pool.old + 2 ^ 24 }
 {
-    let first = first_phase(rt, alloc, store, pool, gate, job.workers, pla, job.mode)?;
-    if first_count(store, &first.found, job.terms).is_none() {
+    let (table, token) = Shared::make(alloc, bits, pla.inputs, first_plan(pla, job.mode))?;
+    let mut pass = CachedPass::new(table.pass(token));
+    let first = first_phase(rt, alloc, &mut pass, pool, gate, job.workers, pla, job.mode)?;
+    if first_count(&mut pass, &first.found, job.terms).is_none() {
         return Err(Stop::Terms);
     }
-    Ok(first)
+    Ok(lead_lists(alloc, &mut pass, pla, &first.found, job.terms)?)
+}
+
+// The same from a table of 2^bits slots on, and the size of the table that sufficed.
+fn leads_found<R: Threads + Sync, P: Pool>(
+    rt: &R,
+    alloc: Global,
+    pool: &mut P,
+    gate: &Rendezvous,
+    pla: &Pla,
+    job: &Job,
+    bits: u32,
+) -> Result<(MonoLists, u32), Stop>
+    requires basis { job.now.mode ≡ Basis }
+    requires within { IsWithin job.now }
+    requires bits { (MIN_BITS ≤ bits) × (bits ≤ job.now.nodes) }
+    requires room { P.done pool.old < 2 ^ 28 }
+    requires consistent { IsConsistent pla.now.inputs pla.now.outputs pla.now.rows }
+    ensures leads { IfOk result (λ r. AreLeads (description pla.now) job.now.mode r.0) }
+    ensures bits { IfOk result (λ r. (MIN_BITS ≤ r.1) × (r.1 ≤ job.now.nodes)) }
+    ensures fits { OnOk result (FirstFits job.now (description pla.now)) }
+    ensures full { IsErrOf result Stop.Full → 2 ^ job.now.nodes < first_nodes (description pla.now) job.now.mode }
+    ensures terms { IsErrOf result Stop.Terms → IsDueSolving job.now (description pla.now) (silent (outcomes.Terms job.now.terms)) }
+    ensures most { P.done pool.new ≤ P.done pool.old + 2 ^ 25 }
+{
+    match leads_on(rt, alloc, pool, gate, pla, job, bits) {
+        Err(Stop::Full) if bits < job.nodes => {
+            let leads = leads_on(rt, alloc, pool, gate, pla, job, job.nodes)?;
+            Ok((leads, job.nodes))
+        }
+        leads => Ok((leads?, bits)),
+    }
 }
 
 // What is printed of what was solved, where its terms are within the limit.
@@ -70,7 +115,7 @@ fn shown_in<S: Store>(
     limit: u64,
 ) -> Result<Vec<Shown>, Stop>
     requires known { All (KnowsSolved (S.state store.old)) solved.now }
-    ensures shown { IfOk result (λ shown. (map answer_of shown.items ≡ map (answer_in (S.state store.old)) solved.now) × (second_terms (S.state store.old) solved.now ≤ limit)) }
+    ensures shown { IfOk result (λ shown. (map shown_answer shown.items ≡ map (answer_in (S.state store.old)) solved.now) × (second_terms (S.state store.old) solved.now ≤ limit)) }
     ensures full { ¬ IsErrOf result Stop.Full }
     ensures terms { IsErrOf result Stop.Terms → limit < second_terms (S.state store.old) solved.now }
 {
@@ -78,46 +123,6 @@ fn shown_in<S: Store>(
         return Err(Stop::Terms);
     }
     Ok(shown_of(alloc, store, solved, limit)?)
-}
-
-// What is printed of each output, found in a store with the plan of the run.
-fn solve_in<R: Threads + Sync, P: Pool>(
-    rt: &R,
-    alloc: Global,
-    store: &mut CachedPass,
-    pool: &mut P,
-    gate: &Rendezvous,
-    pla: &Pla,
-    job: &Job,
-) -> Result<Vec<Shown>, Stop>
-    requires workers { (1 ≤ job.now.workers) × (job.now.workers ≤ 16) }
-    requires room { P.done pool.old < 2 ^ 29 }
-    requires vars { (cached_state store.old).vars ≡ pla.now.inputs }
-    requires terms { job.now.terms ≤ 1000000 }
-    requires plan { let p = pla.now in (cached_state store.old).plan ≡ working_set p.inputs (second_phase p.inputs p.outputs p.kind p.rows job.now.mode) }
-    requires capacity { (cached_state store.old).capacity ≡ 2 ^ job.now.nodes }
-    requires consistent { IsConsistent pla.now.inputs pla.now.outputs pla.now.rows }
-    ensures ok { IfOk result (λ shown. AreAnswers (description pla.now) job.now.mode (map answer_of shown.items) × IsDueSolving job.now (description pla.now) (solved job.now (description pla.now) (map answer_of shown.items))) }
-    ensures jobs { IfOk result (λ shown. P.done pool.new ≡ P.done pool.old + jobs_for job.now.mode (map answer_of shown.items)) }
-    ensures full { IsErrOf result Stop.Full → 2 ^ job.now.nodes < last_nodes (description pla.now) job.now.mode }
-    ensures terms { IsErrOf result Stop.Terms → IsDueSolving job.now (description pla.now) (silent (outcomes.Terms job.now.terms)) }
-{
-    let first = found_in(rt, alloc, store, pool, gate, pla, job)?;
-    let leads = lead_lists(alloc, store, pla, job.mode, &first.found, job.terms)?;
-    let solved = second_phase(
-        rt,
-        alloc,
-        store,
-        pool,
-        gate,
-        job.workers,
-        pla,
-        job.mode,
-        &first,
-        leads.as_slice(),
-    )?;
-    let shown = shown_in(alloc, store, &solved, job.terms)?;
-    Ok(shown)
 }
 
 // How many care points there are.
@@ -133,42 +138,119 @@ fn points_of<S: Store>(store: &mut S, pla: &Pla, output: u32, care: ValuedPoints
     zeros + ones
 }
 
-// How many care points the first output has.
-fn first_points<S: Store>(store: &mut S, pla: &Pla, cares: &[ValuedPoints]) -> u64
+// In mode gen, how many care points the first output has.
+fn points_counted<S: Store>(store: &mut S, pla: &Pla, mode: Mode, cares: &[ValuedPoints]) -> u64
     requires { AreCares (S.state store.old) (description pla.now) pla.now.outputs cares.now }
     ensures reads { Reads (S.state store.old) (S.state store.new) }
-    ensures count { let d = description pla.now in result ≡ length (zeros_in d 1) + length (ones_in d 1) }
+    ensures count { let d = description pla.now in mode ≡ Gen → result ≡ length (zeros_in d 1) + length (ones_in d 1) }
 {
-    points_of(store, pla, 1, cares[0])
+    match mode {
+        Mode::Gen => points_of(store, pla, 1, cares[0]),
+        Mode::Anf | Mode::Basis | Mode::Check => 0,
+    }
 }
 
-// The number of care points of the first output, and what is printed of each output, found in a store with the plan of the run.
-fn counted_in<R: Threads + Sync, P: Pool>(
+// The solution, where all phases fit 2^bits slots and its terms are within the limit. In mode basis phase 1 is known to be
+// within its own limits, and its families are built again.
+fn solution_on<R: Threads + Sync, P: Pool>(
     rt: &R,
     alloc: Global,
-    store: &mut CachedPass,
     pool: &mut P,
     gate: &Rendezvous,
     pla: &Pla,
     job: &Job,
-) -> Result<(u64, Vec<Shown>), Stop>
-    requires workers { (1 ≤ job.now.workers) × (job.now.workers ≤ 16) }
+    leads: &[Monos],
+    bits: u32,
+) -> Result<Solution, Stop>
+    requires within { IsWithin job.now }
+    requires bits { (MIN_BITS ≤ bits) × (bits ≤ job.now.nodes) }
     requires room { P.done pool.old < 2 ^ 29 }
-    requires vars { (cached_state store.old).vars ≡ pla.now.inputs }
-    requires terms { job.now.terms ≤ 1000000 }
-    requires plan { let p = pla.now in (cached_state store.old).plan ≡ working_set p.inputs (second_phase p.inputs p.outputs p.kind p.rows job.now.mode) }
-    requires capacity { (cached_state store.old).capacity ≡ 2 ^ job.now.nodes }
     requires consistent { IsConsistent pla.now.inputs pla.now.outputs pla.now.rows }
-    ensures points { IfOk result (λ r. let d = description pla.now in r.0 ≡ length (zeros_in d 1) + length (ones_in d 1)) }
-    ensures ok { IfOk result (λ r. AreAnswers (description pla.now) job.now.mode (map answer_of r.1.items) × IsDueSolving job.now (description pla.now) (solved job.now (description pla.now) (map answer_of r.1.items))) }
-    ensures jobs { IfOk result (λ r. P.done pool.new ≡ P.done pool.old + jobs_for job.now.mode (map answer_of r.1.items)) }
+    requires leads { AreLeads (description pla.now) job.now.mode leads.now }
+    requires fits { is_basis job.now.mode ≡ true → FirstFits job.now (description pla.now) }
+    ensures points { IfOk result (λ s. let d = description pla.now in job.now.mode ≡ Gen → s.points ≡ length (zeros_in d 1) + length (ones_in d 1)) }
+    ensures ok { IfOk result (λ s. AreAnswers (description pla.now) job.now.mode (map shown_answer s.shown.items) × IsDueSolving job.now (description pla.now) (solved job.now (description pla.now) (map shown_answer s.shown.items))) }
+    ensures jobs { IfOk result (λ s. P.done pool.old + jobs_for job.now.mode (map shown_answer s.shown.items) ≤ P.done pool.new) }
+    ensures full { IsErrOf result Stop.Full → 2 ^ bits < last_nodes (description pla.now) job.now.mode }
+    ensures terms { IsErrOf result Stop.Terms → IsDueSolving job.now (description pla.now) (silent (outcomes.Terms job.now.terms)) }
+    ensures least { P.done pool.old ≤ P.done pool.new }
+    ensures most { P.done pool.new ≤ P.done pool.old + 2 ^ 25 }
+{
+    let (table, token) = Shared::make(alloc, bits, pla.inputs, run_plan(pla, job.mode))?;
+    let mut pass = CachedPass::new(table.pass(token));
+    let first = first_phase(rt, alloc, &mut pass, pool, gate, job.workers, pla, job.mode)?;
+    let points = points_counted(&mut pass, pla, job.mode, &first.cares);
+    let solved = second_phase(
+        rt,
+        alloc,
+        &mut pass,
+        pool,
+        gate,
+        job.workers,
+        pla,
+        job.mode,
+        &first,
+        leads,
+    )?;
+    let shown = shown_in(alloc, &mut pass, &solved, job.terms)?;
+    Ok(Solution { points, shown })
+}
+
+// The same from a table of 2^bits slots on.
+fn solution_found<R: Threads + Sync, P: Pool>(
+    rt: &R,
+    alloc: Global,
+    pool: &mut P,
+    gate: &Rendezvous,
+    pla: &Pla,
+    job: &Job,
+    leads: &[Monos],
+    bits: u32,
+) -> Result<Solution, Stop>
+    requires within { IsWithin job.now }
+    requires bits { (MIN_BITS ≤ bits) × (bits ≤ job.now.nodes) }
+    requires room { P.done pool.old < 2 ^ 28 }
+    requires consistent { IsConsistent pla.now.inputs pla.now.outputs pla.now.rows }
+    requires leads { AreLeads (description pla.now) job.now.mode leads.now }
+    requires fits { is_basis job.now.mode ≡ true → FirstFits job.now (description pla.now) }
+    ensures points { IfOk result (λ s. let d = description pla.now in job.now.mode ≡ Gen → s.points ≡ length (zeros_in d 1) + length (ones_in d 1)) }
+    ensures ok { IfOk result (λ s. AreAnswers (description pla.now) job.now.mode (map shown_answer s.shown.items) × IsDueSolving job.now (description pla.now) (solved job.now (description pla.now) (map shown_answer s.shown.items))) }
+    ensures jobs { IfOk result (λ s. P.done pool.old + jobs_for job.now.mode (map shown_answer s.shown.items) ≤ P.done pool.new) }
     ensures full { IsErrOf result Stop.Full → 2 ^ job.now.nodes < last_nodes (description pla.now) job.now.mode }
     ensures terms { IsErrOf result Stop.Terms → IsDueSolving job.now (description pla.now) (silent (outcomes.Terms job.now.terms)) }
 {
-    let cares = all_cares(alloc, store, pla)?;
-    let points = first_points(store, pla, &cares);
-    let shown = solve_in(rt, alloc, store, pool, gate, pla, job)?;
-    Ok((points, shown))
+    match solution_on(rt, alloc, pool, gate, pla, job, leads, bits) {
+        Err(Stop::Full) if bits < job.nodes => {
+            solution_on(rt, alloc, pool, gate, pla, job, leads, job.nodes)
+        }
+        solution => solution,
+    }
+}
+
+// The leads of each output, which are none but in mode basis, and the size of the table to go on with.
+fn first_leads<R: Threads + Sync, P: Pool>(
+    rt: &R,
+    alloc: Global,
+    pool: &mut P,
+    gate: &Rendezvous,
+    pla: &Pla,
+    job: &Job,
+) -> Result<(MonoLists, u32), Stop>
+    requires within { IsWithin job.now }
+    requires room { P.done pool.old < 2 ^ 28 }
+    requires consistent { IsConsistent pla.now.inputs pla.now.outputs pla.now.rows }
+    ensures leads { IfOk result (λ r. AreLeads (description pla.now) job.now.mode r.0) }
+    ensures bits { IfOk result (λ r. (MIN_BITS ≤ r.1) × (r.1 ≤ job.now.nodes)) }
+    ensures fits { OnOk result (is_basis job.now.mode ≡ true → FirstFits job.now (description pla.now)) }
+    ensures full { IsErrOf result Stop.Full → 2 ^ job.now.nodes < first_nodes (description pla.now) job.now.mode }
+    ensures terms { IsErrOf result Stop.Terms → IsDueSolving job.now (description pla.now) (silent (outcomes.Terms job.now.terms)) }
+    ensures most { P.done pool.new ≤ P.done pool.old + 2 ^ 25 }
+{
+    let bits = job.nodes.min(SMALL_BITS);
+    match job.mode {
+        Mode::Basis => leads_found(rt, alloc, pool, gate, pla, job, bits),
+        Mode::Anf | Mode::Check | Mode::Gen => Ok((no_leads(alloc, pla.outputs)?, bits)),
+    }
 }
 
 // How a run ends that stopped without its answers.
@@ -185,8 +267,8 @@ fn stopped(stop: Stop, job: &Job) -> Outcome
     }
 }
 
-/// What is printed of each output of a consistent description, or how the run ends without it. The pool answers the jobs, which
-/// the job's number of workers run; their branches enter the gate.
+/// The solution of a consistent description, or how the run ends without it. The pool answers the jobs, which the job's number
+/// of workers run; their branches enter the gate.
 pub(crate) fn solve<R: Threads + Sync, P: Pool>(
     rt: &R,
     alloc: Global,
@@ -194,54 +276,22 @@ pub(crate) fn solve<R: Threads + Sync, P: Pool>(
     gate: &Rendezvous,
     pla: &Pla,
     job: &Job,
-) -> Result<Vec<Shown>, Outcome>
-    requires workers { (1 ≤ job.now.workers) × (job.now.workers ≤ 16) }
-    requires terms { job.now.terms ≤ 1000000 }
-    requires room { P.done pool.old < 2 ^ 29 }
-    requires nodes { (MIN_BITS ≤ job.now.nodes) × (job.now.nodes ≤ MAX_BITS) }
+) -> Result<Solution, Outcome>
+    requires within { IsWithin job.now }
+    requires fresh { P.done pool.old ≡ 0 }
     requires consistent { IsConsistent pla.now.inputs pla.now.outputs pla.now.rows }
-    ensures ok { IfOk result (λ shown. AreAnswers (description pla.now) job.now.mode (map answer_of shown.items) × IsDueSolving job.now (description pla.now) (solved job.now (description pla.now) (map answer_of shown.items))) }
-    ensures jobs { IfOk result (λ shown. P.done pool.new ≡ P.done pool.old + jobs_for job.now.mode (map answer_of shown.items)) }
-    ensures err { IfErr result (EndsUnsolved job.now (description pla.now)) }
-{
-    let Ok((table, token)) = Shared::make(alloc, job.nodes, pla.inputs, run_plan(pla, job.mode))
-    else {
-        return Err(Outcome::Memory);
-    };
-    let mut pass = CachedPass::new(table.pass(token));
-    match solve_in(rt, alloc, &mut pass, pool, gate, pla, job) {
-        Ok(shown) => Ok(shown),
-        Err(stop) => Err(stopped(stop, job)),
-    }
-}
-
-/// The same, beside the number of care points of the first output.
-pub(crate) fn solve_and_count<R: Threads + Sync, P: Pool>(
-    rt: &R,
-    alloc: Global,
-    pool: &mut P,
-    gate: &Rendezvous,
-    pla: &Pla,
-    job: &Job,
-) -> Result<(u64, Vec<Shown>), Outcome>
-    requires workers { (1 ≤ job.now.workers) × (job.now.workers ≤ 16) }
-    requires terms { job.now.terms ≤ 1000000 }
-    requires room { P.done pool.old < 2 ^ 29 }
-    requires nodes { (MIN_BITS ≤ job.now.nodes) × (job.now.nodes ≤ MAX_BITS) }
-    requires consistent { IsConsistent pla.now.inputs pla.now.outputs pla.now.rows }
-    ensures points { IfOk result (λ r. let d = description pla.now in r.0 ≡ length (zeros_in d 1) + length (ones_in d 1)) }
-    ensures ok { IfOk result (λ r. AreAnswers (description pla.now) job.now.mode (map answer_of r.1.items) × IsDueSolving job.now (description pla.now) (solved job.now (description pla.now) (map answer_of r.1.items))) }
-    ensures jobs { IfOk result (λ r. P.done pool.new ≡ P.done pool.old + jobs_for job.now.mode (map answer_of r.1.items)) }
+    ensures points { IfOk result (λ s. let d = description pla.now in job.now.mode ≡ Gen → s.points ≡ length (zeros_in d 1) + length (ones_in d 1)) }
+    ensures ok { IfOk result (λ s. AreAnswers (description pla.now) job.now.mode (map shown_answer s.shown.items) × IsDueSolving job.now (description pla.now) (solved job.now (description pla.now) (map shown_answer s.shown.items))) }
+    ensures jobs { IfOk result (λ s. jobs_for job.now.mode (map shown_answer s.shown.items) ≤ P.done pool.new) }
     ensures err { IfErr result (EndsUnsolved job.now (description pla.now)) }
     ensures unfinished { IfErr result (λ o. o ≢ outcomes.Done) }
 {
-    let Ok((table, token)) = Shared::make(alloc, job.nodes, pla.inputs, run_plan(pla, job.mode))
-    else {
-        return Err(Outcome::Memory);
+    let (leads, bits) = match first_leads(rt, alloc, pool, gate, pla, job) {
+        Ok(found) => found,
+        Err(stop) => return Err(stopped(stop, job)),
     };
-    let mut pass = CachedPass::new(table.pass(token));
-    match counted_in(rt, alloc, &mut pass, pool, gate, pla, job) {
-        Ok(counted) => Ok(counted),
+    match solution_found(rt, alloc, pool, gate, pla, job, leads.as_slice(), bits) {
+        Ok(solution) => Ok(solution),
         Err(stop) => Err(stopped(stop, job)),
     }
 }

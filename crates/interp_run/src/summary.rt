@@ -1,16 +1,16 @@
 //! Mode gen: the summary of the description that a seed makes.
-ghost use Rattle.std.specs.Prelude.{◌≡◌, ◌≢◌, ◌<◌, ◌≤◌, ◌^◌, ◌∷◌, ◌++◌, [], IfErr, IfOk, OnOk, List, ℕ, codes, decimal, length, map};
+ghost use Rattle.std.specs.Prelude.{◌≡◌, ◌≢◌, ◌≤◌, ◌∷◌, ◌++◌, [], IfErr, IfOk, OnOk, List, ℕ, codes, decimal, length, map};
 ghost use Rattle.std.specs.List.{enumerate_from, flat_map};
-ghost use Rattle.lattice.specs.declared.limits.TheConstants.{MIN_BITS, MAX_BITS};
 ghost use Rattle.lattice.specs.declared.kind.Mode.TheVariants.{Gen};
-ghost use Rattle.anf_printer.specs.Text.{answer_of};
+ghost use Rattle.anf_printer.specs.Text.{shown_answer};
+ghost use Rattle.cli_words.specs.CommandLine.{IsWithin};
 ghost use Rattle.interp_run.specs.Answers.{summary_line};
 ghost use Rattle.interp_run.specs.Due.{IsDue};
 ghost use Rattle.interp_run.specs.Parts.{EndsWithout};
 ghost use Rattle.interp_run.specs.declared.outcome.Outcome.TheVariants as outcomes;
 
 use crate::Outcome;
-use crate::solve::solve_and_count;
+use crate::solve::solve;
 use anf_printer::Shown;
 use cli_words::Job;
 use fork_branches::Pool;
@@ -55,7 +55,7 @@ fn points_line(alloc: Global, points: u64) -> Result<Vec<u8>, AllocError>
 // The summary of these answers.
 fn summary_text(alloc: Global, points: u64, shown: &[Shown]) -> Result<Text, Memory>
     requires few { length shown.now ≤ 64 }
-    ensures { IfOk result (λ text. text ≡ codes "points " ++ decimal points ++ codes "\n" ++ flat_map summary_line (enumerate_from 1 (map answer_of shown.now))) }
+    ensures { IfOk result (λ text. text ≡ codes "points " ++ decimal points ++ codes "\n" ++ flat_map summary_line (enumerate_from 1 (map shown_answer shown.now))) }
 {
     let mut text = points_line(alloc, points)?;
     for (before, output) in shown.iter().enumerate() {
@@ -77,10 +77,8 @@ pub(crate) fn summary_of<R: Threads + Sync, P: Pool>(
     job: &Job,
 ) -> Result<Text, Outcome>
     requires mode { job.now.mode ≡ Gen }
-    requires workers { (1 ≤ job.now.workers) × (job.now.workers ≤ 16) }
-    requires nodes { (MIN_BITS ≤ job.now.nodes) × (job.now.nodes ≤ MAX_BITS) }
-    requires terms { job.now.terms ≤ 1000000 }
-    requires room { P.done pool.old < 2 ^ 29 }
+    requires within { IsWithin job.now }
+    requires fresh { P.done pool.old ≡ 0 }
     ensures ok { IfOk result (λ text. (bytes : List ℕ) → IsDue job.now bytes (record { outcome = outcomes.Done; pages = text ∷ []; notes = [] })) }
     ensures jobs { OnOk result (2 ≤ P.done pool.new) }
     ensures unfinished { IfErr result (λ o. o ≢ outcomes.Done) }
@@ -89,8 +87,8 @@ pub(crate) fn summary_of<R: Threads + Sync, P: Pool>(
     let Ok(pla) = generate(alloc, job.seed) else {
         return Err(Outcome::Memory);
     };
-    let (points, shown) = solve_and_count(rt, alloc, pool, gate, &pla, job)?;
-    match summary_text(alloc, points, &shown) {
+    let solution = solve(rt, alloc, pool, gate, &pla, job)?;
+    match summary_text(alloc, solution.points, &solution.shown) {
         Ok(text) => Ok(text),
         Err(Memory) => Err(Outcome::Memory),
     }

@@ -19,10 +19,10 @@ use lattice::Mono;
 use node_store::{Full, Handle, Store};
 use outside::Rendezvous;
 use pla_reader::Pla;
+use run_parts::leads_of_points;
 use set_algebra::ValuedPoints;
 use std::alloc::Global;
 use std::thread::Threads;
-use std_monomials::{leads, standard};
 use vanish_basis::basis_element;
 
 /// A part of the answer of an output.
@@ -69,8 +69,7 @@ fn leads_on<S: Store, O: SetOps<S>>(
     ensures ready { O.ready ops.new }
 {
     let points = ops.union(store, care.zeros, care.ones)?;
-    let monos = standard(store, points)?;
-    leads(store, monos, 1)
+    leads_of_points(store, points)
 }
 
 // The element with a lead of the care points.
@@ -171,7 +170,9 @@ pub(crate) fn all_done<R: Threads + Sync, P: Pool>(
     requires planned { let d = description tasks.now.pla.now in Covers (cached_state store.old).plan (working_set d.inputs (flat_map (task_list d) tasks.now.list.now)) }
     ensures grows { Grows (cached_state store.old) (cached_state store.new) }
     ensures done { IfOk result (λ found. AreDone (cached_state store.new) (description tasks.now.pla.now) tasks.now.list.now found.items) }
-    ensures jobs { OnOk result (P.done pool.new ≡ P.done pool.old + length tasks.now.list.now) }
+    ensures jobs { OnOk result (P.done pool.old + length tasks.now.list.now ≤ P.done pool.new) }
+    ensures least { P.done pool.old ≤ P.done pool.new }
+    ensures most { P.done pool.new ≤ P.done pool.old + length tasks.now.list.now }
     ensures full { IsErrOf result Stop.Full → IsFull (cached_state store.old) (cached_state store.new) }
     ensures counted { ¬ IsErrOf result Stop.Terms }
 {

@@ -1,15 +1,16 @@
 ghost use Rattle.std.specs.Prelude.{◌≡◌, [], All, IfOk};
 ghost use Rattle.watch.specs.Notes.{states_by};
 
-use crate::run;
+use crate::{Outcome, answer_of, run};
+use cli_words::Job;
 use fork_branches::Drawn;
-use lattice::Words;
+use lattice::{Mode, Words};
 use outside::{MemSink, MemSource, Rendezvous};
 use std::alloc::{AllocError, Global};
 use std::process::Abort;
 use std::test::Fail;
 use std::thread::Threads;
-use watch::{Tally, Watch};
+use watch::{Note, Tally, Watch};
 
 const NEVER: u64 = 1_000_000;
 
@@ -185,6 +186,7 @@ fn generated_files(rt: HostRuntime) -> Result<(), Fail> {
         "interp gen",
         "interp gen --seed 0 --workers 8",
         "interp --workers 2 gen",
+        "interp gen --order x2,x1",
     ] {
         check(&rt, alloc, line, "", (1, NEVER), (0, first, ""))?;
     }
@@ -348,6 +350,103 @@ fn verdicts(rt: HostRuntime) -> Result<(), Fail> {
     Ok(())
 }
 
+// By another order of the inputs, whose first name is that of the greatest variable.
+#[test]
+fn orders(rt: HostRuntime) -> Result<(), Fail> {
+    let points = ".i 2\n.o 1\n.type fr\n11 1\n00 0\n";
+    let clash = ".i 2\n.o 1\n.type fr\n1- 1\n-1 0\n";
+    let sums = "s = cin + b + a\nc = cin*b + cin*a + b*a\n";
+    let contradiction = "interp: output 1: on line 4, off line 5\n";
+    for (line, text, status, answer, message) in [
+        (
+            "interp basis --order x2,x1",
+            points,
+            0,
+            "f1 = x1\n0 = x2 + x1\n",
+            "",
+        ),
+        (
+            "interp basis --order x1,x2",
+            points,
+            0,
+            "f1 = x2\n0 = x1 + x2\n",
+            "",
+        ),
+        ("interp anf --order cin,b,a", ADDER, 0, sums, ""),
+        ("interp anf --order=cin,b,a --workers 8", ADDER, 0, sums, ""),
+        ("interp anf --order x2,x1", clash, 4, "", contradiction),
+    ] {
+        check(
+            &rt,
+            rt.alloc(),
+            line,
+            text,
+            (NEVER, NEVER),
+            (status, answer, message),
+        )?;
+    }
+    Ok(())
+}
+
+#[test]
+fn refused_orders(rt: HostRuntime) -> Result<(), Fail> {
+    let points = ".i 2\n.o 1\n.type fr\n11 1\n00 0\n";
+    let clash = ".i 2\n.o 1\n.type fr\n1- 1\n-1 0\n";
+    let wide = ".i 15\n.o 1\n.type fr\n.e\n";
+    let order = "interp: order must name every input once\n";
+    for (line, text, status, message) in [
+        ("interp basis --order x1", points, 12, order),
+        ("interp basis --order x2,x2", points, 12, order),
+        ("interp basis --order x1,x2,x3", points, 12, order),
+        ("interp basis --order x1,x3", points, 12, order),
+        ("interp basis --order x1,x2,", points, 12, order),
+        ("interp basis --order=", points, 12, order),
+        ("interp anf --order a,b", ADDER, 12, order),
+        ("interp anf --order x1,x2,x3", ADDER, 12, order),
+        ("interp anf --order x1", "", 3, "interp: line 0: NoSize\n"),
+        ("interp anf --order x1", clash, 12, order),
+        ("interp check --order x1", wide, 12, order),
+    ] {
+        check(
+            &rt,
+            rt.alloc(),
+            line,
+            text,
+            (NEVER, NEVER),
+            (status, "", message),
+        )?;
+    }
+    Ok(())
+}
+
+// The factors and the terms of a judged answer stand by the order that is asked for.
+#[test]
+fn verdicts_by_an_order(rt: HostRuntime) -> Result<(), Fail> {
+    let points = ".i 2\n.o 1\n.type fr\n11 1\n00 0\n.e\n";
+    for (answer, status, text, message) in [
+        (
+            "f1 = x2\n0 = x1 + x2\n",
+            3,
+            "",
+            "interp: answer line 2: TermOrder\n",
+        ),
+        ("f1 = x1\n0 = x2 + x1\n", 0, "yes\n", ""),
+        ("f1 = x2\n0 = x2 + x1\n", 1, "no 1 Reducible\n", ""),
+    ] {
+        let alloc = rt.alloc();
+        let both = format!(in alloc; "{points}{answer}")?;
+        check(
+            &rt,
+            alloc,
+            "interp check --order x2,x1",
+            both.as_str(),
+            (NEVER, NEVER),
+            (status, text, message),
+        )?;
+    }
+    Ok(())
+}
+
 // A verdict that is written in part.
 #[test]
 fn verdict_cut_short(rt: HostRuntime) -> Result<(), Fail> {
@@ -446,10 +545,134 @@ fn words_and_faults(rt: HostRuntime) -> Result<(), Fail> {
         (NEVER, 2),
         (9, "f1 =", "interp: write fault\n"),
     )?;
-    let usage = "interp: usage: interp MODE [--workers N] [--nodes B] [--terms T] [--seed S]\n";
+    let usage =
+        "interp: usage: interp MODE [--workers N] [--nodes B] [--terms T] [--seed S] [--order NAMES]\n";
     for line in ["interp", "interp anf --nodes 3", "interp chec"] {
         check(&rt, alloc, line, sum, (NEVER, NEVER), (2, "", usage))?;
     }
+    Ok(())
+}
+
+// Runs the words with 1, 2 and 8 workers, and compares.
+fn check_workers<R: Threads + Abort + Sync>(
+    rt: &R,
+    alloc: Global,
+    words: &str,
+    text: &str,
+    want: (u8, &str, &str),
+) -> Result<(), Fail> {
+    for workers in ["1", "2", "8"] {
+        let line = format!(in alloc; "interp {words} --workers {workers}")?;
+        check(rt, alloc, line.as_str(), text, (NEVER, NEVER), want)?;
+    }
+    Ok(())
+}
+
+// One point over 16 inputs. In mode anf phase 1 has 16 nodes. In mode basis it has 31 and phase 2 has 62, and the counts of terms
+// are 17 and 33.
+#[test]
+fn limits_of_each_phase(rt: HostRuntime) -> Result<(), Fail> {
+    let alloc = rt.alloc();
+    let point = ".i 16\n.o 1\n.type fr\n1111111111111111 1\n";
+    let basis =
+        "f1 = 1\n0 = x16 + 1\n0 = x15 + 1\n0 = x14 + 1\n0 = x13 + 1\n0 = x12 + 1\n0 = x11 + 1\n0 = x10 + 1\n0 = x9 + 1\n0 = x8 + 1\n0 = x7 + 1\n0 = x6 + 1\n0 = x5 + 1\n0 = x4 + 1\n0 = x3 + 1\n0 = x2 + 1\n0 = x1 + 1\n";
+    for (words, status, answer, message) in [
+        ("anf --nodes 4", 0, "f1 = 1\n", ""),
+        (
+            "basis --nodes 4",
+            5,
+            "",
+            "interp: more than 16 nodes are needed\n",
+        ),
+        (
+            "basis --nodes 5",
+            5,
+            "",
+            "interp: more than 32 nodes are needed\n",
+        ),
+        (
+            "basis --nodes 5 --terms 16",
+            6,
+            "",
+            "interp: more than 16 terms\n",
+        ),
+        ("basis --nodes 6", 0, basis, ""),
+        (
+            "basis --nodes 6 --terms 32",
+            6,
+            "",
+            "interp: more than 32 terms\n",
+        ),
+    ] {
+        check_workers(&rt, alloc, words, point, (status, answer, message))?;
+    }
+    Ok(())
+}
+
+#[test]
+fn limits_with_workers(rt: HostRuntime) -> Result<(), Fail> {
+    let alloc = rt.alloc();
+    let sixteen = ".i 16\n.o 1\n.type fd\n";
+    let seventeen = ".i 17\n.o 1\n.type fd\n";
+    let union = ".i 2\n.o 1\n.type fd\n1- 1\n-1 1\n";
+    let exhausted = "interp: more than 16 nodes are needed\n";
+    let many = "interp: more than 2 terms\n";
+    check_workers(&rt, alloc, "anf --nodes 4", sixteen, (0, "f1 = 0\n", ""))?;
+    check_workers(&rt, alloc, "anf --nodes 4", seventeen, (5, "", exhausted))?;
+    check_workers(
+        &rt,
+        alloc,
+        "anf --terms 3",
+        union,
+        (0, "f1 = x1*x2 + x1 + x2\n", ""),
+    )?;
+    check_workers(&rt, alloc, "anf --terms 2", union, (6, "", many))
+}
+
+#[test]
+fn answers_as_values(rt: HostRuntime) -> Result<(), Fail> {
+    let alloc = rt.alloc();
+    let pair = b".i 2\n.o 2\n.type fr\n11 1-\n00 00\n10 -1\n";
+    let mut job = Job {
+        mode: Mode::Basis,
+        workers: 2,
+        nodes: 19,
+        terms: 1_000_000,
+        seed: 0,
+        order: None,
+    };
+    let gate = Rendezvous::open();
+    let answer = answer_of(&rt, alloc, &job, &mut Drawn::new(), pair, &gate).map_err(
+        |_| "no answer",
+    )?;
+    assert_eq!(rt; answer.pages.len(), 2);
+    assert_eq!(rt;
+        answer.pages.as_slice()[0].as_slice(),
+        b"f1 = x2\n0 = x1 + x2\n".as_slice()
+    );
+    assert_eq!(rt;
+        answer.pages.as_slice()[1].as_slice(),
+        b"f2 = x1\n0 = x2\n".as_slice()
+    );
+    let want = [
+        Note {
+            output: 1,
+            terms: 1,
+            basis: 1,
+        },
+        Note {
+            output: 2,
+            terms: 1,
+            basis: 1,
+        },
+    ];
+    assert_eq!(rt; answer.notes.as_slice(), want.as_slice());
+    job.terms = 3;
+    let refused = answer_of(&rt, alloc, &job, &mut Drawn::new(), pair, &gate);
+    assert!(rt;
+        matches!(refused, Err(Outcome::Terms { limit: 3 })),
+        "terms"
+    );
     Ok(())
 }
 

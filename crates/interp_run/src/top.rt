@@ -1,90 +1,30 @@
 //! The top call: the words, the reading, the answer and the writing.
-ghost use Rattle.std.specs.Prelude.{◌≡◌, ◌≢◌, false, ◌⊎◌, ◌+◌, ◌<◌, ◌≤◌, ◌^◌, [], List, ℕ, All, OnOk, OnErr, IfOk, IfErr, Some, length, map, take};
+ghost use Rattle.std.specs.Prelude.{◌≡◌, ◌≢◌, false, ◌⊎◌, ◌+◌, ◌≤◌, [], List, ℕ, All, OnOk, OnErr, Some, length, take};
 ghost use Rattle.std.specs.List.{concat};
 ghost use Rattle.std.specs.Io.KnownBytes.{Appends, Keeps};
-ghost use Rattle.lattice.specs.declared.limits.TheConstants.{MIN_BITS, MAX_BITS};
 ghost use Rattle.lattice.specs.Counts.{Rose};
 ghost use Rattle.lattice.specs.declared.kind.Mode.TheVariants.{Anf, Basis, Check, Gen};
 ghost use Rattle.outside.specs.Causes.{GainsFront, GainsUnlessRose, HasCause, LosesAtMost};
-ghost use Rattle.anf_printer.specs.Text.{answer_of};
+ghost use Rattle.cli_words.specs.CommandLine.{IsWithin};
 ghost use Rattle.cli_words.specs.declared.job.Job.{Job};
 ghost use Rattle.watch.specs.Notes.{WatcherState, left_after_all, states_by};
-ghost use Rattle.interp_run.specs.Answers.{notes_from};
 ghost use Rattle.interp_run.specs.Due.{Due, IsDue, is_gen, least_jobs};
-ghost use Rattle.interp_run.specs.Parts.{EndsWithout};
 ghost use Rattle.interp_run.specs.Run.{Ends, HasText, IsAsked, IsRefused, Ran, TellsFirst, line_of, status_of};
 ghost use Rattle.interp_run.specs.declared.outcome.Outcome.{Outcome};
 ghost use Rattle.interp_run.specs.declared.outcome.Outcome.TheVariants as outcomes;
 
 use crate::Outcome;
-use crate::describe::{MOST_BYTES, contradiction_of, description_of};
+use crate::answer::answer_of;
 use crate::judge::{outcome_after, text_of, verdict_of};
-use crate::solve::solve;
 use crate::summary::summary_of;
-use anf_printer::{Shown, answer_text};
 use cli_words::{Job, WordsRefusal, read_words};
 use fork_branches::Pool;
-use lattice::{Memory, Mode, Pages, Text, Words};
+use lattice::{Mode, Text, Words};
 use outside::{Failed, ReadStop, Rendezvous, Sink, Source, read_up_to, write_whole};
-use std::alloc::{AllocError, Global};
+use run_parts::MOST_BYTES;
+use std::alloc::Global;
 use std::thread::Threads;
 use watch::{Note, Watch, tell};
-
-/// The texts of the outputs, and what the watchers are told of each.
-#[derive(Drop)]
-struct Writing {
-    pages: Pages,
-    notes: Vec<Note>,
-}
-
-// What the watchers are told of each output.
-fn notes_of(alloc: Global, shown: &[Shown]) -> Result<Vec<Note>, AllocError>
-    requires few { length shown.now ≤ 64 }
-    ensures { IfOk result (λ notes. notes.items ≡ notes_from 1 (map answer_of shown.now)) }
-{
-    let mut notes = Vec::new(alloc);
-    for (before, output) in shown.iter().enumerate() {
-        notes.push(Note {
-            output: before as u32 + 1,
-            terms: output.poly.as_slice().len() as u64,
-            basis: output.basis.as_slice().len() as u64,
-        })?;
-    }
-    Ok(notes)
-}
-
-// The answer to a job on the bytes, or how the run ends without it.
-fn answer_to<R: Threads + Sync, P: Pool>(
-    rt: &R,
-    alloc: Global,
-    pool: &mut P,
-    gate: &Rendezvous,
-    job: &Job,
-    bytes: &[u8],
-) -> Result<Writing, Outcome>
-    requires mode { (job.now.mode ≡ Anf) ⊎ (job.now.mode ≡ Basis) }
-    requires workers { (1 ≤ job.now.workers) × (job.now.workers ≤ 16) }
-    requires nodes { (MIN_BITS ≤ job.now.nodes) × (job.now.nodes ≤ MAX_BITS) }
-    requires terms { job.now.terms ≤ 1000000 }
-    requires room { P.done pool.old < 2 ^ 29 }
-    ensures ok { IfOk result (λ w. IsDue job.now bytes.now (record { outcome = outcomes.Done; pages = w.pages; notes = w.notes.items })) }
-    ensures jobs { IfOk result (λ w. P.done pool.new ≡ P.done pool.old + least_jobs job.now.mode w.notes.items) }
-    ensures few { IfOk result (λ w. (length w.notes.items ≡ length w.pages) × (length w.pages ≤ 64)) }
-    ensures err { IfErr result (EndsWithout job.now bytes.now) }
-{
-    let (pla, _) = description_of(alloc, bytes)?;
-    if let Some(outcome) = contradiction_of(&pla) {
-        return Err(outcome);
-    }
-    let shown = solve(rt, alloc, pool, gate, &pla, job)?;
-    let Ok(notes) = notes_of(alloc, &shown) else {
-        return Err(Outcome::Memory);
-    };
-    match answer_text(alloc, &pla, job.mode, &shown) {
-        Ok(pages) => Ok(Writing { pages, notes }),
-        Err(Memory) => Err(Outcome::Memory),
-    }
-}
 
 // Writes the texts, one after the other, and tells the watchers of each as soon as it was written whole.
 fn write_pages<K: Sink>(
@@ -121,10 +61,8 @@ fn solved<R: Threads + Sync, K: Sink, P: Pool>(
     watchers: &mut Vec<Box<dyn Watch>>,
 ) -> Outcome
     requires mode { (job.now.mode ≡ Anf) ⊎ (job.now.mode ≡ Basis) }
-    requires workers { (1 ≤ job.now.workers) × (job.now.workers ≤ 16) }
-    requires nodes { (MIN_BITS ≤ job.now.nodes) × (job.now.nodes ≤ MAX_BITS) }
-    requires terms { job.now.terms ≤ 1000000 }
-    requires room { P.done pool.old < 2 ^ 29 }
+    requires within { IsWithin job.now }
+    requires fresh { P.done pool.old ≡ 0 }
     requires untold { All (λ s. s.told ≡ []) (states_by told patience watchers.old.items) }
     ensures read { (result ≢ outcomes.Usage) × (result ≢ outcomes.ReadFault) }
     ensures write { result ≡ outcomes.WriteFault → Rose (K.faults out.old) (K.faults out.new) }
@@ -133,24 +71,30 @@ fn solved<R: Threads + Sync, K: Sink, P: Pool>(
     ensures ends { (words : List (List ℕ)) (whole : List ℕ) → IsAsked words job.now → bytes.now ≡ take (MOST_BYTES + 1) whole
         → Ends words whole (K.held out.old) (K.held out.new) (states_by told patience watchers.old.items) (states_by told patience watchers.new.items) result }
 {
-    let answer = match answer_to(rt, alloc, pool, gate, job, bytes) {
+    let answer = match answer_of(rt, alloc, job, pool, bytes, gate) {
         Ok(answer) => answer,
         Err(outcome) => return outcome,
     };
-    match write_pages(out, answer.pages.as_slice(), &answer.notes, watchers) {
+    match write_pages(
+        out,
+        answer.pages.as_slice(),
+        answer.notes.as_slice(),
+        watchers,
+    ) {
         Ok(()) => Outcome::Done,
         Err(Failed) => Outcome::WriteFault,
     }
 }
 
 // Judges the answer that stands after the description, and writes the verdict.
-fn judged<K: Sink>(alloc: Global, bytes: &[u8], out: &mut K) -> Outcome
+fn judged<K: Sink>(alloc: Global, job: &Job, bytes: &[u8], out: &mut K) -> Outcome
+    requires mode { job.now.mode ≡ Check }
     ensures read { (result ≢ outcomes.Usage) × (result ≢ outcomes.ReadFault) }
     ensures write { result ≡ outcomes.WriteFault → Rose (K.faults out.old) (K.faults out.new) }
-    ensures ends { (job : Job) (words : List (List ℕ)) (whole : List ℕ) (states : List WatcherState) → IsAsked words job → job.mode ≡ Check → bytes.now ≡ take (MOST_BYTES + 1) whole
+    ensures ends { (words : List (List ℕ)) (whole : List ℕ) (states : List WatcherState) → IsAsked words job.now → bytes.now ≡ take (MOST_BYTES + 1) whole
         → Ends words whole (K.held out.old) (K.held out.new) states states result }
 {
-    let verdict = match verdict_of(alloc, bytes) {
+    let verdict = match verdict_of(alloc, job, bytes) {
         Ok(verdict) => verdict,
         Err(outcome) => return outcome,
     };
@@ -170,10 +114,8 @@ fn summed<R: Threads + Sync, K: Sink, P: Pool>(
     out: &mut K,
 ) -> Outcome
     requires mode { job.now.mode ≡ Gen }
-    requires workers { (1 ≤ job.now.workers) × (job.now.workers ≤ 16) }
-    requires nodes { (MIN_BITS ≤ job.now.nodes) × (job.now.nodes ≤ MAX_BITS) }
-    requires terms { job.now.terms ≤ 1000000 }
-    requires room { P.done pool.old < 2 ^ 29 }
+    requires within { IsWithin job.now }
+    requires fresh { P.done pool.old ≡ 0 }
     ensures read { (result ≢ outcomes.Usage) × (result ≢ outcomes.ReadFault) }
     ensures write { result ≡ outcomes.WriteFault → Rose (K.faults out.old) (K.faults out.new) }
     ensures jobs { (result ≡ outcomes.Done) ⊎ (result ≡ outcomes.WriteFault) → 2 ≤ P.done pool.new }
@@ -202,10 +144,8 @@ fn of_source<R: Threads + Sync, S: Source, K: Sink, P: Pool>(
     watchers: &mut Vec<Box<dyn Watch>>,
 ) -> Outcome
     requires mode { is_gen job.now.mode ≡ false }
-    requires workers { (1 ≤ job.now.workers) × (job.now.workers ≤ 16) }
-    requires nodes { (MIN_BITS ≤ job.now.nodes) × (job.now.nodes ≤ MAX_BITS) }
-    requires terms { job.now.terms ≤ 1000000 }
-    requires room { P.done pool.old < 2 ^ 29 }
+    requires within { IsWithin job.now }
+    requires fresh { P.done pool.old ≡ 0 }
     requires untold { All (λ s. s.told ≡ []) (states_by told patience watchers.old.items) }
     ensures ran { (words : List (List ℕ)) → IsAsked words job.now → Ran words (S.left source.old) (K.held out.old) (K.held out.new) (states_by told patience watchers.old.items) (states_by told patience watchers.new.items) result }
     ensures usage { result ≢ outcomes.Usage }
@@ -221,7 +161,7 @@ fn of_source<R: Threads + Sync, S: Source, K: Sink, P: Pool>(
         Err(ReadStop::Memory) => return Outcome::Memory,
     };
     match job.mode {
-        Mode::Check => judged(alloc, &bytes, out),
+        Mode::Check => judged(alloc, job, &bytes, out),
         Mode::Anf | Mode::Basis => solved(rt, alloc, pool, gate, job, &bytes, out, watchers),
         Mode::Gen => unreachable!(),
     }

@@ -18,7 +18,7 @@ pub use crate::kind::{Kind, Mode};
 pub use crate::limits::{
     HANDLE_UNIT, KEY_BITS, MAX_BITS, MAX_VARS, MIN_BITS, MIN_CACHE_BITS, MIXING, TOP_UNIT, UNMIXING,
 };
-pub use crate::lists::{MonoLists, Monos, Name, Names, Pages, Seq, Text};
+pub use crate::lists::{MonoLists, Monos, Name, Names, Order, Pages, Seq, Text};
 pub use crate::memory::Memory;
 pub use crate::mono::{Mono, value_at};
 pub use crate::op::Op;

@@ -30,6 +30,9 @@ pub type Names = Seq<Name>;
 /// A list of texts.
 pub type Pages = Seq<Text>;
 
+/// A list of input positions, which begin with 1: the greatest variable's first.
+pub type Order = Seq<u32>;
+
 impl<T> Model for Seq<T> {
     ghost Value = { List T };
 

@@ -42,11 +42,11 @@ mask_none p never (s ∷ xs) = rw (never s, mask_none p never xs) refl
 and_within : (s t : Bool) → (t ≡ true → s ≡ true) → bit_and (bit t) (bit s) ≡ bit t
 and_within s t h = grind (arith, h)
 
-cond_bit : (t : Bool) (n : ℕ) → cond t n 0 ≡ bit t * n
+pub cond_bit : (t : Bool) (n : ℕ) → cond t n 0 ≡ bit t * n
 cond_bit t n = grind arith
 
 -- where each symbol that passes q passes p, the mask of q lies within that of p
-mask_within : (p q : ℕ → Bool) → ((s : ℕ) → q s ≡ true → p s ≡ true) → (xs : List ℕ)
+pub mask_within : (p q : ℕ → Bool) → ((s : ℕ) → q s ≡ true → p s ≡ true) → (xs : List ℕ)
     → bit_and (input_mask q xs) (input_mask p xs) ≡ input_mask q xs
 unfolding input_mask
 mask_within p q within [] = refl

@@ -10,3 +10,11 @@ mod Fitting
 mod DraftSteps
 mod Whole
 mod Answered
+mod PrintedNames
+mod OrderTests
+mod OrderParts
+mod NamedOrders
+mod ArrangedFits
+mod OrderLaws
+mod PrintedOrders
+pub mod ArrangedInputs

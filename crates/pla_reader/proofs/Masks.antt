@@ -28,7 +28,7 @@ bit_at_most t = grind arith
 -- ---- one more symbol
 
 module _ (test : ℕ → Bool) where
-  input_mask_push : (xs : List ℕ) (s : ℕ) → input_mask test (xs ++ s ∷ []) ≡ 2 * input_mask test xs + bit (test s)
+  pub input_mask_push : (xs : List ℕ) (s : ℕ) → input_mask test (xs ++ s ∷ []) ≡ 2 * input_mask test xs + bit (test s)
   unfolding input_mask
   input_mask_push [] s = omega arith
   input_mask_push (x ∷ xs) s =

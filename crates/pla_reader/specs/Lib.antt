@@ -1,8 +1,11 @@
 pub mod Description
 pub mod PlainNames
+pub mod PrintedNames
 pub mod Lines
 pub mod Grammar
 pub mod Reading
+pub mod Orders
 pub mod Parts
 pub mod Draft
 pub mod Causes
+pub mod Laws

@@ -1,5 +1,7 @@
 use super::*;
 use lattice::{Kind, Row};
+use std::alloc::Global;
+use std::test::Fail;
 
 // A text, its first bad line, and what is wrong with it.
 #[test]
@@ -161,4 +163,127 @@ fn most_rows(rt: HostRuntime) {
         refusal,
         Some(ReadRefusal::Bad(Refusal { line: 8195, why }))
     );
+}
+
+// Three inputs and one output, of type fr, with the rows `1-0 1` and `011 0`; the names of the inputs stand between.
+fn three_inputs(alloc: Global, names: &[u8]) -> Result<Pla, Fail> {
+    let mut text = Vec::from_slice(alloc, b".i 3\n.o 1\n.type fr\n.ob y\n")?;
+    text.extend_from_slice(names)?;
+    text.extend_from_slice(b"1-0 1\n011 0\n")?;
+    if text.len() > 100 {
+        return Err(Fail::new("long"));
+    }
+    let (pla, _) = read(alloc, &text).map_err(|_| "a description")?;
+    Ok(pla)
+}
+
+// The names that are given, an order, the masks of the two rows over its variables, and the names of the variables.
+#[test]
+fn arranged_inputs(rt: HostRuntime) -> Result<(), Fail> {
+    let alloc = rt.alloc();
+    let cases: [(&[u8], &[u8], [(u64, u64); 2], [&[u8]; 3]); 5] = [
+        (
+            b".ilb a b c\n",
+            b"a,b,c",
+            [(5, 4), (7, 3)],
+            [b"a", b"b", b"c"],
+        ),
+        (
+            b".ilb a b c\n",
+            b"c,b,a",
+            [(5, 1), (7, 6)],
+            [b"c", b"b", b"a"],
+        ),
+        (
+            b".ilb a b c\n",
+            b"c,a,b",
+            [(6, 2), (7, 5)],
+            [b"c", b"a", b"b"],
+        ),
+        (b"", b"x3,x1,x2", [(6, 2), (7, 5)], [b"x3", b"x1", b"x2"]),
+        (
+            b".ilb 0 1 2\n",
+            b"x2,x3,x1",
+            [(3, 1), (7, 6)],
+            [b"x2", b"x3", b"x1"],
+        ),
+    ];
+    for (names, text, masks, in_names) in cases {
+        let p = three_inputs(alloc, names)?;
+        let order = read_order(alloc, &p, text).map_err(|_| "an order")?;
+        let q = arrange(alloc, &p, &order)?;
+        assert_eq!(rt; (q.inputs, q.outputs, q.kind), (3, 1, Kind::Fr));
+        for (i, (care, value)) in masks.iter().enumerate() {
+            let before = p.rows.as_slice().get(i).ok_or("row")?;
+            let after = q.rows.as_slice().get(i).ok_or("row")?;
+            let (care, value) = (*care, *value);
+            assert_eq!(rt;
+                *after,
+                Row {
+                    care,
+                    value,
+                    ..*before
+                }
+            );
+        }
+        for (i, want) in in_names.iter().enumerate() {
+            let name = q.in_names.as_slice().get(i).ok_or("name")?;
+            assert_eq!(rt; name.as_slice(), *want);
+        }
+        let output = q.out_names.as_slice().first().ok_or("name")?;
+        assert_eq!(rt; output.as_slice(), b"y".as_slice());
+    }
+    Ok(())
+}
+
+// Whether the names are given, a text, and the positions that it asks for.
+#[test]
+fn orders(rt: HostRuntime) -> Result<(), Fail> {
+    let alloc = rt.alloc();
+    let given: &[u8] = b".ilb a b c\n";
+    let cases: [(&[u8], &[u8], &[u32]); 14] = [
+        (given, b"a,b,c", &[1, 2, 3]),
+        (given, b"b,c,a", &[2, 3, 1]),
+        (given, b"c,b,a", &[3, 2, 1]),
+        (b"", b"x2,x1,x3", &[2, 1, 3]),
+        (given, b"a,b", &[]),
+        (given, b"a,b,b", &[]),
+        (given, b"a,b,c,a", &[]),
+        (given, b"a,b,d", &[]),
+        (given, b"x1,x2,x3", &[]),
+        (given, b"a,,b,c", &[]),
+        (given, b"a,b,c,", &[]),
+        (given, b"", &[]),
+        (given, b"a, b,c", &[]),
+        (given, b"abc", &[]),
+    ];
+    for (names, text, wanted) in cases {
+        let p = three_inputs(alloc, names)?;
+        match read_order(alloc, &p, text) {
+            Ok(order) => assert_eq!(rt; order.as_slice(), wanted),
+            Err(refusal) => {
+                assert_eq!(rt; refusal, OrderRefusal::Bad);
+                assert!(rt; wanted.is_empty());
+            }
+        }
+    }
+    let p = three_inputs(alloc, given)?;
+    let order = file_order(alloc, &p)?;
+    assert_eq!(rt; order.as_slice(), [1, 2, 3].as_slice());
+    Ok(())
+}
+
+// One input has one order.
+#[test]
+fn one_input(rt: HostRuntime) -> Result<(), Fail> {
+    let alloc = rt.alloc();
+    let (p, _) = read(alloc, b".i 1\n.o 1\n1 1\n").map_err(|_| "a description")?;
+    let order = read_order(alloc, &p, b"x1").map_err(|_| "an order")?;
+    assert_eq!(rt; order.as_slice(), [1].as_slice());
+    assert_eq!(rt;
+        read_order(alloc, &p, b"x1,x1").err(),
+        Some(OrderRefusal::Bad)
+    );
+    assert_eq!(rt; read_order(alloc, &p, b"").err(), Some(OrderRefusal::Bad));
+    Ok(())
 }

@@ -2,7 +2,7 @@ use Rattle.std.proofs.Common.{[], ◌∷◌, length, sym, ◌∙◌, subst, rule
 use Rattle.std.proofs.lemmas.Grind.{common_steps}
 use Rattle.std.proofs.lemmas.List.{length-append}
 use Rattle.std.proofs.lemmas.Slice.Zip.{zip_turn}
-use Rattle.anf_printer.specs.Text.{IsAnswerOver, answer_of}
+use Rattle.anf_printer.specs.Text.{IsAnswerOver, shown_answer}
 use Rattle.anf_printer.proofs.Texts.{texts_of_none, texts_of_next}
 use Rattle.anf_printer.proofs.answer.texts_of.Goals as goal
 
@@ -14,7 +14,7 @@ output_text-requires c =
     let turn = zip_turn c.args.outputs.now c.args.shown.now _ c.into_iter-name-iterator.result c.loop-name.name-iterator c.next.new.self
     c.next.result (search rules) (search rules) c.loop-name.yielded_by (c.in-Some.name, c.in-Some.output) c.in-Some.is
     c.next.ensures.steps in
-    subst (λ s. IsAnswerOver (length c.args.names.now) (answer_of s)) (sym (turn.3 c.in-Some.output.now))
+    subst (λ s. IsAnswerOver (length c.args.names.now) (shown_answer s)) (sym (turn.3 c.in-Some.output.now))
     (c.requires.families (length c.loop-name.yielded) c.in-Some.output.now turn.1)
 
 pub loop-name-preserved : goal.loop-name-preserved

@@ -1,5 +1,5 @@
 use Rattle.std.proofs.Common.{arith, rules}
-use Rattle.anf_printer.proofs.PrintedLists.{count_printed}
+use Rattle.pla_reader.proofs.ArrangedInputs.{count_printed}
 use Rattle.cert_check.proofs.LinesRead.{answer_fits}
 use Rattle.cert_check.proofs.reading.read_answer.Goals as goal
 

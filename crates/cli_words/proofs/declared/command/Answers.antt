@@ -12,7 +12,8 @@ returns c =
     let app_2 = c.in_ok-arg-2.ensures.shape c.workers.ensures.local ∙ ap₂ with_rule app_1 c.workers.ensures.rule in
     let app_3 = c.in_ok-arg-3.ensures.shape c.nodes.ensures.local ∙ ap₂ with_rule app_2 c.nodes.ensures.rule in
     let app_4 = c.in_ok-arg-4.ensures.shape c.terms.ensures.local ∙ ap₂ with_rule app_3 c.terms.ensures.rule in
+    let app_5 = c.in_ok-arg-5.ensures.shape c.seed.ensures.local ∙ ap₂ with_rule app_4 c.seed.ensures.rule in
     record {
-      app = IfOk-weaker c.arg-5.result _ _
-          (λ r h. (names, c.mode.ensures.rule.1, h.shape c.seed.ensures.local ∙ ap₂ with_rule app_4 c.seed.ensures.rule)) c.arg-5.ensures;
+      app = IfOk-weaker c.arg-6.result _ _
+          (λ r h. (names, c.mode.ensures.rule.1, h.shape c.order.ensures.local ∙ ap₂ with_rule app_5 c.order.ensures.rule)) c.arg-6.ensures;
     }

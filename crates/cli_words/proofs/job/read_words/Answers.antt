@@ -19,7 +19,7 @@ returns-in-Ok-clause-job c =
     let app = c.in_ok-command.ensures.app in
     let taken = is_taken app.0 _ c.args.words.now _ c.in-Ok.matches app.1 app.2 c.all.ensures.words c.in-Ok.ensures.kinds
     c.in-Ok.ensures.matches in
-    subst (λ rows. IsJob rows c.job_of.result) taken.1 c.job_of.ensures.job
+    subst (λ rows. IsJob rows c.in_ok-job_of-in-Ok.field-0) taken.1 c.in_ok-job_of-in-Ok.ensures.job
 
 pub returns : goal.returns
 returns c =

@@ -1,93 +1,59 @@
-use Rattle.std.proofs.Common.{Some, ap, ◌∙◌}
-use Rattle.lattice.specs.declared.kind.Kind.TheVariants.{Fd}
-use Rattle.node_store.proofs.StoreLaws.{Reads-refl, reads_one, then_call}
+use Rattle.node_store.proofs.StoreLaws.{Knows-denotes, Reads-refl, reads_one, then_call}
 use Rattle.set_algebra.proofs.GivenPoints.{points_failed}
-use Rattle.cube_build.proofs.CallsUnderway.{cover_planned, cover_next, cover_is, combined_planned, combined_next}
-use Rattle.cube_build.proofs.CallsUnderway.{combined_is, outside_planned, outside_next, outside_is}
-use Rattle.cube_build.proofs.CareLemmas.{ones_fd, zeros_fd, calls_begin, calls_end}
-use Rattle.cube_build.proofs.UsedCubeLemmas.{cubes_later}
+use Rattle.cube_build.proofs.CallsUnderway.{combined_planned, combined_next, combined_is, outside_planned, outside_next, outside_is}
+use Rattle.cube_build.proofs.CallsUnderway.{points_end, underway}
 use Rattle.cube_build.proofs.care.sets_of_fd.Goals as goal
-
-pub cover-requires-clause-planned : goal.cover-requires-clause-planned
-cover-requires-clause-planned g c =
-    cover_planned _ _ (calls_begin {s = g.S.Store.state c.args.store.now} Fd c.args.rows.now c.args.output c.requires.planned)
-
-pub returns-in_err-on : goal.returns-in_err-on
-returns-in_err-on g c =
-    points_failed c.from_residual.ensures.0 (Reads-refl (g.S.Store.state c.args.store.now)) c.in_err-on.ensures
-
-pub cover-requires-2-clause-cubes : goal.cover-requires-2-clause-cubes
-cover-requires-2-clause-cubes g c =
-    cubes_later _ _ c.args.rows.now c.args.cubes.now c.in_ok-on.ensures.grows c.requires.cubes
-
-pub cover-requires-2-clause-planned : goal.cover-requires-2-clause-planned
-cover-requires-2-clause-planned g c =
-    cover_planned _ _ (cover_next _ _ (calls_begin Fd c.args.rows.now c.args.output c.requires.planned) c.in_ok-on.ensures)
-
-pub returns-in_err-dc : goal.returns-in_err-dc
-returns-in_err-dc g c =
-    points_failed c.from_residual-in_err-dc.ensures.0 (reads_one c.in_ok-on.ensures) c.in_err-dc.ensures
 
 pub minus-requires-clause-planned : goal.minus-requires-clause-planned
 minus-requires-clause-planned g c =
-    let one = cover_next _ _ (calls_begin Fd c.args.rows.now c.args.output c.requires.planned) c.in_ok-on.ensures in
-    let two = cover_next _ _ one c.in_ok-dc.ensures in
-    let on_is = c.in_ok-dc.ensures.grows.known _ _ c.in_ok-on.ensures.ok in
-    combined_planned _ _ _ _ c.in_ok-on.on c.in_ok-dc.dc two on_is (cover_is _ _ one c.in_ok-dc.ensures)
+    let s = g.S.Store.state c.args.store.now in
+    combined_planned _ _ _ _ c.args.on c.args.dc (underway s _ c.requires.planned) (Knows-denotes s c.args.on c.requires.on)
+    (Knows-denotes s c.args.dc c.requires.dc)
 
 pub returns-in_err-ones : goal.returns-in_err-ones
 returns-in_err-ones g c =
-    points_failed c.from_residual-in_err-ones.ensures.0 (then_call (reads_one c.in_ok-on.ensures) c.in_ok-dc.ensures) c.in_err-ones.ensures
+    points_failed c.from_residual.ensures.0 (Reads-refl (g.S.Store.state c.args.store.now)) c.in_err-ones.ensures
 
 pub union-requires-clause-planned : goal.union-requires-clause-planned
 union-requires-clause-planned g c =
-    let one = cover_next _ _ (calls_begin Fd c.args.rows.now c.args.output c.requires.planned) c.in_ok-on.ensures in
-    let two = cover_next _ _ one c.in_ok-dc.ensures in
-    let on_is = c.in_ok-dc.ensures.grows.known _ _ c.in_ok-on.ensures.ok in
-    let dc_is = cover_is _ _ one c.in_ok-dc.ensures in
-    let three = combined_next _ _ _ _ c.in_ok-on.on c.in_ok-dc.dc two on_is dc_is c.in_ok-ones.ensures in
-    let on_then = c.in_ok-ones.ensures.grows.known _ _ on_is in
-    combined_planned _ _ _ _ c.in_ok-on.on c.in_ok-dc.dc three on_then (c.in_ok-ones.ensures.grows.known _ _ dc_is)
+    let s = g.S.Store.state c.args.store.now in
+    let on_is = Knows-denotes s c.args.on c.requires.on in
+    let dc_is = Knows-denotes s c.args.dc c.requires.dc in
+    let one = combined_next _ _ _ _ c.args.on c.args.dc (underway s _ c.requires.planned) on_is dc_is c.in_ok-ones.ensures in
+    let later = c.in_ok-ones.ensures.grows.known in
+    combined_planned _ _ _ _ c.args.on c.args.dc one (later _ _ on_is) (later _ _ dc_is)
 
 pub returns-in_err-listed : goal.returns-in_err-listed
 returns-in_err-listed g c =
-    points_failed c.from_residual-in_err-listed.ensures.0
-    (then_call (then_call (reads_one c.in_ok-on.ensures) c.in_ok-dc.ensures) c.in_ok-ones.ensures) c.in_err-listed.ensures
+    points_failed c.from_residual-in_err-listed.ensures.0 (reads_one c.in_ok-ones.ensures) c.in_err-listed.ensures
 
 pub outside-requires-clause-planned : goal.outside-requires-clause-planned
 outside-requires-clause-planned g c =
-    let one = cover_next _ _ (calls_begin Fd c.args.rows.now c.args.output c.requires.planned) c.in_ok-on.ensures in
-    let two = cover_next _ _ one c.in_ok-dc.ensures in
-    let on_is = c.in_ok-dc.ensures.grows.known _ _ c.in_ok-on.ensures.ok in
-    let dc_is = cover_is _ _ one c.in_ok-dc.ensures in
-    let three = combined_next _ _ _ _ c.in_ok-on.on c.in_ok-dc.dc two on_is dc_is c.in_ok-ones.ensures in
-    let on_then = c.in_ok-ones.ensures.grows.known _ _ on_is in
-    let dc_then = c.in_ok-ones.ensures.grows.known _ _ dc_is in
-    let four = combined_next _ _ _ _ c.in_ok-on.on c.in_ok-dc.dc three on_then dc_then c.in_ok-listed.ensures in
-    let listed_is = combined_is _ _ _ _ c.in_ok-on.on c.in_ok-dc.dc three on_then dc_then c.in_ok-listed.ensures in
-    outside_planned _ c.in_ok-listed.listed four listed_is
+    let s = g.S.Store.state c.args.store.now in
+    let on_is = Knows-denotes s c.args.on c.requires.on in
+    let dc_is = Knows-denotes s c.args.dc c.requires.dc in
+    let one = combined_next _ _ _ _ c.args.on c.args.dc (underway s _ c.requires.planned) on_is dc_is c.in_ok-ones.ensures in
+    let later = c.in_ok-ones.ensures.grows.known in
+    let two = combined_next _ _ _ _ c.args.on c.args.dc one (later _ _ on_is) (later _ _ dc_is) c.in_ok-listed.ensures in
+    let listed_is = combined_is _ _ _ _ c.args.on c.args.dc one (later _ _ on_is) (later _ _ dc_is) c.in_ok-listed.ensures in
+    outside_planned _ c.in_ok-listed.listed two listed_is
 
 pub returns-in_err-zeros : goal.returns-in_err-zeros
 returns-in_err-zeros g c =
-    points_failed c.from_residual-in_err-zeros.ensures.0
-    (then_call (then_call (then_call (reads_one c.in_ok-on.ensures) c.in_ok-dc.ensures) c.in_ok-ones.ensures)
-    c.in_ok-listed.ensures) c.in_err-zeros.ensures
+    points_failed c.from_residual-in_err-zeros.ensures.0 (then_call (reads_one c.in_ok-ones.ensures) c.in_ok-listed.ensures)
+    c.in_err-zeros.ensures
 
 pub returns : goal.returns
 returns g c =
     let s = g.S.Store.state c.args.store.now in
-    let one = cover_next _ _ (calls_begin Fd c.args.rows.now c.args.output c.requires.planned) c.in_ok-on.ensures in
-    let two = cover_next _ _ one c.in_ok-dc.ensures in
-    let on_is = c.in_ok-dc.ensures.grows.known _ _ c.in_ok-on.ensures.ok in
-    let dc_is = cover_is _ _ one c.in_ok-dc.ensures in
-    let three = combined_next _ _ _ _ c.in_ok-on.on c.in_ok-dc.dc two on_is dc_is c.in_ok-ones.ensures in
-    let on_then = c.in_ok-ones.ensures.grows.known _ _ on_is in
-    let dc_then = c.in_ok-ones.ensures.grows.known _ _ dc_is in
-    let four = combined_next _ _ _ _ c.in_ok-on.on c.in_ok-dc.dc three on_then dc_then c.in_ok-listed.ensures in
-    let listed_is = combined_is _ _ _ _ c.in_ok-on.on c.in_ok-dc.dc three on_then dc_then c.in_ok-listed.ensures in
-    let ones_is = combined_is _ _ _ _ c.in_ok-on.on c.in_ok-dc.dc two on_is dc_is c.in_ok-ones.ensures in
-    calls_end s _ c.in_ok-zeros.zeros c.in_ok-ones.ones Fd c.args.rows.now c.args.output
-    (outside_next _ c.in_ok-listed.listed four listed_is c.in_ok-zeros.ensures)
-    (outside_is _ c.in_ok-listed.listed four listed_is c.in_ok-zeros.ensures ∙ ap Some (zeros_fd s.vars c.args.rows.now c.args.output))
-    (c.in_ok-zeros.ensures.grows.known _ _ (c.in_ok-listed.ensures.grows.known _ _ ones_is)
-    ∙ ap Some (ones_fd s.vars c.args.rows.now c.args.output))
+    let on_is = Knows-denotes s c.args.on c.requires.on in
+    let dc_is = Knows-denotes s c.args.dc c.requires.dc in
+    let begin = underway s _ c.requires.planned in
+    let one = combined_next _ _ _ _ c.args.on c.args.dc begin on_is dc_is c.in_ok-ones.ensures in
+    let later = c.in_ok-ones.ensures.grows.known in
+    let two = combined_next _ _ _ _ c.args.on c.args.dc one (later _ _ on_is) (later _ _ dc_is) c.in_ok-listed.ensures in
+    let listed_is = combined_is _ _ _ _ c.args.on c.args.dc one (later _ _ on_is) (later _ _ dc_is) c.in_ok-listed.ensures in
+    let ones_is = combined_is _ _ _ _ c.args.on c.args.dc begin on_is dc_is c.in_ok-ones.ensures in
+    points_end (outside_next _ c.in_ok-listed.listed two listed_is c.in_ok-zeros.ensures)
+    (outside_is _ c.in_ok-listed.listed two listed_is c.in_ok-zeros.ensures)
+    (c.in_ok-zeros.ensures.grows.known _ _ (c.in_ok-listed.ensures.grows.known _ _ ones_is))

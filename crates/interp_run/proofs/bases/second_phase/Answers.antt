@@ -26,7 +26,7 @@ invariant_of-tasks g c =
           (are_second_tasks d c.args.mode (points_family d));
       many = ap length c.deref.ensures.value ∙ (zip_long _ _ _ c.requires.first.cares ∙ length-output_numbers d.outputs);
       few = subst (λ ts. length ts < 2 ^ 30) (sym (c.deref-2.ensures.value ∙ c.in_ok-list.ensures c.args.mode c.requires.leads))
-          c.requires.few;
+          (omega (arith, c.requires.few));
     }
 
 pub all_done-requires-clause-cares : goal.all_done-requires-clause-cares

@@ -9,11 +9,12 @@ use Rattle.interp_run.specs.Phases.{AreCares, AreDone, IsTask, first_tasks, task
 use Rattle.interp_run.proofs.DoneTasks.{are_tasks, first_done}
 use Rattle.interp_run.proofs.PhaseLists.{cares_planned, first_tasks_planned}
 use Rattle.interp_run.proofs.OutputLists.{length-output_numbers, zip_long}
+use Rattle.interp_run.proofs.CoverLists.{covers_few}
 use Rattle.interp_run.proofs.TaskJobs.{first_few}
 use Rattle.interp_run.proofs.phases.first_phase.Goals as goal
 
 pub all_cares-requires-clause-planned : goal.all_cares-requires-clause-planned
-all_cares-requires-clause-planned g c =
+all_cares-requires-clause-planned g c κs within =
     cares_planned (description c.args.pla.now) c.args.mode (cached_state c.args.store.now).plan c.requires.planned
 
 pub invariant_of-tasks : goal.invariant_of-tasks
@@ -59,3 +60,29 @@ returns-clause-found g c =
     first_done d c.args.mode t u _ c.in_ok-cares.ensures.cares c.in_ok-found.ensures.grows
     (subst (λ ts. AreDone u d ts c.in_ok-found.found.items) (c.deref-2.ensures.value ∙ c.in_ok-list.ensures)
     c.in_ok-found.ensures.done)
+
+pub returns-in_err-found-clause-most : goal.returns-in_err-found-clause-most
+returns-in_err-found-clause-most g c =
+    let d = description c.args.pla.now in
+    let few = c.args.pla.now.fits.few_outputs in
+    omega (
+      arith,
+      c.in_ok-cares.ensures.most,
+      c.in_err-found.ensures.most,
+      ap length (c.deref-2.ensures.value ∙ c.in_ok-list.ensures),
+      covers_few d few,
+      first_few d c.args.mode few,
+    )
+
+pub returns-clause-most : goal.returns-clause-most
+returns-clause-most g c =
+    let d = description c.args.pla.now in
+    let few = c.args.pla.now.fits.few_outputs in
+    omega (
+      arith,
+      c.in_ok-cares.ensures.most,
+      c.in_ok-found.ensures.most,
+      ap length (c.deref-2.ensures.value ∙ c.in_ok-list.ensures),
+      covers_few d few,
+      first_few d c.args.mode few,
+    )

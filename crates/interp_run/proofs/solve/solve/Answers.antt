@@ -1,27 +1,32 @@
 use Rattle.std.proofs.Common.{◌∙◌, ap, subst, sym, Err}
 use Rattle.pla_reader.specs.Reading.{description}
-use Rattle.interp_run.specs.Parts.{EndsUnsolved, no_memory_to_solve}
-use Rattle.node_store.specs.Stores.{State}
-use Rattle.interp_run.proofs.LimitsPassed.{stopped_ends}
+use Rattle.interp_run.specs.Parts.{EndsUnsolved}
+use Rattle.interp_run.specs.Phases.{AreLeads}
+use Rattle.interp_run.proofs.LimitsPassed.{first_nodes_over, last_nodes_over, stopped_ends, stopped_unfinished}
 use Rattle.interp_run.proofs.solve.solve.Goals as goal
 
-pub solve_in-requires-clause-vars : goal.solve_in-requires-clause-vars
-solve_in-requires-clause-vars g c κs within =
-    ap (λ (s : State). s.vars) (c.new-pass.ensures.state ∙ (c.pass.ensures.state ∙ c.in-Ok.ensures.state))
+pub returns-in-Err-clause-err : goal.returns-in-Err-clause-err
+returns-in-Err-clause-err g c =
+    let d = description c.args.pla.now in
+    let job = c.args.job.now in
+    subst (EndsUnsolved job d) (sym c.stopped.ensures) (stopped_ends job d c.in-Err.stop
+    (λ is. first_nodes_over job d c.requires.consistent (c.in-Err.ensures.full (ap Err is))) (λ is. c.in-Err.ensures.terms (ap Err is)))
 
-pub solve_in-requires-clause-plan : goal.solve_in-requires-clause-plan
-solve_in-requires-clause-plan g c κs within =
-    ap (λ (s : State). s.plan) (c.new-pass.ensures.state ∙ (c.pass.ensures.state ∙ c.in-Ok.ensures.state)) ∙ c.run_plan.ensures
+pub returns-in-Err-clause-unfinished : goal.returns-in-Err-clause-unfinished
+returns-in-Err-clause-unfinished g c = λ e. stopped_unfinished c.args.job.now c.in-Err.stop (sym c.stopped.ensures ∙ e)
 
-pub solve_in-requires-clause-capacity : goal.solve_in-requires-clause-capacity
-solve_in-requires-clause-capacity g c κs within =
-    ap (λ (s : State). s.capacity) (c.new-pass.ensures.state ∙ (c.pass.ensures.state ∙ c.in-Ok.ensures.state))
-
-pub returns-in_default-clause-err : goal.returns-in_default-clause-err
-returns-in_default-clause-err g c = no_memory_to_solve
+pub solution_found-requires-clause-leads : goal.solution_found-requires-clause-leads
+solution_found-requires-clause-leads g c κs within =
+    subst (AreLeads (description c.args.pla.now) c.args.job.now.mode) (sym c.as_slice.ensures) c.in-Ok.ensures.leads
 
 pub returns-clause-err : goal.returns-clause-err
 returns-clause-err g c =
     let d = description c.args.pla.now in
-    subst (EndsUnsolved c.args.job.now d) (sym c.stopped.ensures) (stopped_ends c.args.job.now d c.in-Err.stop c.requires.consistent
-    (λ is. c.in-Err.ensures.full (ap Err is)) (λ is. c.in-Err.ensures.terms (ap Err is)))
+    let job = c.args.job.now in
+    subst (EndsUnsolved job d) (sym c.stopped-in-Err-solution_found.ensures) (stopped_ends job d c.in-Err-solution_found.stop
+    (λ is. last_nodes_over job d c.requires.consistent c.in-Ok.ensures.fits (c.in-Err-solution_found.ensures.full (ap Err is)))
+    (λ is. c.in-Err-solution_found.ensures.terms (ap Err is)))
+
+pub returns-clause-unfinished : goal.returns-clause-unfinished
+returns-clause-unfinished g c =
+    λ e. stopped_unfinished c.args.job.now c.in-Err-solution_found.stop (sym c.stopped-in-Err-solution_found.ensures ∙ e)

@@ -1,6 +1,6 @@
 use Rattle.std.proofs.Common.{List, ap, codes, decimal, length, map, refl, sym, ◌++◌, ◌∙◌}
 use Rattle.std.proofs.lemmas.List.{append-nil, take_all}
-use Rattle.anf_printer.specs.Text.{answer_of}
+use Rattle.anf_printer.specs.Text.{shown_answer}
 use Rattle.anf_printer.specs.declared.answer.Shown.{Shown}
 use Rattle.interp_run.proofs.Summaries.{line_next, lines_from}
 use Rattle.interp_run.proofs.summary.summary_text.Goals as goal
@@ -17,5 +17,5 @@ loop-before-preserved c =
 pub returns : goal.returns
 returns c =
     let front = codes "points " ++ decimal c.args.points ++ codes "\n" in
-    c.from_vec.ensures ∙ (c.loop-before.invariant ∙ ap (λ (s : List Shown). front ++ lines_from 1 (map answer_of s))
+    c.from_vec.ensures ∙ (c.loop-before.invariant ∙ ap (λ (s : List Shown). front ++ lines_from 1 (map shown_answer s))
     (take_all c.loop-before.before c.args.shown.now c.loop-before-test.false))

@@ -18,7 +18,7 @@ returns-in-Check-clause-ran g c = λ words asked.
     ran_read words (g.S.Source.left c.args.source.now) (g.K.Sink.held c.args.out.now) (g.K.Sink.held c.judged.new.out) _ _
     c.judged.result c.deref.result.now
     (λ xs e. c.deref.ensures.value ∙ c.in-Ok.ensures.told xs e) (search rules)
-    (λ bytes is. c.judged.ensures.ends c.args.job.now words bytes _ asked c.in-Check.is is)
+    (λ bytes is. c.judged.ensures.ends words bytes _ asked is)
 
 pub returns-in-Anf-clause-ran : goal.returns-in-Anf-clause-ran
 returns-in-Anf-clause-ran g c = λ words asked.

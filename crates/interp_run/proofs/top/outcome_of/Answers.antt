@@ -27,8 +27,8 @@ returns-in-Gen-clause-jobs g c = λ job bytes due asked given is other ended.
     let gen : is_gen job.mode ≡ true = ap (λ (j : Job). is_gen j.mode) same ∙ ap is_gen c.in-Gen.is in
     rw (gen) (c.summed.ensures.jobs ended)
 
-pub returns-in-Anf-clause-jobs : goal.returns-in-Anf-clause-jobs
-returns-in-Anf-clause-jobs g c = λ job bytes due asked given is other ended.
+pub returns-clause-jobs : goal.returns-clause-jobs
+returns-clause-jobs g c = λ job bytes due asked given is other ended.
     let mine = c.in-Ok.job in
     let same = same_job c.args.words.now job mine asked (c.in-Ok.ensures.taken, c.in-Ok.ensures.job) in
     let modes : job.mode ≡ mine.mode = ap (λ (j : Job). j.mode) same in

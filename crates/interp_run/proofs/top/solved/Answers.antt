@@ -30,7 +30,7 @@ returns-in-Ok-write_pages-clause-ends g c = λ words whole asked is.
     c.in-Ok.ensures.ok)
     (subst (λ ps. Appends (g.K.Sink.held c.args.out.now) (g.K.Sink.held c.write_pages.new.out) (concat ps)) c.as_slice.ensures
     c.in-Ok-write_pages.ensures.whole)
-    (rw (← c.deref.ensures.value) c.in-Ok-write_pages.ensures.told)
+    (rw (← c.as_slice-2.ensures) c.in-Ok-write_pages.ensures.told)
 
 pub returns-clause-ends : goal.returns-clause-ends
 returns-clause-ends g c = λ words whole asked is.
@@ -38,7 +38,7 @@ returns-clause-ends g c = λ words whole asked is.
     c.in-Ok.ensures.ok) done_text
     (subst (λ ps. GainsFront (g.K.Sink.held c.args.out.now) (g.K.Sink.held c.write_pages.new.out) (concat ps)) c.as_slice.ensures
     c.in-Err-write_pages.ensures.front)
-    (rw (← c.as_slice.ensures, ← c.deref.ensures.value) c.in-Err-write_pages.ensures.stopped)
+    (rw (← c.as_slice.ensures, ← c.as_slice-2.ensures) c.in-Err-write_pages.ensures.stopped)
 
 pub returns-in-Ok-write_pages-clause-jobs : goal.returns-in-Ok-write_pages-clause-jobs
 returns-in-Ok-write_pages-clause-jobs g c = λ whole due is so ended.

@@ -1,0 +1,79 @@
+//! The answer to a job on the bytes of a description.
+ghost use Rattle.std.specs.Prelude.{◌≡◌, ◌⊎◌, ◌≤◌, IfOk, IfErr, length, map};
+ghost use Rattle.lattice.specs.declared.kind.Mode.TheVariants.{Anf, Basis};
+ghost use Rattle.anf_printer.specs.Text.{shown_answer};
+ghost use Rattle.cli_words.specs.CommandLine.{IsWithin};
+ghost use Rattle.interp_run.specs.Answers.{notes_from};
+ghost use Rattle.interp_run.specs.Due.{IsDue, least_jobs};
+ghost use Rattle.interp_run.specs.Parts.{EndsWithout};
+ghost use Rattle.interp_run.specs.declared.outcome.Outcome.TheVariants as outcomes;
+
+use crate::Outcome;
+use crate::describe::{contradiction_of, description_of};
+use crate::solve::solve;
+use anf_printer::{Shown, answer_text};
+use cli_words::Job;
+use fork_branches::Pool;
+use lattice::{Memory, Pages, Seq};
+use outside::Rendezvous;
+use std::alloc::{AllocError, Global};
+use std::thread::Threads;
+use watch::Note;
+
+/// What watchers are told, a note for each output.
+pub type Notes = Seq<Note>;
+
+/// The texts of the outputs, and what watchers are told of each.
+#[derive(Drop)]
+pub struct Answered {
+    pub pages: Pages,
+    pub notes: Notes,
+}
+
+// What the watchers are told of each output.
+fn notes_of(alloc: Global, shown: &[Shown]) -> Result<Notes, AllocError>
+    requires few { length shown.now ≤ 64 }
+    ensures { IfOk result (λ notes. notes ≡ notes_from 1 (map shown_answer shown.now)) }
+{
+    let mut notes = Vec::new(alloc);
+    for (before, output) in shown.iter().enumerate() {
+        notes.push(Note {
+            output: before as u32 + 1,
+            terms: output.poly.as_slice().len() as u64,
+            basis: output.basis.as_slice().len() as u64,
+        })?;
+    }
+    Ok(Notes::from_vec(notes))
+}
+
+/// The answer to a job of mode anf or basis on the bytes, or how the run ends without it: as is due, or for want of memory. The
+/// pool answers the jobs, also where no answer comes of them.
+pub fn answer_of<R: Threads + Sync, P: Pool>(
+    rt: &R,
+    alloc: Global,
+    job: &Job,
+    pool: &mut P,
+    bytes: &[u8],
+    gate: &Rendezvous,
+) -> Result<Answered, Outcome>
+    requires mode { (job.now.mode ≡ Anf) ⊎ (job.now.mode ≡ Basis) }
+    requires within { IsWithin job.now }
+    requires fresh { P.done pool.old ≡ 0 }
+    ensures ok { IfOk result (λ a. IsDue job.now bytes.now (record { outcome = outcomes.Done; pages = a.pages; notes = a.notes })) }
+    ensures jobs { IfOk result (λ a. least_jobs job.now.mode a.notes ≤ P.done pool.new) }
+    ensures few { IfOk result (λ a. (length a.notes ≡ length a.pages) × (length a.pages ≤ 64)) }
+    ensures err { IfErr result (EndsWithout job.now bytes.now) }
+{
+    let (pla, _) = description_of(alloc, job, bytes)?;
+    if let Some(outcome) = contradiction_of(&pla) {
+        return Err(outcome);
+    }
+    let solution = solve(rt, alloc, pool, gate, &pla, job)?;
+    let Ok(notes) = notes_of(alloc, &solution.shown) else {
+        return Err(Outcome::Memory);
+    };
+    match answer_text(alloc, &pla, job.mode, &solution.shown) {
+        Ok(pages) => Ok(Answered { pages, notes }),
+        Err(Memory) => Err(Outcome::Memory),
+    }
+}

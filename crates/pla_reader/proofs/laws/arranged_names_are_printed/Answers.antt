@@ -1,0 +1,5 @@
+use Rattle.pla_reader.proofs.PrintedOrders.{printed_in_order}
+use Rattle.pla_reader.proofs.laws.arranged_names_are_printed.Goals as goal
+
+pub returns : goal.returns
+returns c = printed_in_order

@@ -1,0 +1,6 @@
+mod IdealLaws
+mod QueryLines
+mod LeastValues
+mod UsedRows
+mod QueryAnswers
+mod ReducedSteps

@@ -1,0 +1,2 @@
+pub mod FoundTerms
+mod PointLeads

@@ -1,0 +1,14 @@
+use Rattle.std.proofs.Common.{◌≡◌, ◌≤◌, ◌+◌, take}
+use Rattle.node_store.specs.Stores.{Reads}
+use Rattle.run_parts.specs.Found.{terms_of}
+use Rattle.run_parts.proofs.counts.count_terms.Given as goal
+
+-- the terms so far are counted, and within the limit
+abbrev pub invariant-loop-polynomial : goal.invariant-loop-polynomial
+invariant-loop-polynomial g l =
+    let s = g.S.Store.state l.fn.store in
+    record {
+      reads : Reads s (g.S.Store.state l.store);
+      count : l.count ≡ l.fn.before + terms_of s (take l.polynomial-index l.polynomials);
+      within : l.count ≤ l.limit;
+    }

@@ -1,0 +1,2 @@
+mod ListedPoints
+mod InMemory

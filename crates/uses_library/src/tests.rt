@@ -1,0 +1,73 @@
+use crate::{Refusal, least_terms, run_on};
+use interp_list::are_care_points;
+use lattice::{Memory, Mono, Words};
+use std::alloc::Global;
+use std::process::Abort;
+use std::test::Fail;
+use std::thread::Threads;
+
+const TWO_POINTS: &str = ".i 2\n.o 1\n.type fr\n11 1\n00 0\n";
+
+// Over two inputs x1 is 2 and x2 is 1; over three x1 is 4, x2 is 2 and x3 is 1. By hand: 0 at 00 and 1 at 11 is x2, since x1 is
+// greater; the sum of three bits is x1 + x2 + x3, and its carry x1*x2 + x1*x3 + x2*x3.
+#[test]
+fn points_by_hand(rt: HostRuntime) -> Result<(), Fail> {
+    let cases: [(u32, &[u64], &[u64], &[Mono]); 5] = [
+        (2, &[0], &[3], &[Mono(1)]),
+        (2, &[0, 3], &[2], &[Mono(2), Mono(1)]),
+        (2, &[], &[1], &[Mono(0)]),
+        (
+            3,
+            &[0, 3, 5, 6],
+            &[1, 2, 4, 7],
+            &[Mono(4), Mono(2), Mono(1)],
+        ),
+        (
+            3,
+            &[0, 1, 2, 4],
+            &[3, 5, 6, 7],
+            &[Mono(6), Mono(5), Mono(3)],
+        ),
+    ];
+    for (inputs, zeros, ones, want) in cases {
+        assert!(rt; 1 <= inputs && inputs <= 12);
+        assert!(rt; are_care_points(inputs, zeros, ones));
+        let found = least_terms(rt.alloc(), inputs, zeros, ones, 3)?;
+        assert_eq!(rt; found.as_slice(), want);
+    }
+    Ok(())
+}
+
+// The carry has three terms.
+#[test]
+fn one_term_too_many(rt: HostRuntime) {
+    let (zeros, ones) = ([0, 1, 2, 4], [3, 5, 6, 7]);
+    assert!(rt; are_care_points(3, &zeros, &ones));
+    let found = least_terms(rt.alloc(), 3, &zeros, &ones, 2);
+    assert_eq!(rt; found.err(), Some(Refusal::Long));
+}
+
+// Runs the program on a file, and compares the status and the text.
+fn check<R: Threads + Abort + Sync>(
+    rt: &R,
+    alloc: Global,
+    mode: &str,
+    want: (u8, &str),
+) -> Result<(), Memory> {
+    let mut words = Words::new(alloc);
+    words.push("interp")?;
+    words.push(mode)?;
+    let ended = run_on(rt, alloc, &words, TWO_POINTS.as_bytes(), 100)?;
+    assert_eq!(rt; ended.status, want.0);
+    assert_eq!(rt; ended.out.bytes(), want.1.as_bytes());
+    Ok(())
+}
+
+// By hand: x2 is 0 at 00 and 1 at 11, and x1 + x2 is 0 at both. There is no mode of the last name.
+#[test]
+fn a_file_in_memory(rt: HostRuntime) -> Result<(), Fail> {
+    check(&rt, rt.alloc(), "anf", (0, "f1 = x2\n"))?;
+    check(&rt, rt.alloc(), "basis", (0, "f1 = x2\n0 = x1 + x2\n"))?;
+    check(&rt, rt.alloc(), "solve", (2, ""))?;
+    Ok(())
+}

@@ -1,0 +1,254 @@
+"""How many nodes a run needs, by sets of diagrams and the lists of families that each operation asks for: what `exact` compares with.
+
+It is written from the documents, for small files, and shares nothing with the program. A diagram is a number: 0 is the empty
+family, 1 the family whose one member is 0, and each other one names a node of a variable and two diagrams.
+"""
+
+import collections
+import functools
+
+# One output's care points of value 0 and of value 1.
+Care = collections.namedtuple("Care", "zeros ones")
+
+
+class Diagrams:
+    """Diagrams over so many variables, where equal families have equal numbers."""
+
+    def __init__(self, inputs):
+        self.inputs = inputs
+        self.nodes = [None, None]
+        self.numbers = {}
+        self.union = self.pointwise(lambda a, b: a or b)
+        self.inter = self.pointwise(lambda a, b: a and b)
+        self.minus = self.pointwise(lambda a, b: a and not b)
+        self.sum = self.pointwise(lambda a, b: a != b)
+
+    def node(self, var, low, high):
+        if high == 0:
+            return low
+        key = (var, low, high)
+        if key not in self.numbers:
+            self.numbers[key] = len(self.nodes)
+            self.nodes.append(key)
+        return self.numbers[key]
+
+    def var(self, a):
+        """The first variable of a diagram; behind all variables for the two constants."""
+        return self.nodes[a][0] if a > 1 else self.inputs + 1
+
+    def parts(self, a, var):
+        return self.nodes[a][1:] if self.var(a) == var else (a, 0)
+
+    def pointwise(self, test):
+        """The operation on two families that takes each number by whether it is in the one and in the other."""
+
+        @functools.cache
+        def operation(a, b):
+            if a < 2 and b < 2:
+                return int(test(a == 1, b == 1))
+            var = min(self.var(a), self.var(b))
+            (a_low, a_high), (b_low, b_high) = self.parts(a, var), self.parts(b, var)
+            return self.node(var, operation(a_low, b_low), operation(a_high, b_high))
+
+        return operation
+
+    def cube(self, symbols):
+        """The points that agree with a row's symbols."""
+        found = 1
+        for var in range(self.inputs, 0, -1):
+            symbol = symbols[var - 1]
+            found = self.node(var, 0 if symbol == "1" else found, 0 if symbol == "0" else found)
+        return found
+
+    def one(self, monomial):
+        """The family of one monomial, which is a set of variables."""
+        found = 1
+        for var in sorted(monomial, reverse=True):
+            found = self.node(var, 0, found)
+        return found
+
+    def above(self, monomial, points):
+        """The points that have all variables of the monomial."""
+        if points == 0 or not monomial:
+            return points
+        var = self.var(points)
+        if var > min(monomial):
+            return 0
+        low, high = self.parts(points, var)
+        if var == min(monomial):
+            return self.node(var, 0, self.above(monomial - {var}, high))
+        return self.node(var, self.above(monomial, low), self.above(monomial, high))
+
+    def members(self, a):
+        """The members, each as a set of variables, from the least up."""
+        if a < 2:
+            return [frozenset()] * a
+        var, low, high = self.nodes[a]
+        return self.members(low) + [member | {var} for member in self.members(high)]
+
+    def count_nodes(self, families):
+        """The number of different nodes of some diagrams."""
+        met, left = set(), [a for a in families if a > 1]
+        while left:
+            a = left.pop()
+            if a not in met:
+                met.add(a)
+                left += [part for part in self.nodes[a][1:] if part > 1]
+        return len(met)
+
+
+class Needs:
+    """What operations give, and the families that they ask for, which gather in `asked`."""
+
+    def __init__(self, inputs):
+        self.diagrams = Diagrams(inputs)
+        self.asked = set()
+        self.kept = {}
+
+    def ask(self, *families):
+        self.asked.update(families)
+
+    def once(self, key, find):
+        """What a call gives, which asks for the same families each time."""
+        if key not in self.kept:
+            self.kept[key] = find()
+        return self.kept[key]
+
+    def cover(self, cubes):
+        found = 0
+        for cube in cubes:
+            found = self.diagrams.union(found, cube)
+            self.ask(cube, found)
+        return found
+
+    def care_sets(self, kind, rows, output):
+        """The care points of an output, by the symbols of the rows: what they say of it is the symbol at its place."""
+        d = self.diagrams
+        symbols = {"on": "14", "off": "0", "dc": "-2"}
+        cubes = {name: [d.cube(ins) for ins, outs in rows if outs[output] in said] for name, said in symbols.items()}
+        on = self.cover(cubes["on"])
+        off = self.cover(cubes["off"]) if kind in ("fr", "fdr") else 0
+        dc = self.cover(cubes["dc"]) if kind in ("fd", "fdr") else 0
+        ones = d.minus(on, dc)
+        zeros = d.minus(off, dc)
+        self.ask(ones, zeros)
+        if kind in ("f", "fd"):
+            every, listed = d.cube("-" * d.inputs), d.union(on, dc)
+            zeros = d.minus(every, listed)
+            self.ask(every, listed, zeros)
+        return Care(zeros, ones)
+
+    def ones(self, h, points):
+        """The points where the polynomial h is 1."""
+        if h == 0 or points == 0:
+            return 0
+        if h == 1:
+            self.ask(points)
+            return points
+        return self.once(("ones", h, points), lambda: self.ones_by_halves(h, points))
+
+    def ones_by_halves(self, h, points):
+        d = self.diagrams
+        var = min(d.var(h), d.var(points))
+        (h_low, h_high), (low, high) = d.parts(h, var), d.parts(points, var)
+        both = d.sum(h_low, h_high)
+        if high and h_high:
+            self.ask(both)
+        found = d.node(var, self.ones(h_low, low), self.ones(both, high))
+        self.ask(found)
+        return found
+
+    def least(self, zeros, ones):
+        """The least polynomial that is 0 on zeros and 1 on ones."""
+        if ones == 0 or zeros == 0:
+            return int(ones != 0)
+        return self.once(("least", zeros, ones), lambda: self.least_by_halves(zeros, ones))
+
+    def least_by_halves(self, zeros, ones):
+        d = self.diagrams
+        var = min(d.var(zeros), d.var(ones))
+        (z_low, z_high), (o_low, o_high) = d.parts(zeros, var), d.parts(ones, var)
+        same = [d.inter(z_low, z_high), d.inter(o_low, o_high)]
+        other = [d.inter(z_low, o_high), d.inter(o_low, z_high)]
+        both = [d.union(*same), d.union(*other)]
+        h = self.least(*both)
+        flips = [self.ones(h, z_high), self.ones(h, o_high)]
+        rest = [d.minus(z_high, flips[0]), d.minus(o_high, flips[1])]
+        joined = [d.union(z_low, flips[1]), d.union(o_low, flips[0])]
+        below = [d.union(joined[0], rest[0]), d.union(joined[1], rest[1])]
+        g = self.least(*below)
+        found = d.sum(g, d.node(var, 0, h))
+        self.ask(*same, *other, *both, h, *flips, *rest, *joined, *below, g, found)
+        return found
+
+    def standard(self, points):
+        """The standard monomials of points."""
+        if points < 2:
+            return points
+        return self.once(("standard", points), lambda: self.standard_by_halves(points))
+
+    def standard_by_halves(self, points):
+        d = self.diagrams
+        var = d.var(points)
+        low, high = d.parts(points, var)
+        either, both = d.union(low, high), d.inter(low, high)
+        found = d.node(var, self.standard(either), self.standard(both))
+        self.ask(either, both, found)
+        return found
+
+    def leads(self, monomials, var=1):
+        """The least monomials, over the variables from this one on, that are not among these."""
+        if monomials == 0:
+            return 1
+        if var > self.diagrams.inputs:
+            return 0
+        return self.once(("leads", monomials, var), lambda: self.leads_by_halves(monomials, var))
+
+    def leads_by_halves(self, monomials, var):
+        d = self.diagrams
+        low, high = d.parts(monomials, var)
+        below, above = self.leads(low, var + 1), self.leads(high, var + 1)
+        kept = d.inter(above, low)
+        found = d.node(var, below, kept)
+        self.ask(kept, found)
+        return found
+
+    def element(self, lead, points):
+        """The element of the reduced basis with this lead."""
+        d = self.diagrams
+        ones = d.above(lead, points)
+        zeros = d.minus(points, ones)
+        normal_form = self.least(zeros, ones)
+        single = d.one(lead)
+        found = d.sum(single, normal_form)
+        self.ask(ones, zeros, normal_form, single, found)
+        return found
+
+    def nodes(self):
+        return self.diagrams.count_nodes(self.asked)
+
+
+# The nodes that the first phase needs and those that the whole run does, and the two counts of terms.
+Cost = collections.namedtuple("Cost", "first last leads terms")
+
+
+def cost_of(inputs, outputs, kind, rows, mode):
+    """What a run on a description costs. Each row has the symbols of its inputs and those of its outputs."""
+    needs = Needs(inputs)
+    d = needs.diagrams
+    care = [needs.care_sets(kind, rows, output) for output in range(outputs)]
+    polynomials = [needs.least(zeros, ones) for zeros, ones in care]
+    terms = sum(len(d.members(p)) for p in polynomials)
+    needs.ask(*polynomials)
+    found = []
+    if mode == "basis":
+        for zeros, ones in care:
+            points = d.union(zeros, ones)
+            standard = needs.standard(points)
+            leads = needs.leads(standard)
+            needs.ask(points, standard, leads)
+            found += [(lead, points) for lead in d.members(leads)]
+    first = needs.nodes()
+    elements = [needs.element(lead, points) for lead, points in found]
+    needs.ask(*elements)
+    return Cost(first, needs.nodes(), terms + len(found), terms + sum(len(d.members(e)) for e in elements))
