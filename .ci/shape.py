@@ -14,7 +14,7 @@ import sys
 
 COLUMNS = 140
 PUBLIC_MODULES = 2
-PROOF_LINES = 36_000
+PROOF_LINES = 38_000
 # Modules whose lemmas nothing need use: examples, and what the words of kept results are made of.
 EXAMPLES = re.compile(r"Examples|Worked|WordParts")
 

@@ -5,8 +5,8 @@
 
 It makes the files (make_files.py), builds the driver (brial_driver.cpp) where Debian's packages libbrial-dev and
 libbrial-groebner-dev are installed, runs each program on each file in turn, N times, and prints a table: the least time of
-each in milliseconds, start and reading included, the peak memory of the first column, and the answer's bytes. --also names a
-second build of interp, to compare with.
+each in milliseconds, start and reading included, the peak memory of the first column, which is that of this script at the
+least, and the answer's bytes. --also names a second build of interp, to compare with.
 """
 
 import argparse
@@ -52,8 +52,10 @@ def run(words, file):
         spent = (time.monotonic() - begun) * 1000
         child.returncode = os.waitstatus_to_exitcode(status)
         out.seek(0)
-        answer = out.read()
-    return spent, used.ru_maxrss, child.returncode, len(answer), hashlib.sha256(answer).hexdigest()
+        # The peak memory of a child is that of this script at the least, so an answer is not held.
+        digest = hashlib.file_digest(out, "sha256").hexdigest()
+        size = os.fstat(out.fileno()).st_size
+    return spent, used.ru_maxrss, child.returncode, size, digest
 
 
 def commands(options, mode, brial):

@@ -1,3 +1,2 @@
 mod Variables
 mod Texts
-pub mod PrintedLists

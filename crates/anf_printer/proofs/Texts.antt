@@ -3,9 +3,10 @@ use Rattle.std.proofs.lemmas.Grind.{common_steps}
 use Rattle.std.proofs.Common.{◌≡◌, ◌≢◌, ℕ, zero, suc, ◌+◌, ◌-◌, ◌^◌, ◌<◌, ◌≤◌, List, [], ◌∷◌, ◌++◌, length, get_or, take, drop, map, rules}
 use Rattle.std.proofs.Common.{reverse, codes, refl, sym, ap, ◌∙◌, subst, arith, add-one, ne_eqb}
 use Rattle.std.specs.List.{All, flat_map}
-use Rattle.std.proofs.lemmas.List.{take_all, length-map, get_or-map, map-append, reverse-reverse, length-reverse, get_or-reverse}
+use Rattle.std.proofs.lemmas.List.{take_all, length-map, get_or-map, reverse-reverse, length-reverse, get_or-reverse}
 use Rattle.std.proofs.lemmas.List.Elements.{All-take, All-drop}
 use Rattle.lattice.specs.Family.{IsFamily}
+use Rattle.lattice.proofs.Polynomials.{terms_below}
 use Rattle.lattice.specs.declared.kind.Mode.{Mode}
 use Rattle.anf_printer.specs.declared.answer.Shown.{Shown}
 use Rattle.anf_printer.specs.Text.{Answer, shown_answer, output_text, texts_of, variables_of, monomial_text, sum_text}
@@ -33,16 +34,6 @@ pub polynomial_text_some : (names : List (List ℕ)) (terms : List ℕ) (m : ℕ
 unfolding sum_text
 polynomial_text_some names [] first some is = absurd (omega arith)
 polynomial_text_some names (m ∷ terms) first some is = grind (arith, common_steps, take_all, reverse-reverse)
-
-All-from_reverse : {X : Type 0} (P : X → Type 0) (xs : List X) → All P (reverse xs) → All P xs
-All-from_reverse P xs all k d less =
-    let back : length xs - 1 - (length xs - 1 - k) ≡ k = omega arith in
-    let here : get_or (reverse xs) (length xs - 1 - k) d ≡ get_or xs k d = get_or-reverse xs (length xs - 1 - k) d (omega arith)
-    ∙ ap (λ i. get_or xs i d) back in
-    subst P here (all (length xs - 1 - k) d (rw length-reverse (omega arith)))
-
-pub terms_below : (n : ℕ) (terms : List ℕ) → IsFamily n (reverse terms) → All (λ m. m < 2 ^ n) terms
-terms_below n terms family = All-from_reverse (λ m. m < 2 ^ n) terms family.below
 
 pub others_below : (n : ℕ) (terms : List ℕ) → IsFamily n (reverse terms) → All (λ m. m < 2 ^ n) (take (length terms - 1) (drop 1 terms))
 others_below n terms family = search (rules, arith, All-take, All-drop, terms_below)

@@ -1,12 +1,15 @@
 -- The answer's text: for each output its polynomial, and in basis mode its basis elements.
-use Rattle.std.specs.Prelude.{ℕ, ◌^◌, List, [], ◌∷◌, ◌++◌, ◌==◌, if◌then◌else◌, length, map, reverse, codes}
-use Rattle.std.specs.List.{All, flat_map, join_by}
+use Rattle.std.specs.Prelude.{ℕ, ◌-◌, ◌^◌, ◌≤◌, List, [], ◌∷◌, ◌++◌, ◌==◌, if◌then◌else◌, length, map, reverse, codes, slice_index_or}
+use Rattle.std.specs.List.{All, flat_map, join_by, zip}
 use Rattle.lattice.specs.Family.{Family, divides, IsFamily}
 use Rattle.lattice.specs.declared.kind.Mode.{Mode}
 use Rattle.lattice.specs.WorkingLists.{is_basis}
 use Rattle.pla_reader.specs.PrintedNames.{input_names, output_names}
 use Rattle.pla_reader.specs.declared.pla.Pla.{Pla}
 use Rattle.anf_printer.specs.declared.answer.Shown.{Shown}
+use Rattle.anf_printer.specs.declared.lines.Left.{Left}
+use Rattle.anf_printer.specs.declared.lines.Left.TheVariants.{Zero, Output}
+use Rattle.anf_printer.specs.declared.lines.Line.{Line}
 
 -- ---- polynomials
 
@@ -38,18 +41,22 @@ pub record Answer : Type 0 where
 unfoldable pub line : List (List ℕ) → List ℕ → Family → List ℕ
 line names left p = left ++ codes " = " ++ polynomial_text names p ++ codes "\n"
 
--- the lines of the basis elements, in basis mode
-unfoldable pub basis_lines : Mode → List (List ℕ) → List Family → List ℕ
-basis_lines mode names elements = if is_basis mode then flat_map (line names (codes "0")) elements else []
+-- 0, or the name of the output of this number, of those with these names
+abbrev pub left_text : List (List ℕ) → Left → List ℕ
+left_text outputs Zero = codes "0"
+left_text outputs (Output number) = slice_index_or outputs (number - 1) []
 
--- the text of the output of a name
+-- some lines, each of what is on its left and a polynomial, with these names of inputs and outputs
+abbrev pub lines_text : (names outputs : List (List ℕ)) → List (Left × Family) → List ℕ
+lines_text names outputs lines = flat_map (λ l. line names (left_text outputs l.0) l.1) lines
+
+-- the text of the output of a name: its line and, in mode basis, those of the elements
 unfoldable pub output_text : Mode → List (List ℕ) → List ℕ → Answer → List ℕ
-output_text mode names name a = line names name a.polynomial ++ basis_lines mode names a.basis
+output_text mode names name a = line names name a.polynomial ++ flat_map (line names (codes "0")) (if is_basis mode then a.basis else [])
 
 -- the texts of outputs, in order
 unfoldable pub texts_of : Mode → (names outputs : List (List ℕ)) → List Answer → List (List ℕ)
-texts_of mode names (name ∷ outputs) (a ∷ answers) = output_text mode names name a ∷ texts_of mode names outputs answers
-texts_of mode names _ _ = []
+texts_of mode names outputs answers = map (λ o. output_text mode names o.0 o.1) (zip outputs answers)
 
 -- the answer's text: one text for each output
 abbrev pub answer_texts : Pla → Mode → List Answer → List (List ℕ)
@@ -64,3 +71,16 @@ shown_answer s = record { polynomial = reverse s.poly; basis = map reverse s.bas
 pub record IsAnswerOver (inputs : ℕ) (a : Answer) : Type 0 where
   pub polynomial : IsFamily inputs a.polynomial
   pub basis : All (IsFamily inputs) a.basis
+
+abbrev pub shown_line : Line → Left × Family
+shown_line l = (l.left, reverse l.terms.now)
+
+-- what is on the left is 0 or one of so many outputs
+abbrev pub IsLeftOf : ℕ → Left → Type 0
+IsLeftOf outputs Zero = Unit {0}
+IsLeftOf outputs (Output number) = (1 ≤ number) × (number ≤ outputs)
+
+-- and the polynomial is a family of monomials over so many inputs
+pub record IsLineOver (inputs outputs : ℕ) (l : Left × Family) : Type 0 where
+  pub left : IsLeftOf outputs l.0
+  pub polynomial : IsFamily inputs l.1

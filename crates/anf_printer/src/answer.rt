@@ -1,11 +1,12 @@
 //! The text of the answer.
-ghost use Rattle.std.specs.Prelude.{◌≡◌, ◌⊎◌, ◌++◌, IfOk, OnOk, All, length, map, reverse, codes};
+ghost use Rattle.std.specs.Prelude.{◌≡◌, ◌⊎◌, ◌++◌, IfOk, OnOk, All, [], if◌then◌else◌, length, map, reverse, codes};
 ghost use Rattle.std.specs.List.{flat_map};
 ghost use Rattle.lattice.specs.Family.{IsFamily};
-ghost use Rattle.anf_printer.specs.Text.{line, basis_lines, output_text, texts_of, answer_texts, shown_answer, IsAnswerOver};
+ghost use Rattle.lattice.specs.WorkingLists.{is_basis};
+ghost use Rattle.anf_printer.specs.Text.{line, output_text, texts_of, answer_texts, shown_answer, IsAnswerOver};
 
-use crate::polynomial::push_polynomial;
-use lattice::{Memory, Mode, Mono, MonoLists, Monos, Name, Pages, Text};
+use crate::lines::push_line;
+use lattice::{Memory, Mode, MonoLists, Monos, Name, Pages, Text};
 use pla_reader::{Pla, names_in_place, printed};
 use std::alloc::{AllocError, Global};
 
@@ -15,24 +16,6 @@ use std::alloc::{AllocError, Global};
 pub struct Shown {
     pub poly: Monos,
     pub basis: MonoLists,
-}
-
-/// Puts a line at the end of the text.
-#[tactic(auto, unfolding(crate::specs::Text::line))]
-fn push_line(
-    text: &mut Vec<u8>,
-    names: &[Name],
-    left: &[u8],
-    terms: &[Mono],
-) -> Result<(), AllocError>
-    requires { IsFamily (length names.now) (reverse terms.now) }
-    ensures { OnOk result (text.new.items ≡ text.old.items ++ line names.now left.now (reverse terms.now)) }
-{
-    text.extend_from_slice(left)?;
-    text.extend_from_slice(b" = ")?;
-    push_polynomial(text, names, terms)?;
-    text.push(b'\n')?;
-    Ok(())
 }
 
 /// Puts the lines of the basis elements at the end of the text.
@@ -47,7 +30,6 @@ fn push_elements(text: &mut Vec<u8>, names: &[Name], elements: &[Monos]) -> Resu
 }
 
 /// Puts the lines of the basis, where the mode has them, at the end of the text.
-#[tactic(auto, unfolding(crate::specs::Text::basis_lines))]
 fn push_basis(
     text: &mut Vec<u8>,
     mode: Mode,
@@ -55,7 +37,7 @@ fn push_basis(
     elements: &[Monos],
 ) -> Result<(), AllocError>
     requires { All (IsFamily (length names.now)) (map reverse elements.now) }
-    ensures { OnOk result (text.new.items ≡ text.old.items ++ basis_lines mode names.now (map reverse elements.now)) }
+    ensures { OnOk result (text.new.items ≡ text.old.items ++ flat_map (line names.now (codes "0")) (if is_basis mode then map reverse elements.now else [])) }
 {
     match mode {
         Mode::Basis => push_elements(text, names, elements),

@@ -2,9 +2,11 @@
 #![tactic(auto)]
 
 mod answer;
+mod lines;
 mod polynomial;
 
 pub use crate::answer::{Shown, answer_text};
+pub use crate::lines::{Left, Line, lines_text};
 pub use crate::polynomial::poly_text;
 
 #[cfg(test)]

@@ -10,8 +10,8 @@ use Rattle.lattice.specs.Polynomial.{value}
 use Rattle.lattice.proofs.Polynomials.{family_where_has, family_where-agree}
 use Rattle.lattice.specs.Rows.{care_zeros, care_ones}
 use Rattle.lattice.specs.WorkingLists.{care_set}
-use Rattle.pla_reader.specs.declared.pla.Pla.{Pla}
-use Rattle.anf_printer.proofs.PrintedLists.{terms_below as below_all}
+use Rattle.pla_reader.specs.Reading.{Description}
+use Rattle.lattice.proofs.Polynomials.{terms_below as below_all}
 use Rattle.cert_check.specs.declared.refusal.Fault.{Fault}
 use Rattle.cert_check.specs.declared.refusal.Verdict.TheVariants.{Yes, No}
 use Rattle.cert_check.specs.Faults.{Check, first_verdict, misses, is_one_in, is_comparable, is_below_last, greatest_of, element_checks}
@@ -251,7 +251,7 @@ values_tested n zeros ones terms seen counts table b family seen_is table_is cou
 
 -- ---- outputs in turn
 
-module _ (p : Pla) (answer : List GivenOutput) (i : ℕ)
+module _ (p : Description) (answer : List GivenOutput) (i : ℕ)
     (so_far : verdict_on p answer ≡ first_verdict (checks_from p (i + 1) (drop i answer))) where
   module _ (given : GivenOutput) (output : ℕ) (within : i < length answer) (is : given ≡ get_or answer i given)
       (number : output ≡ i + 1) where

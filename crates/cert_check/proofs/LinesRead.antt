@@ -19,7 +19,7 @@ use Rattle.pla_reader.specs.declared.refusal.LineRefusal.{LineRefusal}
 use Rattle.pla_reader.specs.Parts.{Stops}
 use Rattle.pla_reader.specs.Lines.{lines_of}
 use Rattle.pla_reader.specs.Grammar.{first_failed}
-use Rattle.pla_reader.specs.declared.pla.Pla.{Pla}
+use Rattle.pla_reader.specs.Reading.{Description}
 use Rattle.cert_check.specs.declared.answer.Given.{Given}
 use Rattle.cert_check.specs.declared.answer.GivenOutput.{GivenOutput}
 use Rattle.cert_check.specs.declared.refusal.AnswerWhy.{AnswerWhy}
@@ -294,7 +294,7 @@ module _ (ins outs : List (List ℕ)) where
       (fits_line read (count + 1) (words (bare line)) fits parts.0) parts.1) (cases_Bool (is_empty (bare line)))
 
 -- what is answered fits the description
-pub answer_fits : (ins outs : List (List ℕ)) (p : Pla) (text : List ℕ)
+pub answer_fits : (ins outs : List (List ℕ)) (p : Description) (text : List ℕ)
     (result : Result (List GivenOutput) AnswerRefusal) → length ins ≡ p.inputs → length outs ≡ p.outputs → GivesAnswer
     result (read_on ins outs 0 [] (lines_of text)) → IfOk result (IsAnswerFor p)
 answer_fits ins outs p text (Ok answer) in_count out_count is =

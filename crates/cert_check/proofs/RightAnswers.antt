@@ -13,7 +13,7 @@ use Rattle.lattice.proofs.Polynomials.{IsLeast-from_standard}
 use Rattle.lattice.specs.Basis.{IsStandard, IsLead, IsBasisElement, IsReducedBasis}
 use Rattle.lattice.specs.Interpolation.{IsLeast}
 use Rattle.lattice.specs.Rows.{is_zero, is_one}
-use Rattle.pla_reader.specs.declared.pla.Pla.{Pla}
+use Rattle.pla_reader.specs.Reading.{Description}
 use Rattle.cert_check.specs.declared.refusal.Fault.{Fault}
 use Rattle.cert_check.specs.declared.refusal.Verdict.TheVariants.{Yes}
 use Rattle.cert_check.specs.Faults.{Check, first_verdict, is_comparable, is_below_last, is_one_in, greatest_of, is_divided, element_checks}
@@ -357,7 +357,7 @@ module _ (n : ℕ) (zeros ones : Family) (zf : IsFamily n zeros) (of : IsFamily 
 
 -- ---- all outputs
 
-module _ (p : Pla) where
+module _ (p : Description) where
   -- the outputs from this number on are given rightly
   abbrev IsRightFrom : ℕ → List GivenOutput → Type 0
   IsRightFrom output answer = (k : ℕ) (given : GivenOutput) → slice_get answer k ≡ Some given → IsRightFor p (k + output) given

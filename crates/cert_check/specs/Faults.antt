@@ -7,7 +7,7 @@ use Rattle.lattice.specs.Family.{Family, divides, family_where}
 use Rattle.lattice.specs.Polynomial.{value}
 use Rattle.lattice.specs.Rows.{care_zeros, care_ones}
 use Rattle.lattice.specs.WorkingLists.{care_set}
-use Rattle.pla_reader.specs.declared.pla.Pla.{Pla}
+use Rattle.pla_reader.specs.Reading.{Description}
 use Rattle.cert_check.specs.declared.answer.Given.{Given}
 use Rattle.cert_check.specs.declared.answer.GivenOutput.{GivenOutput}
 use Rattle.cert_check.specs.declared.refusal.Fault.{Fault}
@@ -55,8 +55,7 @@ miscounts n points tops = not (length (family_where n (λ m. not (is_divided top
 -- of an element, behind those with these greatest monomials: that it vanishes; that it is not zero, and its greatest monomial
 -- compares with none of them; that this is not less than the last of them
 abbrev pub element_checks : (points : Family) → (earlier : List ℕ) → Given → List Check
-element_checks points earlier element =
-    let top = slice_get element.terms 0 in
+element_checks points earlier element = let top = slice_get element.terms 0 in
     (is_one_in points element.terms, element.line, NotZero)
     ∷ (option_map_or (is_comparable earlier) top true, element.line, Leads)
     ∷ (option_map_or (is_below_last earlier) top false, element.line, Order) ∷ []
@@ -69,22 +68,20 @@ basis_checks points earlier (element ∷ elements) =
 
 -- that nothing can be reduced: of the polynomial, and of each element in turn but for its greatest monomial
 unfoldable pub reduced_checks : (tops : List ℕ) → GivenOutput → List Check
-reduced_checks tops given =
-    (list_any (is_divided tops) given.poly.terms, given.poly.line, Reducible)
+reduced_checks tops given = (list_any (is_divided tops) given.poly.terms, given.poly.line, Reducible)
     ∷ map (λ element. (list_any (is_divided tops) (drop 1 element.terms), element.line, Reducible)) given.basis
 
 -- of an output with these care points
 unfoldable pub output_checks : ℕ → (zeros ones points : Family) → GivenOutput → List Check
-output_checks n zeros ones points given =
-    let tops = greatest_of given.basis in
+output_checks n zeros ones points given = let tops = greatest_of given.basis in
     (misses zeros ones given.poly.terms, given.poly.line, Value)
     ∷ (basis_checks points [] given.basis ++ (miscounts n points tops, given.poly.line, Count) ∷ reduced_checks tops given)
 
 -- of the outputs in turn, the first of them with this number
-unfoldable pub checks_from : Pla → (first : ℕ) → List GivenOutput → List Check
-checks_from p first answer = flat_map (λ o. output_checks p.inputs (care_zeros p.inputs p.kind p.rows o.0)
-    (care_ones p.inputs p.kind p.rows o.0) (care_set p.inputs p.kind p.rows o.0) o.1) (enumerate_from first answer)
+unfoldable pub checks_from : Description → (first : ℕ) → List GivenOutput → List Check
+checks_from d first answer = flat_map (λ o. output_checks d.inputs (care_zeros d.inputs d.kind d.rows o.0)
+    (care_ones d.inputs d.kind d.rows o.0) (care_set d.inputs d.kind d.rows o.0) o.1) (enumerate_from first answer)
 
 -- the verdict on an answer: the first fault, if there is one
-abbrev pub verdict_on : Pla → List GivenOutput → Verdict
-verdict_on p answer = first_verdict (checks_from p 1 answer)
+abbrev pub verdict_on : Description → List GivenOutput → Verdict
+verdict_on d answer = first_verdict (checks_from d 1 answer)

@@ -12,8 +12,8 @@ use Rattle.pla_reader.specs.Lines.{lines_of}
 use Rattle.std.specs.Io.BufRead.{strip_last}
 use Rattle.pla_reader.specs.Grammar.{first_failed}
 use Rattle.pla_reader.specs.PlainNames.{is_plain}
-use Rattle.pla_reader.specs.declared.pla.Pla.{Pla}
-use Rattle.pla_reader.specs.PrintedNames.{input_names, output_names}
+use Rattle.pla_reader.specs.Reading.{Description}
+use Rattle.pla_reader.specs.PrintedNames.{printed_names}
 use Rattle.cert_check.specs.declared.answer.Given.{Given}
 use Rattle.cert_check.specs.declared.answer.GivenOutput.{GivenOutput}
 use Rattle.cert_check.specs.declared.refusal.AnswerWhy.{AnswerWhy}
@@ -116,14 +116,12 @@ is_next outs before name = option_map_or (λ next. bytes_eq next name) (slice_ge
 
 -- what is wrong with a left side, after the lines of so many outputs: an element before the first, another name than the next
 unfoldable pub left_fault : (outs : List (List ℕ)) → (before : ℕ) → (left : List ℕ) → Option AnswerWhy
-left_fault outs before left =
-    if is_element left then then_some (before == 0) MissingOutput
+left_fault outs before left = if is_element left then then_some (before == 0) MissingOutput
     else first_failed ((not (includes outs left), UnknownName) ∷ (not (is_next outs before left), MissingOutput) ∷ [])
 
 -- what is wrong with a right side
 unfoldable pub right_fault : (ins : List (List ℕ)) → (right : List (List ℕ)) → Option AnswerWhy
-right_fault ins right = first_failed (
-    (not (are_known ins (terms_in right)), UnknownName)
+right_fault ins right = first_failed ((not (are_known ins (terms_in right)), UnknownName)
     ∷ (not (are_ordered ins (2 ^ length ins) (terms_in right)), TermOrder) ∷ [])
 
 -- what is wrong with a line of these words
@@ -141,8 +139,7 @@ with_element (output ∷ next ∷ outputs) element = output ∷ with_element (ne
 
 -- what was read, with one more line of these words: an element of the last output, or an output without elements so far
 unfoldable pub with_line : (ins : List (List ℕ)) → List GivenOutput → (number : ℕ) → (line : List (List ℕ)) → List GivenOutput
-with_line ins read number line =
-    let given : Given = record { terms = monomials_of ins (right_of line); line = number } in
+with_line ins read number line = let given : Given = record { terms = monomials_of ins (right_of line); line = number } in
     if is_element (left_of line) then with_element read given else read ++ record { poly = given; basis = [] } ∷ []
 
 -- an answer, or the number of the first bad line and the first check that it fails
@@ -158,8 +155,9 @@ read_on ins outs count read (line ∷ lines) =
     (read_on ins outs (count + 1) (with_line ins read (count + 1) (words (bare line))) lines)
 
 -- what the text answers for a description, or why it is refused
-abbrev pub answer_reading : Pla → List ℕ → Reading
-answer_reading p text = read_on (input_names p) (output_names p) 0 [] (lines_of text)
+abbrev pub answer_reading : Description → List ℕ → Reading
+answer_reading d text =
+    read_on (printed_names (codes "x") d.inputs d.in_names) (printed_names (codes "f") d.outputs d.out_names) 0 [] (lines_of text)
 
 -- the result gives what was read, unless memory ran out
 abbrev pub GivesAnswer : Result (List GivenOutput) AnswerRefusal → Reading → Type 0

@@ -5,6 +5,7 @@ ghost use Rattle.lattice.specs.Family.{Family, IsFamily, divides, family_where, 
 ghost use Rattle.lattice.specs.declared.row.Row.{Row};
 ghost use Rattle.lattice.specs.Rows.{care_zeros, care_ones};
 ghost use Rattle.lattice.specs.WorkingLists.{care_set};
+ghost use Rattle.pla_reader.specs.Reading.{description};
 ghost use Rattle.cert_check.specs.Marks.{MarksAll, MarksCare, CountsDivisors};
 ghost use Rattle.cert_check.specs.Right.{polynomial, IsOutputOver, IsAnswerFor, IsRight};
 ghost use Rattle.cert_check.specs.Faults.{first_verdict, misses, is_one_in, greatest_of, is_comparable, is_below_last, is_divided, miscounts, element_checks, basis_checks, reduced_checks, output_checks, checks_from, verdict_on};
@@ -188,8 +189,8 @@ fn judge_output(alloc: Global, inputs: u32, care: &[Care], given: &GivenOutput) 
 /// Judges all outputs in turn.
 fn judge(alloc: Global, p: &Pla, answer: &[GivenOutput]) -> Result<(), Stop>
     requires few { p.now.inputs ≤ 14 }
-    requires answer { IsAnswerFor p.now answer.now }
-    ensures { Judges result (verdict_on p.now answer.now) }
+    requires answer { IsAnswerFor (description p.now) answer.now }
+    ensures { Judges result (verdict_on (description p.now) answer.now) }
 {
     let marks = marks_of_all(alloc, p.inputs, p.rows.as_slice())?;
     let mut output = 0;
@@ -209,9 +210,9 @@ fn judge(alloc: Global, p: &Pla, answer: &[GivenOutput]) -> Result<(), Stop>
 /// monomials that no greatest monomial divides; a monomial of the polynomial, and then of each element, that can be reduced.
 /// `TooWide` comes where there are more than 14 inputs.
 pub fn check(alloc: Global, p: &Pla, a: &GivenAnswer) -> Result<Verdict, CheckRefusal>
-    requires { IsAnswerFor p.now a.now }
-    ensures right { IfOk result (λ verdict. (verdict ≡ Verdict.Yes) ↔ IsRight p.now a.now) }
-    ensures first { IfOk result (λ verdict. verdict ≡ verdict_on p.now a.now) }
+    requires { IsAnswerFor (description p.now) a.now }
+    ensures right { IfOk result (λ verdict. (verdict ≡ Verdict.Yes) ↔ IsRight (description p.now) a.now) }
+    ensures first { IfOk result (λ verdict. verdict ≡ verdict_on (description p.now) a.now) }
     ensures wide { (result ≡ Err CheckRefusal.TooWide) ↔ (14 < p.now.inputs) }
 {
     if p.inputs > MOST_INPUTS {

@@ -1,5 +1,6 @@
 //! Reading an answer from bytes.
 ghost use Rattle.std.specs.Prelude.{◌≡◌, ◌<◌, ◌≤◌, ◌^◌, [], length, IfOk, MatchResult, Some, None};
+ghost use Rattle.pla_reader.specs.Reading.{description};
 ghost use Rattle.cert_check.specs.Reading.{words, is_next, left_fault, line_fault, with_element, with_line, read_on, answer_reading, GivesAnswer};
 ghost use Rattle.pla_reader.specs.Lines.{lines_of};
 ghost use Rattle.cert_check.specs.Right.{IsAnswerFor};
@@ -132,8 +133,8 @@ fn read_lines(
 /// check that it fails.
 pub fn read_answer(alloc: Global, p: &Pla, text: &[u8]) -> Result<GivenAnswer, AnswerRefusal>
     requires { length text.now < 2 ^ 32 }
-    ensures reading { GivesAnswer result (answer_reading p.now text.now) }
-    ensures polynomials { IfOk result (IsAnswerFor p.now) }
+    ensures reading { GivesAnswer result (answer_reading (description p.now) text.now) }
+    ensures polynomials { IfOk result (IsAnswerFor (description p.now)) }
 {
     let for_inputs = names_in_place(alloc, "x", p.inputs, &p.in_names)?;
     let ins = printed(&for_inputs, &p.in_names);

@@ -1,5 +1,5 @@
 -- The declared command, and what its matches say.
-use Rattle.std.specs.Prelude.{◌≡◌, ◌∷◌, [], ◌≤◌, Any, List, ℕ, map, true, Option, Some, option_map, codes, fold}
+use Rattle.std.specs.Prelude.{◌≡◌, ◌∷◌, [], ◌≤◌, Any, List, ℕ, map, true, Option, None, Some, option_map, codes, fold}
 use Rattle.std.specs.Borrow.{Bor}
 use Rattle.std.specs.Str.Parse.{digits_value, without_leading_plus}
 use Rattle.clap.specs.Words.{App, IsUnsignedIn, Row, Rule, Text, first_of, first_value, new_app, new_rule, one_of, one_text, with_rule}
@@ -31,36 +31,20 @@ IsModeNames list = map (λ name. name.now) list.now ≡ map mode_name modes
 
 -- MODE, with its names at an address
 abbrev pub mode_rule : NameList → Rule
-mode_rule list = record (new_rule (codes "mode")) {
-  required = true;
-  action = Some Set;
-  parser = Some (parser.Names list);
-}
+mode_rule list = record (new_rule (codes "mode")) { required = true; action = Some Set; parser = Some (parser.Names list) }
 
--- an option with one value and a default
-abbrev pub option_rule : Text → ValueParser → Text → Rule
-option_rule name values default = record (new_rule name) {
-  long = Some name;
-  action = Some Set;
-  parser = Some values;
-  defaults = default ∷ [];
-}
-
--- the order of the inputs: an option with one value, any text, and no default
-abbrev pub order_rule : Rule
-order_rule = record (new_rule (codes "order")) {
-  long = Some (codes "order");
-  action = Some Set;
-}
+-- an option with one value, of any form where no parser says which; and its default, where it has one
+abbrev pub option_rule : Text → Option ValueParser → List Text → Rule
+option_rule name values defaults = record (new_rule name) { long = Some name; action = Some Set; parser = values; defaults = defaults }
 
 -- the options in their order
 abbrev pub options : List Rule
 options =
-    option_rule (codes "workers") (parser.Unsigned 1 16) (codes "1")
-    ∷ option_rule (codes "nodes") (parser.Unsigned MIN_BITS MAX_BITS) (codes "19")
-    ∷ option_rule (codes "terms") (parser.Unsigned 1 1000000) (codes "1000000")
-    ∷ option_rule (codes "seed") (parser.Unsigned 0 18446744073709551615) (codes "0")
-    ∷ order_rule ∷ []
+    option_rule (codes "workers") (Some (parser.Unsigned 1 16)) (codes "1" ∷ [])
+    ∷ option_rule (codes "nodes") (Some (parser.Unsigned MIN_BITS MAX_BITS)) (codes "19" ∷ [])
+    ∷ option_rule (codes "terms") (Some (parser.Unsigned 1 1000000)) (codes "1000000" ∷ [])
+    ∷ option_rule (codes "seed") (Some (parser.Unsigned 0 18446744073709551615)) (codes "0" ∷ [])
+    ∷ option_rule (codes "order") None [] ∷ []
 
 -- `interp MODE [--workers N] [--nodes B] [--terms T] [--seed S] [--order NAMES]`, with the names at an address
 abbrev pub interp_command_at : NameList → App

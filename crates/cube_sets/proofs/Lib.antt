@@ -3,3 +3,4 @@ mod Pairs
 mod Search
 mod Consistent
 mod Marks
+pub mod OneClash

@@ -1,5 +1,5 @@
 -- The rows of a seed one by one, and that they make a description.
-use Rattle.std.proofs.Common.{◌≡◌, ℕ, suc, ◌+◌, ◌-◌, ◌*◌, ◌%◌, ◌^◌, ◌<◌, Bool, true, false, cond, nat_eq}
+use Rattle.std.proofs.Common.{◌≡◌, ℕ, zero, suc, ◌+◌, ◌-◌, ◌*◌, ◌%◌, ◌^◌, ◌<◌, Bool, true, false, cond, nat_eq}
 use Rattle.std.proofs.Common.{[], ◌∷◌, ◌++◌, map, length, get_or, slice_index, bit_and}
 use Rattle.std.proofs.Common.{refl, ap, ◌∙◌, arith, add-one, eq-eqb, true≢false}
 use Rattle.std.proofs.lemmas.Nat.{and_comm, and_mask, and_le_r, shl_whole, mod_below}
@@ -57,15 +57,17 @@ unfolding point
 point-below seed k = mod_below _ 65536 (omega arith)
 
 -- two masks that share no output
-masks : (b c : Bool) → (cond b 1 0 + cond c 2 0 < 4) × (bit_and (cond b 1 0 + cond c 2 0) (3 - (cond b 1 0 + cond c 2 0)) ≡ 0)
-masks true true = (omega arith, refl)
-masks true false = (omega arith, refl)
-masks false true = (omega arith, refl)
-masks false false = (omega arith, refl)
+masks : (x y : ℕ) → x < 2 → y < 2 → (x + 2 * y < 4) × (bit_and (x + 2 * y) (3 - (x + 2 * y)) ≡ 0)
+masks zero zero l m = (omega arith, refl)
+masks zero (suc zero) l m = (omega arith, refl)
+masks (suc zero) zero l m = (omega arith, refl)
+masks (suc zero) (suc zero) l m = (omega arith, refl)
+masks (suc (suc x)) y l m = absurd (omega (arith, l))
+masks x (suc (suc y)) l m = absurd (omega (arith, m))
 
 pub masks_apart : (v : ℕ) → (outputs_at v < 4) × (bit_and (outputs_at v) (3 - outputs_at v) ≡ 0)
 unfolding outputs_at
-masks_apart v = masks _ _
+masks_apart v = masks _ _ (mod_below _ 2 (omega arith)) (mod_below _ 2 (omega arith))
 
 row_fits : (seed k : ℕ) → FitsSizes 16 2 Fr (generated_row seed k)
 unfolding generated_row divides

@@ -3,7 +3,7 @@
 
 ghost use Rattle.std.specs.Prelude.{◌≡◌, ◌<◌, ◌*◌, ◌^◌, IfOk};
 ghost use Rattle.lattice.specs.Family.{divides};
-ghost use Rattle.gen_pla.specs.Generated.{point, is_odd, has_odd_pairs, outputs_at, generated, generated_row, generated_rows};
+ghost use Rattle.gen_pla.specs.Generated.{point, pairs, outputs_at, generated, generated_row, generated_rows};
 ghost use Rattle.pla_reader.specs.Reading.{description};
 ghost use Rattle.lattice.specs.Rows.{IsConsistent};
 
@@ -29,13 +29,6 @@ fn point(seed: u64, k: u32) -> u64
     (step * k as u64 + first) % 65536
 }
 
-// Whether the number of the bits that are set is odd.
-fn is_odd(value: u64) -> bool
-    ensures { result ≡ is_odd value }
-{
-    value.count_ones() % 2 == 1
-}
-
 // Whether bit i and bit i + 1 are both set.
 #[tactic(auto, using(crate::proofs::Progression::pair_set))]
 fn has_pair(value: u64, i: u32) -> bool
@@ -46,16 +39,16 @@ fn has_pair(value: u64, i: u32) -> bool
     value & pair == pair
 }
 
-// Whether the number of pairs of neighbouring bits that are both set is odd, among bits 0 to 15.
+// How many pairs of neighbouring bits are both set, among bits 0 to 15.
 #[tactic(auto, using(crate::proofs::Progression::pair_rules))]
-fn has_odd_pairs(value: u64) -> bool
-    ensures { result ≡ has_odd_pairs value }
+fn pairs(value: u64) -> u64
+    ensures { result ≡ pairs value 15 }
 {
-    let mut pairs = 0u32;
+    let mut pairs = 0u64;
     for i in 0..15u32 {
-        pairs += has_pair(value, i) as u32;
+        pairs += has_pair(value, i) as u64;
     }
-    pairs % 2 == 1
+    pairs
 }
 
 // The outputs that have the value 1 at the point, output j by the bit j - 1.
@@ -64,7 +57,7 @@ fn outputs_at(value: u64) -> u64
     ensures is { result ≡ outputs_at value }
     ensures few { result < 4 }
 {
-    is_odd(value) as u64 + 2 * has_odd_pairs(value) as u64
+    value.count_ones() as u64 % 2 + 2 * (pairs(value) % 2)
 }
 
 // Row k.

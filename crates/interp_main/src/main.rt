@@ -8,8 +8,9 @@ ghost use Rattle.watch.specs.Notes.{states_by};
 
 use fork_branches::Drawn;
 use interp_run::{Outcome, report, run};
-use lattice::{Memory, Words};
+use lattice::Memory;
 use outside::{Rendezvous, StdSink, StdSource};
+use run_parts::words_of;
 use std::alloc::Global;
 use std::io::Stderr;
 use std::process::ExitCode;
@@ -17,24 +18,6 @@ use watch::{Lines, Watch};
 
 /// There are lines of progress for so many outputs.
 const PATIENCE: u32 = 16;
-
-// The words of the command line, or none where they are not all text: the run then answers how it is used.
-fn words_of(rt: &HostRuntime) -> Result<Words, Memory> {
-    let mut words = Words::new(rt.alloc());
-    match std::env::args(rt) {
-        Ok(args) => {
-            for word in args {
-                words.push(word.as_str())?;
-            }
-        }
-        Err(error) => {
-            if error.kind() == std::io::ErrorKind::OutOfMemory {
-                return Err(Memory);
-            }
-        }
-    }
-    Ok(words)
-}
 
 // A list of one watcher, who was told nothing.
 fn alone(alloc: Global, watcher: Box<dyn Watch>) -> Result<Vec<Box<dyn Watch>>, Memory>
@@ -58,7 +41,7 @@ fn main(rt: HostRuntime) -> ExitCode {
     let Ok(lines) = Box::new(rt.alloc(), lines) else {
         return without_memory(&mut err);
     };
-    let (Ok(words), Ok(mut watchers)) = (words_of(&rt), alone(rt.alloc(), lines)) else {
+    let (Ok(words), Ok(mut watchers)) = (words_of(&rt, rt.alloc()), alone(rt.alloc(), lines)) else {
         return without_memory(&mut err);
     };
     let mut source = StdSource::new(rt.stdin());

@@ -39,7 +39,8 @@ use Rattle.cert_check.specs.declared.refusal.Verdict.TheVariants.{Yes, No}
 use Rattle.watch.specs.declared.note.Note.{Note}
 use Rattle.watch.proofs.LeftAfter.{left_after_all-nil}
 use Rattle.interp_run.proofs.OneDue.{same_job, same_due, check_silent, is_owed, shape, summary_silent}
-use Rattle.interp_run.proofs.Written.{appends_nothing, stopped_at}
+use Rattle.run_parts.proofs.Runs.{appends_nothing, bytes_behind, bytes_of_source, keeps_nothing, keeps_same, read_whole}
+use Rattle.interp_run.proofs.Written.{stopped_at}
 use Rattle.interp_run.specs.declared.outcome.Outcome.TheVariants as ends
 
 -- ==== the file of a run and the answer that is judged, from what was read of its bytes
@@ -49,7 +50,7 @@ module _ (job : Job) (reads : is_gen job.mode ≡ false) (bytes : List ℕ) wher
   file_too_long long = rw (reads, lt-ltb MOST_BYTES (length bytes) long) refl
 
   pub file_read : (d : Description) {file : Result Description Outcome} → length bytes ≤ MOST_BYTES → reading_of bytes ≡ Ok d
-      → in_order job.order d ≡ file
+      → in_order job.order (Ok d) ≡ file
       → file_of job bytes ≡ file
   file_read d few read ordered = rw (reads, le-ltb MOST_BYTES (length bytes) few, read) ordered
 
@@ -59,10 +60,10 @@ module _ (job : Job) (reads : is_gen job.mode ≡ false) (bytes : List ℕ) wher
 -- the description by the order that a text asks for
 module _ (p : Pla) (text : List ℕ) where
   pub by_order : IsOrder p.inputs (order_named (input_names p) text)
-      → in_order (Some text) (description p) ≡ Ok (arranged (description p) (order_named (input_names p) text))
+      → in_order (Some text) (Ok (description p)) ≡ Ok (arranged (description p) (order_named (input_names p) text))
   by_order is = rw ((orders_by_test p.inputs (order_named (input_names p) text)).1 is) refl
 
-  pub by_no_order : (IsOrder p.inputs (order_named (input_names p) text) → ⊥) → in_order (Some text) (description p) ≡ Err ends.Order
+  pub by_no_order : (IsOrder p.inputs (order_named (input_names p) text) → ⊥) → in_order (Some text) (Ok (description p)) ≡ Err ends.Order
   by_no_order none =
       let order = order_named (input_names p) text in
       rw (false_from_ne_true (is_order p.inputs order) (λ is. none ((orders_by_test p.inputs order).0 is))) refl
@@ -70,28 +71,21 @@ module _ (p : Pla) (text : List ℕ) where
 pub file_made : (job : Job) (bytes : List ℕ) (d : Description) → is_gen job.mode ≡ true → generated job.seed ≡ d → file_of job bytes ≡ Ok d
 file_made job bytes d gen is = rw (gen) (ap Ok is)
 
-module _ (p : Pla) (text : List ℕ) where
-  pub given_too_wide : MOST_INPUTS < p.inputs → given_of p text ≡ Err ends.TooWide
-  given_too_wide wide = rw (lt-ltb MOST_INPUTS p.inputs wide) refl
+module _ (d : Description) (text : List ℕ) where
+  pub given_too_wide : MOST_INPUTS < d.inputs → given_of d text ≡ Err ends.TooWide
+  given_too_wide wide = rw (lt-ltb MOST_INPUTS d.inputs wide) refl
 
-  pub given_read : (answer : List GivenOutput) → p.inputs ≤ MOST_INPUTS → answer_reading p text ≡ Ok answer
-      → given_of p text ≡ Ok answer
-  given_read answer few read = rw (le-ltb MOST_INPUTS p.inputs few, read) refl
+  pub given_read : (answer : List GivenOutput) → d.inputs ≤ MOST_INPUTS → answer_reading d text ≡ Ok answer
+      → given_of d text ≡ Ok answer
+  given_read answer few read = rw (le-ltb MOST_INPUTS d.inputs few, read) refl
 
-  pub given_refused : (line : ℕ) (why : AnswerWhy) → p.inputs ≤ MOST_INPUTS → answer_reading p text ≡ Err (line, why)
-      → given_of p text ≡ Err (ends.AnswerText line why)
-  given_refused line why few bad = rw (le-ltb MOST_INPUTS p.inputs few, bad) refl
+  pub given_refused : (line : ℕ) (why : AnswerWhy) → d.inputs ≤ MOST_INPUTS → answer_reading d text ≡ Err (line, why)
+      → given_of d text ≡ Err (ends.AnswerText line why)
+  given_refused line why few bad = rw (le-ltb MOST_INPUTS d.inputs few, bad) refl
 
 -- ---- what was read is all bytes, or they are too many
 
 module _ (job : Job) (reads : is_gen job.mode ≡ false) (bytes read : List ℕ) (is : read ≡ take (MOST_BYTES + 1) bytes) where
-  read_whole : (read ≡ bytes) ⊎ ((MOST_BYTES < length read) × (MOST_BYTES < length bytes))
-  read_whole =
-      let size : length (take (MOST_BYTES + 1) bytes) ≡ min (MOST_BYTES + 1) (length bytes) = length-take (MOST_BYTES + 1) bytes in
-      let same : length read ≡ length (take (MOST_BYTES + 1) bytes) = ap length is in
-      ⊎_elim (λ long. inr (omega (arith, size, same, long), long)) (λ few. inl (is ∙ take_all (MOST_BYTES + 1) bytes (omega (arith, few))))
-      (cases_lt MOST_BYTES (length bytes))
-
   too_long : {due : Due} → MOST_BYTES < length read → MOST_BYTES < length bytes → IsDue job read due → IsDue job bytes due
   too_long a b (no_file o e) = no_file o (file_too_long job reads bytes b ∙ (sym (file_too_long job reads read a) ∙ e))
   too_long a b (solving d due e mode h) = let bad = sym (file_too_long job reads read a) ∙ e in cc
@@ -99,7 +93,8 @@ module _ (job : Job) (reads : is_gen job.mode ≡ false) (bytes read : List ℕ)
 
   -- what is due for what was read is due for all bytes
   pub due_of_read : {due : Due} → IsDue job read due → IsDue job bytes due
-  due_of_read {due = due} h = ⊎_elim (λ same. subst (λ (b : List ℕ). IsDue job b due) same h) (λ long. too_long long.0 long.1 h) read_whole
+  due_of_read {due = due} h = ⊎_elim (λ same. subst (λ (b : List ℕ). IsDue job b due) same h) (λ long. too_long long.0 long.1 h)
+      (read_whole bytes read is)
 
   -- and so is an end without an answer
   pub without_of_read : {o : Outcome} → EndsWithout job read o → EndsWithout job bytes o
@@ -119,77 +114,45 @@ module _ (job : Job) (bytes : List ℕ) (d : Description) (file : file_of job by
     unsolved_ends no_memory_to_solve = no_memory
 
 -- in mode check, with the text behind the description
-module _ (job : Job) (bytes : List ℕ) (p : Pla) (file : file_of job bytes ≡ Ok (description p)) (checks : job.mode ≡ Check) (text : List ℕ)
+module _ (job : Job) (bytes : List ℕ) (d : Description) (file : file_of job bytes ≡ Ok d) (checks : job.mode ≡ Check) (text : List ℕ)
     (is : text ≡ drop (bytes_taken bytes) bytes) where
-  behind : {due : Due} → IsDueChecking p text due → IsDue job bytes due
-  behind {due = due} h = checking p due file checks (subst (λ (t : List ℕ). IsDueChecking p t due) is h)
+  behind : {due : Due} → IsDueChecking d text due → IsDue job bytes due
+  behind {due = due} h = checking d due file checks (subst (λ (t : List ℕ). IsDueChecking d t due) is h)
 
-  pub wide_ends : MOST_INPUTS < p.inputs → EndsWithout job bytes ends.TooWide
-  wide_ends wide = due_without ends.TooWide (behind (no_answer ends.TooWide (given_too_wide p text wide)))
+  pub wide_ends : MOST_INPUTS < d.inputs → EndsWithout job bytes ends.TooWide
+  wide_ends wide = due_without ends.TooWide (behind (no_answer ends.TooWide (given_too_wide d text wide)))
 
-  pub refused_ends : (refusal : AnswerRefusal) → p.inputs ≤ MOST_INPUTS → GivesAnswer (Err refusal) (answer_reading p text)
+  pub refused_ends : (refusal : AnswerRefusal) → d.inputs ≤ MOST_INPUTS → GivesAnswer (Err refusal) (answer_reading d text)
       → EndsWithout job bytes (refused_outcome refusal)
   refused_ends (Bad line why) few e = due_without (ends.AnswerText line why)
-      (behind (no_answer (ends.AnswerText line why) (given_refused p text line why few e)))
+      (behind (no_answer (ends.AnswerText line why) (given_refused d text line why few e)))
   refused_ends Memory few e = no_memory
 
-  module _ (answer : List GivenOutput) (few : p.inputs ≤ MOST_INPUTS) (read : answer_reading p text ≡ Ok answer) where
-    pub clash_ends : {o : Outcome} → IsContradiction (description p) o → EndsWithout job bytes o
+  module _ (answer : List GivenOutput) (few : d.inputs ≤ MOST_INPUTS) (read : answer_reading d text ≡ Ok answer) where
+    pub clash_ends : {o : Outcome} → IsContradiction d o → EndsWithout job bytes o
     clash_ends h =
         subst (EndsWithout job bytes) (sym h.outcome_is)
-        (due_without _ (behind (contradiction_behind answer h.clash (given_read p text answer few read) h.least)))
+        (due_without _ (behind (contradiction_behind answer h.clash (given_read d text answer few read) h.least)))
 
-    pub verdict_due : (v : Verdict) → IsConsistent p.inputs p.outputs p.rows → v ≡ verdict_on p answer → IsDue job bytes (judged v)
+    pub verdict_due : (v : Verdict) → IsConsistent d.inputs d.outputs d.rows → v ≡ verdict_on d answer → IsDue job bytes (judged v)
     verdict_due v ok first = subst (λ (w : Verdict). IsDue job bytes (judged w)) (sym first)
-        (behind (verdict answer (given_read p text answer few read) ok))
+        (behind (verdict answer (given_read d text answer few read) ok))
 
 -- ==== a run ends as is due for the bytes of its source: those that it told, or else those that it gave
-
--- the bytes that a source told, or else those that were read
-told_or : Option (List ℕ) → List ℕ → List ℕ
-told_or None read = read
-told_or (Some all) read = all
-
-told_is : (left : Option (List ℕ)) (read all : List ℕ) → left ≡ Some all → told_or left read ≡ all
-unfolding told_or
-told_is None read all e = cc
-told_is (Some xs) read all e = cc
-
-read_is : (left : Option (List ℕ)) (read : List ℕ) → ((xs : List ℕ) → left ≡ Some xs → read ≡ take (MOST_BYTES + 1) xs)
-    → length read ≤ MOST_BYTES + 1
-    → read ≡ take (MOST_BYTES + 1) (told_or left read)
-unfolding told_or
-read_is None read told few = sym (take_all (MOST_BYTES + 1) read few)
-read_is (Some xs) read told few = told xs refl
 
 module _ (words : List (List ℕ)) (left old new : Option (List ℕ)) (before after : List WatcherState) (o : Outcome) where
   -- a run that ends so on each source
   pub ran_short : ((bytes : List ℕ) → Ends words bytes old new before after o) → Ran words left old new before after o
-  ran_short ends = record { bytes = told_or left []; told = told_is left []; ended = ends (told_or left []) }
+  ran_short ends = let some = bytes_of_source left in record { bytes = some.0; told = some.1; ended = ends some.0 }
 
   -- a run that read its source
   pub ran_read : (read : List ℕ) → ((xs : List ℕ) → left ≡ Some xs → read ≡ take (MOST_BYTES + 1) xs) → length read ≤ MOST_BYTES + 1
       → ((bytes : List ℕ) → read ≡ take (MOST_BYTES + 1) bytes → Ends words bytes old new before after o)
       → Ran words left old new before after o
-  ran_read read told few ends = record
-      { bytes = told_or left read; told = told_is left read; ended = ends (told_or left read) (read_is left read told few) }
+  ran_read read told few ends =
+      let some = bytes_behind left read told few in record { bytes = some.0; told = some.1; ended = ends some.0 some.2 }
 
 -- ==== how a run ends, from what its steps found, and what its status says then
-
-pub keeps_same : (old : Option (List ℕ)) → Keeps old old
-keeps_same None = tt
-keeps_same (Some xs) = refl
-
-keeps_nothing : (old new : Option (List ℕ)) → Appends old new [] → Keeps old new
-keeps_nothing None new a = tt
-keeps_nothing (Some xs) None a = absurd a
-keeps_nothing (Some xs) (Some ys) a = a ∙ append-nil xs
-
--- a line is gained whole, or the count rose
-pub gains_line : {T E : Type 0} (old new : Option (List ℕ)) (text : List ℕ) (before now : ℕ) (r : Result T E)
-    → OnOk r (Appends old new text) → GainsFront old new text → HasCause before now r → GainsUnlessRose old new text before now
-gains_line old new text before now (Ok x) whole front cause = (front, inl whole)
-gains_line old new text before now (Err e) whole front cause = (front, inr cause.rose)
 
 pub if_err : {T E : Type 0} (r : Result T E) (x : E) (P : E → Type 0) → IsErrAnd r (λ e. e ≡ x) → P x → IfErr r P
 if_err (Ok t) x P same p = tt

@@ -13,7 +13,7 @@ use Rattle.lattice.specs.Basis.{basis_element_of}
 use Rattle.lattice.specs.WorkingLists.{output_numbers}
 use Rattle.lattice.specs.declared.kind.Mode.{Mode}
 use Rattle.lattice.specs.declared.kind.Mode.TheVariants.{Basis}
-use Rattle.node_store.specs.Stores.{State, Knows, family}
+use Rattle.node_store.specs.Stores.{State, Grows, Knows, family}
 use Rattle.node_store.specs.declared.store.Handle.{Handle}
 use Rattle.pla_reader.specs.Reading.{Description}
 use Rattle.anf_printer.specs.Text.{Answer}
@@ -22,7 +22,7 @@ use Rattle.interp_run.specs.Phases.{leads_in, points_in, second_tasks, task, tas
 use Rattle.interp_run.specs.declared.phases.Solved.{Solved}
 use Rattle.interp_run.specs.declared.tasks.Task.{Task}
 use Rattle.interp_run.specs.declared.tasks.Part.TheVariants.{Leads, Polynomial}
-use Rattle.interp_run.proofs.CountedTerms.{handles_long}
+use Rattle.interp_run.proofs.CountedTerms.{handles_long, terms_of-later}
 use Rattle.interp_run.proofs.OutputLists.{length-output_numbers}
 
 module _ (d : Description) where
@@ -150,8 +150,14 @@ module _ (t : State) (d : Description) (hs : List Handle) where
       (all.1 ∙ polynomials_first d numbers (map (task Leads) numbers))
       ∙ (drop-append_seam polynomials leads ∙ map-map (task_family d) (task Leads) numbers)))
 
-pub terms_behind : (t : State) (hs : List Handle) (k limit : ℕ) → terms_of t hs ≤ limit → terms_of t (drop k hs) ≤ limit
-terms_behind t hs k limit few = omega (arith, sum_by-take-drop (λ h. length (family t h)) hs k)
+-- the terms of what was found: of the first, and of the others in a later state
+pub terms_parted : (s t : State) (hs : List Handle) (k : ℕ) → Grows s t → All (Knows s) hs
+    → terms_of s (take k hs) + terms_of t (drop k hs) ≡ terms_of s hs
+terms_parted s t hs k grows known = omega (
+  arith,
+  sum_by-take-drop (λ h. length (family s h)) hs k,
+  terms_of-later s t (drop k hs) grows (All-drop (Knows s) k hs known),
+)
 
 -- ---- one output after the other
 

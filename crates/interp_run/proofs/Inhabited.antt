@@ -14,7 +14,7 @@ use Rattle.lattice.specs.Interpolation.{interpolate, upper_zeros, upper_ones, lo
 use Rattle.lattice.specs.Basis.{basis_element_of, has_divisors, leads_of, normal_form_of, standard_of}
 use Rattle.lattice.specs.Rows.{IsConsistent, cube, cover, on_set, off_set, rows_with, points_where, in_cube}
 use Rattle.lattice.specs.WorkingLists.{working_set, distinct, ones_list, interpolation_list, standard_list, leads_list, normal_form_list}
-use Rattle.lattice.specs.WorkingLists.{basis_element_list, cover_list, care_list, output_list, output_leads_list, output_basis_list}
+use Rattle.lattice.specs.WorkingLists.{basis_element_list, cover_list, care_list, output_list, output_basis_list}
 use Rattle.lattice.specs.WorkingLists.{first_phase, second_phase}
 use Rattle.lattice.specs.declared.kind.Kind.TheVariants.{Fr}
 use Rattle.lattice.specs.declared.kind.Mode.{Mode}
@@ -23,7 +23,7 @@ use Rattle.lattice.specs.declared.row.Row.{Row}
 use Rattle.lattice.proofs.Polynomials.{disjoint_from_test}
 use Rattle.pla_reader.specs.PlainNames.{are_plain, is_plain}
 use Rattle.pla_reader.specs.Lines.{content, words_of}
-use Rattle.pla_reader.specs.Grammar.{kind_named, command_fault, arguments_on, arguments_of, symbols, size_fault, kind_fault, names_fault}
+use Rattle.pla_reader.specs.Grammar.{kind_named, command_fault, arguments_of, symbols, size_fault, kind_fault, names_fault}
 use Rattle.pla_reader.specs.Grammar.{row_fault, fault_of}
 use Rattle.pla_reader.specs.Description.{FitsSizes}
 use Rattle.pla_reader.specs.Orders.{arranged_mask, is_order, names_in_order, order_named, position_named}
@@ -31,7 +31,7 @@ use Rattle.pla_reader.specs.declared.pla.Pla.{Pla}
 use Rattle.pla_reader.specs.Reading.{Description, input_mask, output_mask, row_of, rows_of, up_to_end, first_fault, description}
 use Rattle.pla_reader.specs.Reading.{description_of, reading_of, bytes_taken}
 use Rattle.pla_reader.specs.PrintedNames.{numbered, printed_names}
-use Rattle.anf_printer.specs.Text.{variables_of, monomial_text, sum_text, line, basis_lines, output_text, texts_of}
+use Rattle.anf_printer.specs.Text.{variables_of, monomial_text, sum_text, line, output_text, texts_of}
 use Rattle.cert_check.specs.Faults.{first_verdict, misses, is_one_in, greatest_of, is_comparable, is_below_last}
 use Rattle.cert_check.specs.Faults.{is_divided, miscounts, basis_checks, reduced_checks, output_checks, checks_from}
 use Rattle.cert_check.specs.Faults.{verdict_on}
@@ -126,8 +126,8 @@ abbrev d : Description
 d = description p
 
 reads : reading_of two_points ≡ Ok d
-unfolding rows p reading_of first_fault fault_of description_of up_to_end content words_of kind_named command_fault arguments_on
-    arguments_of symbols size_fault kind_fault names_fault row_fault rows_of row_of input_mask output_mask
+unfolding rows p reading_of first_fault fault_of description_of up_to_end content words_of kind_named command_fault arguments_of
+    symbols size_fault kind_fault names_fault row_fault rows_of row_of input_mask output_mask
 reads = refl
 
 consistent_at : AreDisjoint (on_set 2 rows 1) (off_set 2 rows 1)
@@ -151,7 +151,7 @@ Fits e mode pages notes =
 
 -- by an order, or without one
 due_of : (mode : Mode) (order : Option (List ℕ)) (e : Description) (pages : List (List ℕ)) (notes : List Note)
-    → (mode ≡ Anf) ⊎ (mode ≡ Basis) → in_order order d ≡ Ok e → IsConsistent e.inputs e.outputs e.rows → Fits e mode pages notes
+    → (mode ≡ Anf) ⊎ (mode ≡ Basis) → in_order order (Ok d) ≡ Ok e → IsConsistent e.inputs e.outputs e.rows → Fits e mode pages notes
     → IsDue (record (usual_job mode) { order = order }) two_points (record { outcome = ends.Done; pages = pages; notes = notes })
 due_of mode order e pages notes solves ordered ok fits =
     let job : Job = record (usual_job mode) { order = order } in
@@ -167,14 +167,14 @@ anf_fits : Fits d Anf (codes "f = b\n" ∷ []) (record { output = 1; terms = 1; 
 unfolding rows p working_set distinct ones_list interpolation_list cover_list care_list output_list first_phase second_phase sub includes
     interpolate upper_zeros upper_ones lower_points ones_of combine family_where numbers_below low_cofactor high_cofactor join has value
     divides cube cover rows_with points_where in_cube are_plain is_plain numbered printed_names variables_of monomial_text sum_text
-    line basis_lines output_text texts_of notes_from
+    line output_text texts_of notes_from
 anf_fits = (lit≤ tt, lit≤ tt, lit≤ tt, refl, refl)
 
 basis_fits : Fits d Basis (codes "f = b\n0 = a + b\n" ∷ []) (record { output = 1; terms = 1; basis = 1 } ∷ [])
 unfolding rows p working_set distinct ones_list interpolation_list cover_list care_list output_list first_phase second_phase sub includes
     interpolate upper_zeros upper_ones lower_points ones_of combine family_where numbers_below low_cofactor high_cofactor join has value
     divides cube cover rows_with points_where in_cube are_plain is_plain numbered printed_names variables_of monomial_text sum_text
-    line basis_lines output_text texts_of notes_from standard_list leads_list normal_form_list basis_element_list output_leads_list
+    line output_text texts_of notes_from standard_list leads_list normal_form_list basis_element_list
     output_basis_list basis_element_of has_divisors leads_of normal_form_of standard_of
 basis_fits = (lit≤ tt, lit≤ tt, lit≤ tt, refl, refl)
 
@@ -192,7 +192,7 @@ due_in_basis = due_of Basis None d _ _ (inr refl) refl consistent basis_fits
 abbrev turned : Description
 turned = record d { in_names = codes "b" ∷ codes "a" ∷ [] }
 
-turns : in_order (Some (codes "b,a")) d ≡ Ok turned
+turns : in_order (Some (codes "b,a")) (Ok d) ≡ Ok turned
 unfolding rows p is_order has order_named position_named printed_names are_plain is_plain includes names_in_order arranged_mask input_mask
     divides
 turns = refl
@@ -201,14 +201,14 @@ turned_fits : Fits turned Anf (codes "f = a\n" ∷ []) (record { output = 1; ter
 unfolding rows p working_set distinct ones_list interpolation_list cover_list care_list output_list first_phase second_phase sub includes
     interpolate upper_zeros upper_ones lower_points ones_of combine family_where numbers_below low_cofactor high_cofactor join has value
     divides cube cover rows_with points_where in_cube are_plain is_plain numbered printed_names variables_of monomial_text sum_text
-    line basis_lines output_text texts_of notes_from
+    line output_text texts_of notes_from
 turned_fits = (lit≤ tt, lit≤ tt, lit≤ tt, refl, refl)
 
 pub due_by_order : IsDue (ordered_job Anf (codes "b,a")) two_points
     (record { outcome = ends.Done; pages = codes "f = a\n" ∷ []; notes = record { output = 1; terms = 1; basis = 0 } ∷ [] })
 due_by_order = due_of Anf (Some (codes "b,a")) turned _ _ (inl refl) turns consistent turned_fits
 
-no_order : in_order (Some (codes "b")) d ≡ Err ends.Order
+no_order : in_order (Some (codes "b")) (Ok d) ≡ Err ends.Order
 unfolding rows p is_order order_named position_named printed_names are_plain is_plain includes
 no_order = refl
 
@@ -223,21 +223,21 @@ text = codes "f = b\n0 = a + b\n"
 answer : List GivenOutput
 answer = record { poly = record { terms = 1 ∷ []; line = 1 }; basis = record { terms = 2 ∷ 1 ∷ []; line = 2 } ∷ [] } ∷ []
 
-answered : answer_reading p text ≡ Ok answer
+answered : answer_reading (description p) text ≡ Ok answer
 unfolding p answer is_plain are_plain includes numbered printed_names bare is_term is_sum is_line terms_in factors_of factors_product
     monomial_of monomials_of are_known ascends_from are_ordered left_fault right_fault line_fault with_element with_line read_on
 answered = refl
 
 reads_too : reading_of (two_points ++ text) ≡ Ok (description p)
-unfolding p rows reading_of first_fault fault_of description_of up_to_end content words_of kind_named command_fault arguments_on
-    arguments_of symbols size_fault kind_fault names_fault row_fault rows_of row_of input_mask output_mask
+unfolding p rows reading_of first_fault fault_of description_of up_to_end content words_of kind_named command_fault arguments_of
+    symbols size_fault kind_fault names_fault row_fault rows_of row_of input_mask output_mask
 reads_too = refl
 
 text_is : drop (bytes_taken (two_points ++ text)) (two_points ++ text) ≡ text
-unfolding bytes_taken up_to_end content words_of arguments_on
+unfolding bytes_taken up_to_end content words_of
 text_is = refl
 
-verdict_is : verdict_on p answer ≡ Yes
+verdict_is : verdict_on (description p) answer ≡ Yes
 unfolding p answer rows first_verdict misses is_one_in greatest_of is_comparable is_below_last is_divided
     miscounts basis_checks reduced_checks output_checks checks_from value divides numbers_below family_where has combine cover rows_with
     points_where in_cube
@@ -252,7 +252,8 @@ short_too = lit≤ tt
 
 pub due_in_check : IsDue (usual_job Check) (two_points ++ text) (judged Yes)
 due_in_check =
-    checking p (judged Yes) (file_read (usual_job Check) refl (two_points ++ text) (description p) short_too reads_too refl) refl
-    (subst (λ (t : List ℕ). IsDueChecking p t (judged Yes)) (sym text_is)
-    (subst (λ (v : Verdict). IsDueChecking p text (judged v)) verdict_is
-    (verdict answer (given_read p text answer few answered) consistent)))
+    checking (description p) (judged Yes)
+    (file_read (usual_job Check) refl (two_points ++ text) (description p) short_too reads_too refl) refl
+    (subst (λ (t : List ℕ). IsDueChecking (description p) t (judged Yes)) (sym text_is)
+    (subst (λ (v : Verdict). IsDueChecking (description p) text (judged v)) verdict_is
+    (verdict answer (given_read (description p) text answer few answered) consistent)))

@@ -24,7 +24,7 @@ use Rattle.cert_check.specs.declared.refusal.Verdict.TheVariants.{Yes, No}
 use Rattle.interp_run.specs.Due.{Due, IsDue, IsDueChecking, IsDueSolving, checking, contradiction, contradiction_behind}
 use Rattle.interp_run.specs.Due.{first_passed, has_answers, judged}
 use Rattle.interp_run.specs.Due.{no_answer, no_file, silent, solving, verdict, contradicted}
-use Rattle.interp_run.specs.Due.{IsSolving, file_of, given_of, is_gen, read_in_order, solved}
+use Rattle.interp_run.specs.Due.{IsSolving, file_of, given_of, is_gen, in_order, solved}
 use Rattle.interp_run.specs.Parts.{EndsWithout, due_without, no_memory}
 use Rattle.interp_run.specs.declared.outcome.Outcome.{Outcome}
 use Rattle.std.proofs.lemmas.List.{same_lists}
@@ -35,7 +35,9 @@ use Rattle.lattice.specs.declared.row.Row.{Row}
 use Rattle.lattice.proofs.Polynomials.{IsLeast-unique, IsReducedBasis-unique, consistent_by_rows}
 use Rattle.pla_reader.specs.Lines.{lines_of}
 use Rattle.anf_printer.specs.Text.{Answer}
-use Rattle.cube_sets.specs.Clashes.{IsClash, IsLeastOf, IsNotAfter}
+use Rattle.cube_sets.specs.Clashes.{IsClash, IsLeastOf}
+use Rattle.run_parts.proofs.Runs.{err_is, ok_is}
+use Rattle.cube_sets.proofs.OneClash.{Found, none_of_consistent, one_least}
 use Rattle.cube_sets.specs.declared.clash.Clash.{Clash}
 use Rattle.cert_check.specs.declared.answer.GivenOutput.{GivenOutput}
 use Rattle.interp_run.specs.Answers.{AreAnswers, IsAnswerOf, first_count, second_count, first_nodes, last_nodes}
@@ -121,7 +123,7 @@ disordered_owed : {T : Type 0} (test : Bool) (x : T) (o : Outcome) → (if test 
 disordered_owed true x o e = cc
 disordered_owed false x o e = let same : ends.Order ≡ o = cc in ap is_owed (sym same)
 
-read_owed : (order : Option (List ℕ)) (r : Result Description Refusal) (o : Outcome) → read_in_order order r ≡ Err o → is_owed o ≡ true
+read_owed : (order : Option (List ℕ)) (r : Result Description Refusal) (o : Outcome) → in_order order r ≡ Err o → is_owed o ≡ true
 read_owed None (Ok d) o e = cc
 read_owed (Some text) (Ok d) o e = disordered_owed (is_order d.inputs _) _ o e
 read_owed order (Err refusal) o e = let same : ends.Text refusal.line refusal.why ≡ o = cc in ap is_owed (sym same)
@@ -167,14 +169,14 @@ module _ (job : Job) where
       (2 ^ job.nodes) job.terms (solved job d answers)
       (solved_shape (is_gen job.mode) _ _ (refl, inl (omega arith), inl refl) (refl, inl (omega arith), inl refl))
 
-  checking_shape : (p : Pla) (text : List ℕ) {due : Due} → IsDueChecking p text due → Shape due × (due.notes ≡ [])
-  checking_shape p text (no_answer o e) = (
-    silent_shape o (error_owed (nat_lt MOST_INPUTS p.inputs) ends.TooWide o _ refl
-        (given_owed o _ (answer_reading p text) (λ r. refl)) e),
+  checking_shape : (d : Description) (text : List ℕ) {due : Due} → IsDueChecking d text due → Shape due × (due.notes ≡ [])
+  checking_shape d text (no_answer o e) = (
+    silent_shape o (error_owed (nat_lt MOST_INPUTS d.inputs) ends.TooWide o _ refl
+        (given_owed o _ (answer_reading d text) (λ r. refl)) e),
     refl,
   )
-  checking_shape p text (contradiction_behind answer c e least) = (silent_shape _ refl, refl)
-  checking_shape p text (verdict answer e ok) = (judged_shape (verdict_on p answer), judged_notes (verdict_on p answer))
+  checking_shape d text (contradiction_behind answer c e least) = (silent_shape _ refl, refl)
+  checking_shape d text (verdict answer e ok) = (judged_shape (verdict_on d answer), judged_notes (verdict_on d answer))
 
   pub shape : (bytes : List ℕ) {due : Due} → IsDue job bytes due → Shape due
   shape bytes (no_file o e) = silent_shape o (file_owed (is_gen job.mode) (generated job.seed) o _
@@ -245,17 +247,6 @@ checked_owed (No line why) = (λ e. cc, λ e. cc, λ e. cc)
 
 -- ==== only one thing is due for a job and bytes
 
-or_else : {D E : Type 0} → D → Result D E → D
-or_else d (Ok x) = x
-or_else d (Err e) = d
-
-ok_is : {D E : Type 0} (x y : D) (r : Result D E) → r ≡ Ok x → r ≡ Ok y → x ≡ y
-unfolding or_else
-ok_is x y r a b = ap (or_else x) (sym a ∙ b)
-
-err_is : {D E : Type 0} {x y : E} (r : Result D E) → r ≡ Err x → r ≡ Err y → x ≡ y
-err_is {D = D} {E = E} {x = x} {y = y} r a b = let same : ◌≡◌ {A = Result D E} (Err x) (Err y) = sym a ∙ b in cc
-
 -- ---- one answer
 
 same_output : (d : Description) (mode : Mode) (output : ℕ) (a b : Answer) → IsAnswerOf d mode output a → IsAnswerOf d mode output b → a ≡ b
@@ -274,25 +265,6 @@ same_answers d mode xs ys a b = same_lists xs ys (a.count ∙ sym b.count) (λ k
     (a.each k (get_or xs k e) (slice_get-get_or xs k e within))
     (b.each k (get_or ys k e) (slice_get-get_or ys k e (omega (arith, a.count, b.count, within)))))
 
--- ---- one contradiction
-
-no_clash : (n outputs : ℕ) (rows : List Row) (c : Clash) → IsConsistent n outputs rows → IsClash n outputs rows rows c → ⊥
-no_clash n outputs rows c consistent clash = (consistent_by_rows n outputs rows).0 consistent c.output clash.shared.0 clash.on_row
-    clash.off_row clash.first clash.last clash.shared.1 clash.on clash.off clash.shared.2 clash.shared.3
-
-neither_after : (c e : Clash) → IsNotAfter c e → IsNotAfter e c → c ≡ e
-neither_after c e (inr (o, inr (l, a))) (inr (p, inr (m, b))) = let f : c.off_line ≡ e.off_line = omega (arith, a, b) in
-    λ i. record { output = o i; on_line = l i; off_line = f i }
-neither_after c e (inr (o, inr (l, a))) (inr (p, inl m)) = absurd (omega (arith, l, m))
-neither_after c e (inr (o, inl l)) (inr (p, inl m)) = absurd (omega (arith, l, m))
-neither_after c e (inr (o, inl l)) (inr (p, inr m)) = absurd (omega (arith, l, m.0))
-neither_after c e (inr a) (inl b) = absurd (omega (arith, a.0, b))
-neither_after c e (inl a) (inl b) = absurd (omega (arith, a, b))
-neither_after c e (inl a) (inr b) = absurd (omega (arith, a, b.0))
-
-one_least : (holds : Clash → Type 0) (c e : Clash) → IsLeastOf holds c → IsLeastOf holds e → c ≡ e
-one_least holds c e a b = neither_after c e (a.least e b.clash) (b.least c a.clash)
-
 -- ---- one end in modes anf and basis
 
 module _ (job : Job) (d : Description) where
@@ -310,49 +282,27 @@ module _ (job : Job) (d : Description) where
 
   same_found : {a b : Due} → IsFound a → IsFound b → a ≡ b
   same_found (inl x) (inl y) = x.2 ∙ (ap contradicted (one_least _ x.0 y.0 x.1 y.1) ∙ sym y.2)
-  same_found (inl x) (inr y) = absurd (no_clash d.inputs d.outputs d.rows x.0 y.0 x.1.clash)
-  same_found (inr x) (inl y) = absurd (no_clash d.inputs d.outputs d.rows y.0 x.0 y.1.clash)
+  same_found (inl x) (inr y) = absurd (none_of_consistent d.inputs d.outputs d.rows y.0 x.0 x.1.clash)
+  same_found (inr x) (inl y) = absurd (none_of_consistent d.inputs d.outputs d.rows x.0 y.0 y.1.clash)
   same_found (inr x) (inr y) = x.1 ∙ sym y.1
 
 -- ---- one end in mode check
 
-module _ (p q : Pla) (e : description p ≡ description q) (text : List ℕ) where
-  same_given : given_of p text ≡ given_of q text
-  same_given =
-      ap (λ (d : Description). if nat_lt MOST_INPUTS d.inputs then Err ends.TooWide else result_map_both (λ answer. answer)
-      (λ (r : _). ends.AnswerText r.0 r.1)
-      (read_on (printed_names (codes "x") d.inputs d.in_names) (printed_names (codes "f") d.outputs d.out_names) 0 [] (lines_of text))) e
-
-  same_checks : (output : ℕ) (answer : List GivenOutput) → checks_from p output answer ≡ checks_from q output answer
-  unfolding checks_from
-  same_checks output [] = refl
-  same_checks output (given ∷ answer) =
-      ap₂ (λ (a b : List Test). a ++ b)
-      (ap (λ (d : Description). output_checks d.inputs (care_zeros d.inputs d.kind d.rows output) (care_ones d.inputs d.kind d.rows output)
-      (care_set d.inputs d.kind d.rows output) given) e)
-      (same_checks (output + 1) answer)
-
-  consistent_too : IsConsistent p.inputs p.outputs p.rows → IsConsistent q.inputs q.outputs q.rows
-  consistent_too ok = subst (λ (d : Description). IsConsistent d.inputs d.outputs d.rows) e ok
-
-  least_too : (c : Clash) → IsLeastOf (IsClash p.inputs p.outputs p.rows p.rows) c → IsLeastOf (IsClash q.inputs q.outputs q.rows q.rows) c
-  least_too c least = subst (λ (d : Description). IsLeastOf (IsClash d.inputs d.outputs d.rows d.rows) c) e least
-
-  same_checking : {a b : Due} → IsDueChecking p text a → IsDueChecking q text b → a ≡ b
-  same_checking (no_answer o x) (no_answer u y) = ap silent (err_is (given_of q text) (sym same_given ∙ x) y)
-  same_checking (no_answer o x) (contradiction_behind answer c y least) = let bad = sym x ∙ (same_given ∙ y) in cc
-  same_checking (no_answer o x) (verdict answer y ok) = let bad = sym x ∙ (same_given ∙ y) in cc
-  same_checking (contradiction_behind answer c x least) (no_answer u y) = let bad = sym x ∙ (same_given ∙ y) in cc
-  same_checking (verdict answer x ok) (no_answer u y) = let bad = sym x ∙ (same_given ∙ y) in cc
-  same_checking (contradiction_behind answer c x least) (contradiction_behind other f y least') = ap contradicted
-      (one_least _ c f (least_too c least) least')
-  same_checking (contradiction_behind answer c x least) (verdict other y ok) = absurd
-      (no_clash q.inputs q.outputs q.rows c ok (least_too c least).clash)
-  same_checking (verdict answer x ok) (contradiction_behind other c y least) = absurd
-      (no_clash q.inputs q.outputs q.rows c (consistent_too ok) least.clash)
+module _ (d : Description) (text : List ℕ) where
+  same_checking : {a b : Due} → IsDueChecking d text a → IsDueChecking d text b → a ≡ b
+  same_checking (no_answer o x) (no_answer u y) = ap silent (err_is (given_of d text) x y)
+  same_checking (no_answer o x) (contradiction_behind answer c y least) = let bad = sym x ∙ y in cc
+  same_checking (no_answer o x) (verdict answer y ok) = let bad = sym x ∙ y in cc
+  same_checking (contradiction_behind answer c x least) (no_answer u y) = let bad = sym x ∙ y in cc
+  same_checking (verdict answer x ok) (no_answer u y) = let bad = sym x ∙ y in cc
+  same_checking (contradiction_behind answer c x least) (contradiction_behind other f y least') =
+      ap contradicted (one_least _ c f least least')
+  same_checking (contradiction_behind answer c x least) (verdict other y ok) =
+      absurd (none_of_consistent d.inputs d.outputs d.rows ok c least.clash)
+  same_checking (verdict answer x ok) (contradiction_behind other c y least) =
+      absurd (none_of_consistent d.inputs d.outputs d.rows ok c least.clash)
   same_checking (verdict answer x ok) (verdict other y ok') =
-      ap (λ (checks : List Test). judged (first_verdict checks)) (same_checks 1 answer
-      ∙ ap (checks_from q 1) (ok_is answer other (given_of q text) (sym same_given ∙ x) y))
+      ap (λ (answer : List GivenOutput). judged (verdict_on d answer)) (ok_is (given_of d text) x y)
 
 -- ---- one end
 
@@ -366,42 +316,30 @@ module _ (job : Job) (bytes : List ℕ) where
   same_due (solving d due x mode is) (checking p other y checks so) = absurd (other_mode job.mode mode checks)
   same_due (checking p due x checks is) (solving d other y mode so) = absurd (other_mode job.mode mode checks)
   same_due (solving d due x mode is) (solving f other y mode' so) =
-      same_found job f (found job f (subst (λ (g : Description). IsDueSolving job g due) (ok_is d f (file_of job bytes) x y) is))
+      same_found job f (found job f (subst (λ (g : Description). IsDueSolving job g due) (ok_is (file_of job bytes) x y) is))
       (found job f so)
-  same_due (checking p due x mode is) (checking q other y mode' so) = same_checking p q
-      (ok_is (description p) (description q) (file_of job bytes) x y) _ is so
+  same_due (checking d due x mode is) (checking e other y mode' so) = same_checking e _
+      (subst (λ (f : Description). IsDueChecking f (drop (bytes_taken bytes) bytes) due) (ok_is (file_of job bytes) x y) is) so
 
 -- ==== something is due for each job on a file, and its verdict is yes exactly where the answer is right
 
 -- ---- in modes anf and basis
 
--- what a search for contradictions finds
-pub Found : Pla → Type 0
-Found p = IsConsistent p.inputs p.outputs p.rows ⊎ ((c : Clash) × IsLeastOf (IsClash p.inputs p.outputs p.rows p.rows) c)
-
-pub searched : (p : Pla) (o : Option Clash) → (IsNone o → IsConsistent p.inputs p.outputs p.rows)
-    → IfSome o (IsLeastOf (IsClash p.inputs p.outputs p.rows p.rows)) → Found p
-unfolding Found
-searched p None consistent least = inl (consistent refl)
-searched p (Some c) consistent least = inr (c, least)
-
 some_solving : (job : Job) (p : Pla) → Found p → (due : Due) × IsDueSolving job (description p) due
-unfolding Found
 some_solving job p (inl ok) = let answers = answers_for (description p) job.mode in
     (first_passed job (description p) answers, has_answers answers (answers_are (description p) job.mode ok))
 some_solving job p (inr h) = (contradicted h.0, contradiction h.0 h.1)
 
 -- ---- in mode check
 
-some_checking : (p : Pla) (text : List ℕ) → Found p → (due : Due) × IsDueChecking p text due
-unfolding Found
-some_checking p text found = go (given_of p text) refl found
+some_checking : (p : Pla) (text : List ℕ) → Found p → (due : Due) × IsDueChecking (description p) text due
+some_checking p text found = go (given_of (description p) text) refl found
   where
-    go : (r : Result (List GivenOutput) _) → given_of p text ≡ r
+    go : (r : Result (List GivenOutput) _) → given_of (description p) text ≡ r
         → IsConsistent p.inputs p.outputs p.rows ⊎ ((c : Clash) × IsLeastOf (IsClash p.inputs p.outputs p.rows p.rows) c) → (due : Due)
-        × IsDueChecking p text due
+        × IsDueChecking (description p) text due
     go (Err o) e h = (silent o, no_answer o e)
-    go (Ok answer) e (inl ok) = (judged (verdict_on p answer), verdict answer e ok)
+    go (Ok answer) e (inl ok) = (judged (verdict_on (description p) answer), verdict answer e ok)
     go (Ok answer) e (inr h) = (contradicted h.0, contradiction_behind answer h.0 e h.1)
 
 pub some_due : (p : Pla) (job : Job) (bytes : List ℕ) → Found p → IsSolving job.mode ⊎ (job.mode ≡ Check)
@@ -410,14 +348,14 @@ pub some_due : (p : Pla) (job : Job) (bytes : List ℕ) → Found p → IsSolvin
 some_due p job bytes found (inl mode) file = let some = some_solving job p found in
     (some.0, solving (description p) some.0 file mode some.1)
 some_due p job bytes found (inr checks) file = let some = some_checking p (drop (bytes_taken bytes) bytes) found in
-    (some.0, checking p some.0 file checks some.1)
+    (some.0, checking (description p) some.0 file checks some.1)
 
 -- ---- right answers
 
-pub yes_right : (p : Pla) (text : List ℕ) (answer : List GivenOutput) → answer_reading p text ≡ Ok answer
-    → (verdict_on p answer ≡ Yes) ↔ IsRight p answer
+pub yes_right : (p : Pla) (text : List ℕ) (answer : List GivenOutput) → answer_reading (description p) text ≡ Ok answer
+    → (verdict_on (description p) answer ≡ Yes) ↔ IsRight (description p) answer
 yes_right p text answer read =
-    yes_where_right p answer
-    (answer_fits (input_names p) (output_names p) p text (Ok answer)
+    yes_where_right (description p) answer
+    (answer_fits (input_names p) (output_names p) (description p) text (Ok answer)
     (count_printed (codes "x") p.inputs p.in_names (input_names p) (input_names p) p.fits.in_count refl refl)
     (count_printed (codes "f") p.outputs p.out_names (output_names p) (output_names p) p.fits.out_count refl refl) read)

@@ -7,7 +7,7 @@ use Rattle.std.proofs.lemmas.List.Concat.{flat_map-append}
 use Rattle.std.proofs.lemmas.List.Folds.{flat_map-map}
 use Rattle.lattice.specs.Family.{Family, Covers, Has}
 use Rattle.lattice.specs.Basis.{leads_of, standard_of}
-use Rattle.lattice.specs.WorkingLists.{basis_element_list, care_list, first_phase, is_basis, output_basis_list, output_leads_list}
+use Rattle.lattice.specs.WorkingLists.{basis_element_list, care_list, first_phase, is_basis, output_basis_list}
 use Rattle.lattice.specs.WorkingLists.{output_list, output_numbers, second_phase, working_set}
 use Rattle.lattice.specs.declared.kind.Mode.{Mode}
 use Rattle.lattice.proofs.Diagrams.{Has-append_left, Has-append_right, Has-head, Has-tail, covers_append, covers_lists}
@@ -88,7 +88,7 @@ module _ (d : Description) (mode : Mode) where
   first = first_phase d.inputs d.outputs d.kind d.rows mode
 
   first_is : first ≡ flat_map of_output numbers
-  unfolding first_phase output_list output_leads_list
+  unfolding first_phase output_list
   first_is = refl
 
   leads_are : (b : Bool) (os : List ℕ) → flat_map (task_list d) (cond b (map (task Leads) os) []) ≡

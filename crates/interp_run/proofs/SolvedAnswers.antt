@@ -1,28 +1,29 @@
 -- The answers of a consistent description, and what a store holds that found them.
 use Rattle.std.proofs.Common.{◌≡◌, ℕ, ◌+◌, ◌<◌, ◌≤◌, Bool, true, false, cond, List, [], ◌∷◌, ◌++◌, length, map, Option, Some}
-use Rattle.std.proofs.Common.{None, ◌&&◌, not, is_some, IfNone, IfSome, refl, sym, ap, ap₂, subst, ◌∙◌}
+use Rattle.std.proofs.Common.{None, is_some, IfNone, IfSome, refl, sym, ap, ap₂, subst, ◌∙◌}
 use Rattle.std.proofs.Common.{append-nil, arith}
 use Rattle.std.specs.List.{All, sum_by, flat_map}
 use Rattle.std.proofs.lemmas.List.Folds.{fold-map}
 use Rattle.std.proofs.lemmas.List.Sums.{sum_by-append, sum_by-cons}
-use Rattle.std.proofs.lemmas.Bool.{and_parts, true≢false, false≢true}
+use Rattle.std.proofs.lemmas.Bool.{true≢false, false≢true}
 use Rattle.std.proofs.lemmas.List.{length-map}
 use Rattle.std.proofs.lemmas.List.Elements.{All-head, All-tail, All-weaker}
 use Rattle.std.proofs.lemmas.Option.{slice_get_within}
-use Rattle.lattice.specs.Family.{Family, IsFamily, Covers, includes, is_distinct}
+use Rattle.lattice.specs.Family.{Family, IsFamily, Covers}
 use Rattle.lattice.specs.Basis.{basis_element_of, leads_of, standard_of, reduced_basis_of}
 use Rattle.lattice.specs.Rows.{IsConsistent, points_where, is_one, is_zero}
 use Rattle.lattice.specs.WorkingLists.{is_basis, first_phase, second_phase, output_basis_list}
 use Rattle.lattice.specs.WorkingLists.{output_numbers, working_set}
 use Rattle.lattice.specs.declared.kind.Mode.{Mode}
-use Rattle.lattice.proofs.Diagrams.{covered_length, covers_left, working_set_is_node_list, get_map}
+use Rattle.lattice.proofs.Diagrams.{covered_length, covers_left, get_map}
 use Rattle.lattice.proofs.Polynomials.{IsFamily-family_where, IsFamily-combine, IsLeast-interpolate}
 use Rattle.lattice.proofs.Polynomials.{reduced_basis_exists, care_points_disjoint}
-use Rattle.node_store.specs.Stores.{State, family, IsSound, Grows}
+use Rattle.node_store.specs.Stores.{State, family, Grows}
 use Rattle.node_store.proofs.StoreLaws.{Grows-family, Grows-knows}
 use Rattle.node_store.specs.declared.store.Handle.{Handle}
 use Rattle.pla_reader.specs.Reading.{Description}
 use Rattle.anf_printer.specs.Text.{Answer}
+use Rattle.run_parts.proofs.FoundTerms.{working_set_is_distinct}
 use Rattle.interp_run.specs.Answers.{IsAnswerOf, AreAnswers, first_count, second_count, first_nodes, last_nodes}
 use Rattle.interp_run.specs.Phases.{AreOf, IsSecond, KnowsSolved, answer_for, answer_in, answers_for, first_tasks, leads_in, ones_in}
 use Rattle.interp_run.specs.Phases.{points_in, second_terms, task, task_family, terms_of, zeros_in}
@@ -71,12 +72,7 @@ answers_are d mode ok = record {
       (answer_is d mode (k + 1) ok (omega arith) (omega (arith, inside, length-output_numbers d.outputs)));
 }
 
--- ---- working sets that are held
-
-working_set_is_distinct : (n : ℕ) (list : List Family) → is_distinct (working_set n list) ≡ true
-working_set_is_distinct n list =
-    (and_parts (is_distinct (working_set n list)) (not (includes (working_set n list) []) && not (includes (working_set n list) (0 ∷ [])))
-    (working_set_is_node_list n list)).0
+-- ---- working sets
 
 part_within : (n : ℕ) (part rest : List Family) → length (working_set n part) ≤ length (working_set n (part ++ rest))
 part_within n part rest = covered_length (working_set n part) (working_set n (part ++ rest)) (working_set_is_distinct n part)
@@ -91,11 +87,6 @@ pub first_is_last : (d : Description) (mode : Mode) → is_basis mode ≡ false 
 unfolding second_phase
 first_is_last d mode bare =
     ap (λ list. length (working_set d.inputs list)) (rw (bare) (append-nil (first_phase d.inputs d.outputs d.kind d.rows mode)))
-
--- a working set that is held fits into the slots
-pub fits : (s : State) (n : ℕ) (list : List Family) → IsSound s → Covers s.held (working_set n list)
-    → length (working_set n list) ≤ s.capacity
-fits s n list ok held = omega (arith, covered_length (working_set n list) s.held (working_set_is_distinct n list) held, ok.room)
 
 abbrev pub first_list : Description → Mode → List Family
 first_list d mode = first_phase d.inputs d.outputs d.kind d.rows mode
@@ -186,26 +177,6 @@ second_counted t (o ∷ os) =
       second_counted t os,
     )
 
-pub answers_later : (s t : State) (solved : List Solved) → Grows s t → All (KnowsSolved s) solved
-    → map (answer_in t) solved ≡ map (answer_in s) solved
-answers_later s t [] grows known = refl
-answers_later s t (o ∷ os) grows known =
-    let here = All-head (KnowsSolved s) o os known in
-    ap₂ (λ (x : Answer) (xs : List Answer). x ∷ xs)
-    (ap₂ (λ (p : Family) (b : List Family). record { polynomial = p; basis = b }) (Grows-family s t o.polynomial grows here.0)
-    (families_later s t o.basis.items grows here.1))
-    (answers_later s t os grows (All-tail (KnowsSolved s) o os known))
-
-pub solved_known_later : (s t : State) (solved : List Solved) → Grows s t → All (KnowsSolved s) solved → All (KnowsSolved t) solved
-solved_known_later s t solved grows known =
-    All-weaker (KnowsSolved s) (KnowsSolved t)
-    (λ o is. (Grows-knows s t o.polynomial grows is.0, All_known-later s t o.basis.items grows is.1)) solved known
-
-pub second_terms-later : (s t : State) (solved : List Solved) → Grows s t → All (KnowsSolved s) solved
-    → second_terms t solved ≡ second_terms s solved
-second_terms-later s t solved grows known =
-    second_counted t solved ∙ (ap second_count (answers_later s t solved grows known) ∙ sym (second_counted s solved))
-
 module _ (d : Description) (mode : Mode) (t : State) (solved : List Solved) (are : IsSecond t d mode solved) where
   -- the terms that are counted are those of the answers
   pub answers_counted : second_terms t solved ≡ second_count (answers_for d mode)
@@ -239,14 +210,3 @@ module _ (d : Description) (mode : Mode) (bare : is_basis mode ≡ false) where
 
   pub second_is_first : second_count (answers_for d mode) ≡ first_count (answers_for d mode)
   second_is_first = same_counts (output_numbers d.outputs)
-
--- ---- the counts
-
--- a count that has no answer is over the limit, and one that has is within it
-pub none_over : (o : Option ℕ) (n limit : ℕ) → is_some o ≡ false → IfNone o (limit < n) → limit < n
-none_over None n limit none over = over
-none_over (Some k) n limit none over = absurd (true≢false none)
-
-pub some_within : (o : Option ℕ) (n limit : ℕ) → is_some o ≡ true → IfSome o (λ k. k ≡ n) → IfSome o (λ k. k ≤ limit) → n ≤ limit
-some_within None n limit some count within = absurd (false≢true some)
-some_within (Some k) n limit some count within = omega (arith, count, within)

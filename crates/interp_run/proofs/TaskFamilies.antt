@@ -4,7 +4,7 @@ use Rattle.std.proofs.Common.{refl, ◌∙◌, ap, arith, length}
 use Rattle.lattice.specs.Family.{Family, AreDisjoint, Covers, union_of}
 use Rattle.lattice.specs.Basis.{IsLead, basis_element_of, leads_of, standard_of}
 use Rattle.lattice.specs.Rows.{IsConsistent}
-use Rattle.lattice.specs.WorkingLists.{basis_element_list, output_numbers, working_set}
+use Rattle.lattice.specs.WorkingLists.{basis_element_list, output_numbers, staircase_list, working_set}
 use Rattle.lattice.proofs.Diagrams.{covers_head, covers_tail}
 use Rattle.lattice.proofs.Polynomials.{care_points_disjoint}
 use Rattle.node_store.specs.Stores.{State, Builds, Denotes, Gives, IsPlanned, family}
@@ -15,7 +15,7 @@ use Rattle.node_store.proofs.StoreLaws.{gives_as}
 use Rattle.pla_reader.specs.Reading.{Description}
 use Rattle.set_algebra.specs.declared.points.ValuedPoints.{ValuedPoints}
 use Rattle.run_parts.specs.Found.{point_leads_list}
-use Rattle.interp_run.specs.Phases.{AreCares, IsPart, IsTask, element_list, no_cares, ones_in, part_family, part_list, points_list}
+use Rattle.interp_run.specs.Phases.{AreCares, IsPart, IsTask, element_list, no_cares, ones_in, part_family, part_list}
 use Rattle.interp_run.specs.Phases.{task_family, task_list, zeros_in}
 use Rattle.interp_run.specs.declared.tasks.Task.{Task}
 use Rattle.interp_run.proofs.OutputLists.{get_output, length-output_numbers, zip_at, zip_long}
@@ -33,7 +33,7 @@ module _ (s : State) (a b : Handle) where
   rest = point_leads_list n P
 
   abbrev Planned : Type 0
-  Planned = Covers s.plan (working_set n (points_list n P))
+  Planned = Covers s.plan (working_set n (staircase_list n P))
 
   pub union_planned : Planned → IsPlanned s P
   union_planned planned = covers_head n s.plan rest P planned
@@ -52,7 +52,7 @@ module _ (s : State) (a b : Handle) where
     -- u is the state after the leads
     pub leads_given : {u : State} {r : Result Handle Full}
         → Gives t u r (leads_of t.vars (standard_of t.vars (family t p))) (working_set t.vars (point_leads_list t.vars (family t p)))
-        → Gives s u r (leads_of n (standard_of n P)) (working_set n (points_list n P))
+        → Gives s u r (leads_of n (standard_of n P)) (working_set n (staircase_list n P))
     leads_given {u = u} {r = r} two = found_gives s t u r (leads_of n (standard_of n P)) (P ∷ []) rest to_t
         (gives_as (rw (one.grows.vars, p_is) refl) (rw (one.grows.vars, p_is) refl) two)
 

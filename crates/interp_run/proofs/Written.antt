@@ -95,10 +95,6 @@ page_more pages i d within = ap concat (take_more pages i d within)
     ∙ (concat-append (take i pages) (get_or pages i d ∷ [])
     ∙ ap (λ (l : List ℕ). concat (take i pages) ++ l) (append-nil (get_or pages i d)))
 
-pub appends_nothing : (old : Option (List ℕ)) → Appends old old []
-appends_nothing None = tt
-appends_nothing (Some xs) = sym (append-nil xs)
-
 pub page_written : (old middle new : Option (List ℕ)) (pages : List (List ℕ)) (i : ℕ) (d page : List ℕ) → i < length pages
     → page ≡ get_or pages i d
     → Appends old middle (concat (take i pages)) → Appends middle new page → Appends old new (concat (take (i + 1) pages))

@@ -8,8 +8,7 @@ use Rattle.lattice.specs.declared.kind.Mode.{Mode}
 use Rattle.lattice.specs.declared.kind.Mode.TheVariants.{Check, Gen}
 use Rattle.pla_reader.specs.Orders.{arranged, is_order, order_named}
 use Rattle.pla_reader.specs.PrintedNames.{printed_names}
-use Rattle.pla_reader.specs.Reading.{Description, bytes_taken, description, reading_of}
-use Rattle.pla_reader.specs.declared.pla.Pla.{Pla}
+use Rattle.pla_reader.specs.Reading.{Description, bytes_taken, reading_of}
 use Rattle.pla_reader.specs.declared.refusal.Refusal.{Refusal}
 use Rattle.cube_sets.specs.Clashes.{IsClash, IsLeastOf}
 use Rattle.cube_sets.specs.declared.clash.Clash.{Clash}
@@ -38,31 +37,24 @@ abbrev pub IsSolving : Mode → Type 0
 IsSolving Check = ⊥
 IsSolving _ = Unit {0}
 
--- the description over the order that the text of an option asks for; without a text it stays as it is. A text is refused that, cut
--- at its commas, is no list of all printed names of the inputs, each once
-abbrev pub in_order : Option (List ℕ) → Description → Result Description Outcome
-in_order None d = Ok d
-in_order (Some text) d =
-    let order = order_named (printed_names (codes "x") d.inputs d.in_names) text in
+-- what was read, over the order that the text of an option asks for; without a text it stays as it is. A text is refused that, cut at
+-- its commas, is no list of all printed names of the inputs, each once
+abbrev pub in_order : Option (List ℕ) → Result Description Refusal → Result Description Outcome
+in_order order (Err refusal) = Err (ends.Text refusal.line refusal.why)
+in_order None (Ok d) = Ok d
+in_order (Some text) (Ok d) = let order = order_named (printed_names (codes "x") d.inputs d.in_names) text in
     if is_order d.inputs order then Ok (arranged d order) else Err ends.Order
-
--- of what was read
-abbrev pub read_in_order : Option (List ℕ) → Result Description Refusal → Result Description Outcome
-read_in_order order (Ok d) = in_order order d
-read_in_order order (Err refusal) = Err (ends.Text refusal.line refusal.why)
 
 -- the file that a run is about, or how the run ends that has none
 abbrev pub file_of : Job → List ℕ → Result Description Outcome
-file_of job bytes =
-    if is_gen job.mode then Ok (generated job.seed)
+file_of job bytes = if is_gen job.mode then Ok (generated job.seed)
     else if nat_lt MOST_BYTES (length bytes) then Err ends.TooLong
-    else read_in_order job.order (reading_of bytes)
+    else in_order job.order (reading_of bytes)
 
 -- the answer that is judged, or how the run ends that has none
-abbrev pub given_of : Pla → List ℕ → Result (List GivenOutput) Outcome
-given_of p text =
-    if nat_lt MOST_INPUTS p.inputs then Err ends.TooWide
-    else result_map_both (λ answer. answer) (λ refusal. ends.AnswerText refusal.0 refusal.1) (answer_reading p text)
+abbrev pub given_of : Description → List ℕ → Result (List GivenOutput) Outcome
+given_of d text = if nat_lt MOST_INPUTS d.inputs then Err ends.TooWide
+    else result_map_both (λ answer. answer) (λ refusal. ends.AnswerText refusal.0 refusal.1) (answer_reading d text)
 
 -- ---- how a run ends, the texts that out gains, and what the watchers are told of each
 
@@ -108,24 +100,22 @@ pub data IsDueSolving (job : Job) (d : Description) : Due → Type 0 where
   has_answers : (answers : List Answer) → AreAnswers d job.mode answers → IsDueSolving job d (first_passed job d answers)
 
 -- in mode check, on a description and the text behind it
-pub data IsDueChecking (p : Pla) (text : List ℕ) : Due → Type 0 where
-  no_answer : (o : Outcome) → given_of p text ≡ Err o → IsDueChecking p text (silent o)
-  contradiction_behind : (answer : List GivenOutput) (c : Clash) → given_of p text ≡ Ok answer
-      → IsLeastOf (IsClash p.inputs p.outputs p.rows p.rows) c
-      → IsDueChecking p text (contradicted c)
-  verdict : (answer : List GivenOutput) → given_of p text ≡ Ok answer → IsConsistent p.inputs p.outputs p.rows
-      → IsDueChecking p text (judged (verdict_on p answer))
+pub data IsDueChecking (d : Description) (text : List ℕ) : Due → Type 0 where
+  no_answer : (o : Outcome) → given_of d text ≡ Err o → IsDueChecking d text (silent o)
+  contradiction_behind : (answer : List GivenOutput) (c : Clash) → given_of d text ≡ Ok answer
+      → IsLeastOf (IsClash d.inputs d.outputs d.rows d.rows) c → IsDueChecking d text (contradicted c)
+  verdict : (answer : List GivenOutput) → given_of d text ≡ Ok answer → IsConsistent d.inputs d.outputs d.rows
+      → IsDueChecking d text (judged (verdict_on d answer))
 
 -- for a job and the bytes
 pub data IsDue (job : Job) (bytes : List ℕ) : Due → Type 0 where
   no_file : (o : Outcome) → file_of job bytes ≡ Err o → IsDue job bytes (silent o)
   solving : (d : Description) (due : Due) → file_of job bytes ≡ Ok d → IsSolving job.mode → IsDueSolving job d due → IsDue job bytes due
-  checking : (p : Pla) (due : Due) → file_of job bytes ≡ Ok (description p) → job.mode ≡ Check
-      → IsDueChecking p (drop (bytes_taken bytes) bytes) due
-      → IsDue job bytes due
+  checking : (d : Description) (due : Due) → file_of job bytes ≡ Ok d → job.mode ≡ Check
+      → IsDueChecking d (drop (bytes_taken bytes) bytes) due → IsDue job bytes due
 
 -- how many jobs a pool answers before the answer is written of which the watchers are told this: the polynomials, the elements
 -- and, in mode basis, the leads of each output; in mode gen the two polynomials
 abbrev pub least_jobs : Mode → List Note → ℕ
-least_jobs mode notes =
-    if is_gen mode then 2 else length notes + sum_by (λ n. n.basis) notes + cond (is_basis mode) (length notes) 0
+least_jobs mode notes = if is_gen mode then 2
+    else length notes + sum_by (λ n. n.basis) notes + cond (is_basis mode) (length notes) 0

@@ -23,8 +23,8 @@ SomeIsDue p = (job : Job) (bytes : List ℕ) → file_of job bytes ≡ Ok (descr
 
 -- the verdict on an answer that was read is yes exactly where the answer is right
 abbrev pub YesIsRight : Type 0
-YesIsRight = (p : Pla) (text : List ℕ) (answer : List GivenOutput) → answer_reading p text ≡ Ok answer
-    → ((verdict_on p answer ≡ Yes) ↔ IsRight p answer)
+YesIsRight = (p : Pla) (text : List ℕ) (answer : List GivenOutput) → answer_reading (description p) text ≡ Ok answer
+    → ((verdict_on (description p) answer ≡ Yes) ↔ IsRight (description p) answer)
 
 -- a job with the limits that words without options ask for
 abbrev pub usual_job : Mode → Job

@@ -7,7 +7,7 @@ use Rattle.lattice.specs.Interpolation.{interpolate}
 use Rattle.lattice.specs.Basis.{IsLead, basis_element_of, leads_of, standard_of}
 use Rattle.lattice.specs.Rows.{care_ones, care_zeros}
 use Rattle.lattice.specs.WorkingLists.{basis_element_list, care_list, care_set, first_phase, interpolation_list, is_basis}
-use Rattle.lattice.specs.WorkingLists.{output_numbers, second_phase, working_set}
+use Rattle.lattice.specs.WorkingLists.{output_numbers, second_phase, staircase_list, working_set}
 use Rattle.lattice.specs.declared.kind.Mode.{Mode}
 use Rattle.node_store.specs.Stores.{Denotes, Knows, State, family}
 use Rattle.pla_reader.specs.Reading.{Description}
@@ -18,7 +18,6 @@ use Rattle.fork_branches.specs.declared.solve.SolveRefusal.{SolveRefusal}
 use Rattle.anf_printer.specs.Text.{Answer}
 use Rattle.node_store.specs.declared.store.Handle.{Handle}
 use Rattle.set_algebra.specs.declared.points.ValuedPoints.{ValuedPoints}
-use Rattle.run_parts.specs.Found.{point_leads_list}
 pub use Rattle.run_parts.specs.Found.{terms_of}
 use Rattle.interp_run.specs.declared.tasks.Task.{Task}
 use Rattle.interp_run.specs.declared.tasks.Part.{Part}
@@ -56,16 +55,13 @@ part_family n zeros ones Polynomial = interpolate n zeros ones
 part_family n zeros ones Leads = leads_of n (standard_of n (union_of n zeros ones))
 part_family n zeros ones (Element lead) = basis_element_of n lead (union_of n zeros ones)
 
--- the families that are needed for the leads, and for an element
-abbrev pub points_list : ℕ → Family → List Family
-points_list n points = points ∷ point_leads_list n points
-
+-- the families that are needed for an element
 abbrev pub element_list : ℕ → ℕ → Family → List Family
 element_list n lead points = points ∷ basis_element_list n lead points
 
 abbrev pub part_list : ℕ → Family → Family → Part → List Family
 part_list n zeros ones Polynomial = interpolation_list n zeros ones
-part_list n zeros ones Leads = points_list n (union_of n zeros ones)
+part_list n zeros ones Leads = staircase_list n (union_of n zeros ones)
 part_list n zeros ones (Element lead) = element_list n lead (union_of n zeros ones)
 
 -- ---- tasks

@@ -24,43 +24,36 @@ IsAsked words job = (fault_of interp_command words ≡ []) × IsJob (matches_of 
 
 -- ---- statuses and lines
 
+-- the exit status, and the line on err
+abbrev pub ending : Outcome → ℕ × List ℕ
+ending ends.Done = (0, [])
+ending (ends.No line why) = (1, [])
+ending ends.Usage = (2, codes "interp: usage: interp MODE [--workers N] [--nodes B] [--terms T] [--seed S] [--order NAMES]\n")
+ending (ends.Text line why) = (3, codes "interp: line " ++ decimal line ++ codes ": " ++ why_name why ++ codes "\n")
+ending ends.TooWide = (3, codes "interp: more than 14 inputs cannot be checked\n")
+ending (ends.AnswerText line why) = (3, codes "interp: answer line " ++ decimal line ++ codes ": " ++ answer_why_name why ++ codes "\n")
+ending (ends.Contradiction output on_line off_line) = (
+  4,
+  codes "interp: output " ++ decimal output ++ codes ": on line " ++ decimal on_line
+      ++ codes ", off line " ++ decimal off_line ++ codes "\n",
+)
+ending (ends.Exhausted nodes) = (5, codes "interp: more than " ++ decimal nodes ++ codes " nodes are needed\n")
+ending (ends.Terms limit) = (6, codes "interp: more than " ++ decimal limit ++ codes " terms\n")
+ending ends.Memory = (7, codes "interp: out of memory\n")
+ending ends.ReadFault = (8, codes "interp: read fault\n")
+ending ends.WriteFault = (9, codes "interp: write fault\n")
+ending ends.TooLong = (10, codes "interp: longer than 4194304 bytes\n")
+ending ends.Order = (12, codes "interp: order must name every input once\n")
+
 abbrev pub status_of : Outcome → ℕ
-status_of ends.Done = 0
-status_of (ends.No line why) = 1
-status_of ends.Usage = 2
-status_of (ends.Text line why) = 3
-status_of ends.TooWide = 3
-status_of (ends.AnswerText line why) = 3
-status_of (ends.Contradiction output on_line off_line) = 4
-status_of (ends.Exhausted nodes) = 5
-status_of (ends.Terms limit) = 6
-status_of ends.Memory = 7
-status_of ends.ReadFault = 8
-status_of ends.WriteFault = 9
-status_of ends.TooLong = 10
-status_of ends.Order = 12
+status_of o = (ending o).0
+
+abbrev pub line_of : Outcome → List ℕ
+line_of o = (ending o).1
 
 -- the outcomes that have an answer
 abbrev pub HasText : Outcome → Type 0
 HasText o = status_of o ≤ 1
-
--- the line on err
-abbrev pub line_of : Outcome → List ℕ
-line_of ends.Done = []
-line_of (ends.No line why) = []
-line_of ends.Usage = codes "interp: usage: interp MODE [--workers N] [--nodes B] [--terms T] [--seed S] [--order NAMES]\n"
-line_of (ends.Text line why) = codes "interp: line " ++ decimal line ++ codes ": " ++ why_name why ++ codes "\n"
-line_of ends.TooWide = codes "interp: more than 14 inputs cannot be checked\n"
-line_of (ends.AnswerText line why) = codes "interp: answer line " ++ decimal line ++ codes ": " ++ answer_why_name why ++ codes "\n"
-line_of (ends.Contradiction output on_line off_line) = codes "interp: output " ++ decimal output ++ codes ": on line " ++ decimal on_line
-    ++ codes ", off line " ++ decimal off_line ++ codes "\n"
-line_of (ends.Exhausted nodes) = codes "interp: more than " ++ decimal nodes ++ codes " nodes are needed\n"
-line_of (ends.Terms limit) = codes "interp: more than " ++ decimal limit ++ codes " terms\n"
-line_of ends.Memory = codes "interp: out of memory\n"
-line_of ends.ReadFault = codes "interp: read fault\n"
-line_of ends.WriteFault = codes "interp: write fault\n"
-line_of ends.TooLong = codes "interp: longer than 4194304 bytes\n"
-line_of ends.Order = codes "interp: order must name every input once\n"
 
 -- ---- what a run does
 
@@ -78,8 +71,7 @@ pub record TellsFirst (old new : Option (List ℕ)) (due : Due) (before after : 
 
 -- a run with these words on these bytes ends with an outcome: with the one that is due, or for a fault or want of memory. The
 -- rest says what out gained, and who of the watchers is left.
-pub data Ends (words : List (List ℕ)) (bytes : List ℕ) (old new : Option (List ℕ)) (before after : List WatcherState) : Outcome
-    → Type 0 where
+pub data Ends (words : List (List ℕ)) (bytes : List ℕ) (old new : Option (List ℕ)) (before after : List WatcherState) : Outcome → Type 0 where
   refused : IsRefused words → Keeps old new → after ≡ before → Ends words bytes old new before after ends.Usage
   as_due : (job : Job) (due : Due) → IsAsked words job → IsDue job bytes due → Appends old new (concat due.pages)
       → after ≡ left_after_all due.notes before → Ends words bytes old new before after due.outcome

@@ -5,7 +5,7 @@ ghost use Rattle.lattice.specs.Rows.{IsConsistent};
 ghost use Rattle.lattice.specs.WorkingLists.{output_numbers, second_phase, working_set};
 ghost use Rattle.lattice.specs.declared.kind.Mode.{Mode};
 ghost use Rattle.lattice.specs.declared.kind.Mode.TheVariants.{Basis};
-ghost use Rattle.node_store.specs.Stores.{Grows, IsFull, Reads};
+ghost use Rattle.node_store.specs.Stores.{Grows, IsFull};
 ghost use Rattle.computed_cache.specs.Cached.{cached_state};
 ghost use Rattle.pla_reader.specs.Reading.{description};
 ghost use Rattle.interp_run.specs.Phases.{AreGrouped, AreLeads, AreOf, IsFirst, IsSecond, element_task, first_tasks, second_tasks, terms_of};
@@ -18,7 +18,7 @@ use lattice::{Memory, Mode, MonoLists, Monos};
 use node_store::{Handle, Store};
 use outside::Rendezvous;
 use pla_reader::Pla;
-use run_parts::lists_of;
+use run_parts::{count_terms, lists_of};
 use std::alloc::Global;
 use std::thread::Threads;
 
@@ -33,21 +33,27 @@ pub(crate) fn no_leads(alloc: Global, outputs: u32) -> Result<MonoLists, Memory>
     Ok(lists)
 }
 
-/// The leads of each output, from the greatest down, in mode basis. There are at most `limit` terms in what was found.
+/// The leads of each output, from the greatest down, in mode basis, where there are no more than `limit` terms in what was found:
+/// in the polynomials and, as the leads, of the bases.
 pub(crate) fn lead_lists<S: Store>(
     alloc: Global,
     store: &mut S,
     pla: &Pla,
     found: &[Handle],
     limit: u64,
-) -> Result<MonoLists, Memory>
-    requires found { AreOf (S.state store.old) (description pla.now) found.now (first_tasks (description pla.now) Basis) }
-    requires few { terms_of (S.state store.old) found.now ≤ limit }
-    ensures reads { Reads (S.state store.old) (S.state store.new) }
+) -> Result<MonoLists, Stop>
+    requires { AreOf (S.state store.old) (description pla.now) found.now (first_tasks (description pla.now) Basis) }
     ensures leads { IfOk result (AreLeads (description pla.now) Basis) }
+    ensures within { OnOk result (terms_of (S.state store.old) found.now ≤ limit) }
+    ensures terms { IsErrOf result Stop.Terms → limit < terms_of (S.state store.old) found.now }
+    ensures full { ¬ IsErrOf result Stop.Full }
 {
-    let (_, leads) = found.split_at(pla.outputs as usize);
-    lists_of(alloc, store, leads, limit)
+    let (polynomials, leads) = found.split_at(pla.outputs as usize);
+    let Some(count) = count_terms(store, polynomials, limit) else {
+        return Err(Stop::Terms);
+    };
+    let mut left = limit - count;
+    Ok(lists_of(alloc, store, leads, &mut left)?)
 }
 
 // The tasks with those for the elements of an output behind them, by ascending lead.

@@ -38,8 +38,8 @@ fn disordered(refusal: OrderRefusal) -> Outcome
 
 // The description in the order that the job asks for, or how the run ends without it.
 fn in_order(alloc: Global, job: &Job, pla: Pla) -> Result<Pla, Outcome>
-    ensures ok { IfOk result (λ file. in_order job.now.order (description pla) ≡ Ok (description file)) }
-    ensures err { IfErr result (λ o. (in_order job.now.order (description pla) ≡ Err o) ⊎ (o ≡ outcomes.Memory)) }
+    ensures ok { IfOk result (λ file. in_order job.now.order (Ok (description pla)) ≡ Ok (description file)) }
+    ensures err { IfErr result (λ o. (in_order job.now.order (Ok (description pla)) ≡ Err o) ⊎ (o ≡ outcomes.Memory)) }
 {
     let Some(text) = &job.order else {
         return Ok(pla);

@@ -1,5 +1,5 @@
 //! Mode check: an answer that stands after its description is judged.
-ghost use Rattle.std.specs.Prelude.{◌≡◌, ◌∷◌, [], drop, IfErr, IfOk};
+ghost use Rattle.std.specs.Prelude.{◌≡◌, ◌∷◌, [], IfErr, IfOk};
 ghost use Rattle.lattice.specs.declared.kind.Mode.TheVariants.{Check};
 ghost use Rattle.interp_run.specs.Due.{IsDue, judged};
 ghost use Rattle.interp_run.specs.Parts.{EndsWithout, refused_outcome};
@@ -10,6 +10,7 @@ use arrayvec::ArrayString;
 use cert_check::{AnswerRefusal, CheckRefusal, MOST_INPUTS, Verdict, check, read_answer};
 use cli_words::Job;
 use itoa::Buffer;
+use run_parts::behind;
 use std::alloc::Global;
 
 // `no`, a line of 10 digits, a name of 9 letters, with what joins and ends them.
@@ -23,13 +24,6 @@ fn refused(refusal: AnswerRefusal) -> Outcome
         AnswerRefusal::Bad { line, why } => Outcome::AnswerText { line, why },
         AnswerRefusal::Memory => Outcome::Memory,
     }
-}
-
-// The bytes behind the first ones, of which there may be fewer.
-fn behind(bytes: &[u8], taken: usize) -> &[u8]
-    ensures { result.now ≡ drop taken bytes.now }
-{
-    bytes.get(taken..).unwrap_or(&[])
 }
 
 /// The verdict on the answer that stands after the description, or how the run ends without it.

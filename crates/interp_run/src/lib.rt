@@ -3,7 +3,6 @@
 
 mod answer;
 mod bases;
-mod counts;
 mod cover_jobs;
 mod describe;
 mod judge;

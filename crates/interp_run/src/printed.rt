@@ -1,16 +1,29 @@
 //! What is printed, from its diagrams.
-ghost use Rattle.std.specs.Prelude.{◌≡◌, ◌≤◌, IfOk, map};
+ghost use Rattle.std.specs.Prelude.{◌≡◌, ◌<◌, ◌≤◌, IfOk, IsErrOf, OnOk, map};
 ghost use Rattle.std.specs.List.{All};
-ghost use Rattle.node_store.specs.Stores.{Reads};
 ghost use Rattle.anf_printer.specs.Text.{shown_answer};
 ghost use Rattle.interp_run.specs.Phases.{KnowsSolved, answer_in, second_terms};
 
-use crate::phases::Solved;
+use crate::phases::{Solved, Stop};
 use anf_printer::Shown;
-use lattice::Memory;
 use node_store::Store;
 use run_parts::{lists_of, terms_of};
+use set_algebra::WalkRefusal;
 use std::alloc::Global;
+
+impl From<WalkRefusal> for Stop {
+    ghost use Rattle.set_algebra.specs.declared.counted.WalkRefusal.TheVariants.{Over, Memory as NoMemory};
+    ghost use Rattle.interp_run.specs.declared.phases.Stop.TheVariants.{Terms, Memory as OutOfMemory};
+
+    ghost from_gives = { λ refusal e. (refusal ≡ Over → e ≡ Terms) × (refusal ≡ NoMemory → e ≡ OutOfMemory) };
+
+    fn from(refusal: WalkRefusal) -> Self {
+        match refusal {
+            WalkRefusal::Over => Stop::Terms,
+            WalkRefusal::Memory => Stop::Memory,
+        }
+    }
+}
 
 /// What is printed of each output, where no more than `limit` terms are printed.
 pub(crate) fn shown_of<S: Store>(
@@ -18,17 +31,19 @@ pub(crate) fn shown_of<S: Store>(
     store: &mut S,
     solved: &[Solved],
     limit: u64,
-) -> Result<Vec<Shown>, Memory>
-    requires known { All (KnowsSolved (S.state store.old)) solved.now }
-    requires few { second_terms (S.state store.old) solved.now ≤ limit }
-    ensures reads { Reads (S.state store.old) (S.state store.new) }
+) -> Result<Vec<Shown>, Stop>
+    requires { All (KnowsSolved (S.state store.old)) solved.now }
     ensures shown { IfOk result (λ shown. map shown_answer shown.items ≡ map (answer_in (S.state store.old)) solved.now) }
+    ensures within { OnOk result (second_terms (S.state store.old) solved.now ≤ limit) }
+    ensures terms { IsErrOf result Stop.Terms → limit < second_terms (S.state store.old) solved.now }
+    ensures full { ¬ IsErrOf result Stop.Full }
 {
+    let mut left = limit;
     let mut shown = Vec::new(alloc);
     for output in solved {
         shown.push(Shown {
-            poly: terms_of(alloc, store, output.polynomial, limit)?,
-            basis: lists_of(alloc, store, &output.basis, limit)?,
+            poly: terms_of(alloc, store, output.polynomial, &mut left)?,
+            basis: lists_of(alloc, store, &output.basis, &mut left)?,
         })?;
     }
     Ok(shown)

@@ -1,6 +1,5 @@
 //! A consistent description solved, each phase on a table of its own.
 ghost use Rattle.std.specs.Prelude.{◌≡◌, ◌≢◌, ◌<◌, ◌≤◌, ◌^◌, ◌+◌, true, IfOk, IfErr, IsErrOf, OnOk, length, map};
-ghost use Rattle.std.specs.List.{All};
 ghost use Rattle.lattice.specs.declared.kind.Mode.TheVariants.{Basis, Gen};
 ghost use Rattle.lattice.specs.declared.limits.TheConstants.{MIN_BITS, MAX_BITS};
 ghost use Rattle.lattice.specs.Rows.{IsConsistent};
@@ -12,20 +11,19 @@ ghost use Rattle.cli_words.specs.CommandLine.{IsWithin};
 ghost use Rattle.interp_run.specs.Answers.{AreAnswers, first_nodes, last_nodes};
 ghost use Rattle.interp_run.specs.Due.{IsDueSolving, silent, solved};
 ghost use Rattle.interp_run.specs.Parts.{EndsUnsolved, FirstFits, jobs_for, stopped_outcome};
-ghost use Rattle.interp_run.specs.Phases.{AreCares, AreLeads, KnowsSolved, answer_in, ones_in, second_terms, zeros_in};
+ghost use Rattle.interp_run.specs.Phases.{AreCares, AreLeads, ones_in, zeros_in};
 ghost use Rattle.interp_run.specs.declared.outcome.Outcome.TheVariants as outcomes;
 
 use crate::Outcome;
 use crate::bases::{lead_lists, no_leads, second_phase};
-use crate::counts::{first_count, second_count};
-use crate::phases::{Solved, Stop, first_phase};
+use crate::phases::{Stop, first_phase};
 use crate::plan::{first_plan, run_plan};
 use crate::printed::shown_of;
 use anf_printer::Shown;
 use cli_words::Job;
 use computed_cache::CachedPass;
 use fork_branches::Pool;
-use lattice::{MAX_VARS, Memory, Mode, MonoLists, Monos};
+use lattice::{MAX_VARS, Mode, MonoLists, Monos};
 use node_store::Store;
 use outside::Rendezvous;
 use pla_reader::Pla;
@@ -34,15 +32,48 @@ use std::alloc::Global;
 use std::thread::Threads;
 use unique_table::Shared;
 
-// A run begins on tables of 2^12 slots, where its own are greater: most descriptions need no more, and a great table takes
-// longer to make than these to solve.
+// A run begins on small tables of 2^12 slots, on middle ones of 2^17, or on those of its own size. The greater a table is, the longer
+// it takes to make, and the slower it is where it does not fit the processor's own memory.
 const SMALL_BITS: u32 = 12;
+
+const MIDDLE_BITS: u32 = 17;
 
 /// What is printed of each output, and in mode gen how many care points the first one has.
 #[derive(Drop)]
 pub(crate) struct Solution {
     pub points: u64,
     pub shown: Vec<Shown>,
+}
+
+// The size of the tables that a run begins with. Each row may add a node for each input to the cover of each output: the small
+// ones where all these fit them, and but in mode basis, whose elements need the most nodes, the middle ones where these fit an eighth.
+fn first_bits(pla: &Pla, job: &Job) -> u32
+    requires { MIN_BITS ≤ job.now.nodes }
+    ensures { (MIN_BITS ≤ result) × (result ≤ job.now.nodes) }
+{
+    let nodes = pla.rows.len() as u64 * (pla.inputs * pla.outputs) as u64;
+    if nodes < 1 << SMALL_BITS {
+        job.nodes.min(SMALL_BITS)
+    } else if nodes <= 1 << (MIDDLE_BITS - 3) && job.mode != Mode::Basis {
+        job.nodes.min(MIDDLE_BITS)
+    } else {
+        job.nodes
+    }
+}
+
+// How many workers run a phase on tables of 2^bits slots. On a small table a phase takes less time than a thread takes to start, so
+// there the last phase has two at most, and a phase before it one.
+fn workers_on(job: &Job, bits: u32, is_last: bool) -> u32
+    requires { IsWithin job.now }
+    ensures { (1 ≤ result) × (result ≤ 16) }
+{
+    if SMALL_BITS < bits {
+        job.workers
+    } else if is_last {
+        job.workers.min(2)
+    } else {
+        1
+    }
 }
 
 // The leads of each output in mode basis, where phase 1 fits 2^bits slots and its terms are within the limit. Its table is
@@ -69,11 +100,9 @@ fn leads_on<R: Threads + Sync, P: Pool>(
 {
     let (table, token) = Shared::make(alloc, bits, pla.inputs, first_plan(pla, job.mode))?;
     let mut pass = CachedPass::new(table.pass(token));
-    let first = first_phase(rt, alloc, &mut pass, pool, gate, job.workers, pla, job.mode)?;
-    if first_count(&mut pass, &first.found, job.terms).is_none() {
-        return Err(Stop::Terms);
-    }
-    Ok(lead_lists(alloc, &mut pass, pla, &first.found, job.terms)?)
+    let workers = workers_on(job, bits, false);
+    let first = first_phase(rt, alloc, &mut pass, pool, gate, workers, pla, job.mode)?;
+    lead_lists(alloc, &mut pass, pla, &first.found, job.terms)
 }
 
 // The same from a table of 2^bits slots on, and the size of the table that sufficed.
@@ -105,24 +134,6 @@ fn leads_found<R: Threads + Sync, P: Pool>(
         }
         leads => Ok((leads?, bits)),
     }
-}
-
-// What is printed of what was solved, where its terms are within the limit.
-fn shown_in<S: Store>(
-    alloc: Global,
-    store: &mut S,
-    solved: &[Solved],
-    limit: u64,
-) -> Result<Vec<Shown>, Stop>
-    requires known { All (KnowsSolved (S.state store.old)) solved.now }
-    ensures shown { IfOk result (λ shown. (map shown_answer shown.items ≡ map (answer_in (S.state store.old)) solved.now) × (second_terms (S.state store.old) solved.now ≤ limit)) }
-    ensures full { ¬ IsErrOf result Stop.Full }
-    ensures terms { IsErrOf result Stop.Terms → limit < second_terms (S.state store.old) solved.now }
-{
-    if second_count(store, solved, limit).is_none() {
-        return Err(Stop::Terms);
-    }
-    Ok(shown_of(alloc, store, solved, limit)?)
 }
 
 // How many care points there are.
@@ -178,7 +189,8 @@ fn solution_on<R: Threads + Sync, P: Pool>(
 {
     let (table, token) = Shared::make(alloc, bits, pla.inputs, run_plan(pla, job.mode))?;
     let mut pass = CachedPass::new(table.pass(token));
-    let first = first_phase(rt, alloc, &mut pass, pool, gate, job.workers, pla, job.mode)?;
+    let workers = workers_on(job, bits, job.mode != Mode::Basis);
+    let first = first_phase(rt, alloc, &mut pass, pool, gate, workers, pla, job.mode)?;
     let points = points_counted(&mut pass, pla, job.mode, &first.cares);
     let solved = second_phase(
         rt,
@@ -186,13 +198,13 @@ fn solution_on<R: Threads + Sync, P: Pool>(
         &mut pass,
         pool,
         gate,
-        job.workers,
+        workers_on(job, bits, true),
         pla,
         job.mode,
         &first,
         leads,
     )?;
-    let shown = shown_in(alloc, &mut pass, &solved, job.terms)?;
+    let shown = shown_of(alloc, &mut pass, &solved, job.terms)?;
     Ok(Solution { points, shown })
 }
 
@@ -246,7 +258,7 @@ fn first_leads<R: Threads + Sync, P: Pool>(
     ensures terms { IsErrOf result Stop.Terms → IsDueSolving job.now (description pla.now) (silent (outcomes.Terms job.now.terms)) }
     ensures most { P.done pool.new ≤ P.done pool.old + 2 ^ 25 }
 {
-    let bits = job.nodes.min(SMALL_BITS);
+    let bits = first_bits(pla, job);
     match job.mode {
         Mode::Basis => leads_found(rt, alloc, pool, gate, pla, job, bits),
         Mode::Anf | Mode::Check | Mode::Gen => Ok((no_leads(alloc, pla.outputs)?, bits)),

@@ -4,11 +4,11 @@ ghost use Rattle.std.specs.List.{All, flat_map};
 ghost use Rattle.lattice.specs.Family.{AreDisjoint, Covers, union_of};
 ghost use Rattle.lattice.specs.Basis.{IsLead, basis_element_of, leads_of, standard_of};
 ghost use Rattle.lattice.specs.Rows.{IsConsistent};
-ghost use Rattle.lattice.specs.WorkingLists.{working_set};
+ghost use Rattle.lattice.specs.WorkingLists.{staircase_list, working_set};
 ghost use Rattle.node_store.specs.Stores.{Gives, Grows, IsFull, Knows, family};
 ghost use Rattle.computed_cache.specs.Cached.{cached_state};
 ghost use Rattle.pla_reader.specs.Reading.{description};
-ghost use Rattle.interp_run.specs.Phases.{AreCares, AreDone, IsPart, IsTask, element_list, jobs_of, no_task, part_family, part_list, points_list, task_family, task_list};
+ghost use Rattle.interp_run.specs.Phases.{AreCares, AreDone, IsPart, IsTask, element_list, jobs_of, no_task, part_family, part_list, task_family, task_list};
 
 use crate::phases::Stop;
 use bool_poly::SetOps;
@@ -64,8 +64,8 @@ fn leads_on<S: Store, O: SetOps<S>>(
     requires ready { O.ready ops.old }
     requires zeros { Knows (S.state store.old) care.zeros }
     requires ones { Knows (S.state store.old) care.ones }
-    requires planned { let s = S.state store.old in Covers s.plan (working_set s.vars (points_list s.vars (union_of s.vars (family s care.zeros) (family s care.ones)))) }
-    ensures gives { let s = S.state store.old in let points = union_of s.vars (family s care.zeros) (family s care.ones) in Gives s (S.state store.new) result (leads_of s.vars (standard_of s.vars points)) (working_set s.vars (points_list s.vars points)) }
+    requires planned { let s = S.state store.old in Covers s.plan (working_set s.vars (staircase_list s.vars (union_of s.vars (family s care.zeros) (family s care.ones)))) }
+    ensures gives { let s = S.state store.old in let points = union_of s.vars (family s care.zeros) (family s care.ones) in Gives s (S.state store.new) result (leads_of s.vars (standard_of s.vars points)) (working_set s.vars (staircase_list s.vars points)) }
     ensures ready { O.ready ops.new }
 {
     let points = ops.union(store, care.zeros, care.ones)?;

@@ -7,7 +7,7 @@ use Rattle.lattice.specs.Interpolation.{IsLeast, interpolate, upper_zeros, upper
 use Rattle.lattice.specs.Basis.{standard_of, has_divisors, leads_of, normal_form_of, basis_element_of}
 use Rattle.lattice.specs.Rows.{cube, cover, rows_with, points_where, in_cube}
 use Rattle.lattice.specs.WorkingLists.{working_set, distinct, ones_list, interpolation_list, standard_list, leads_list, normal_form_list}
-use Rattle.lattice.specs.WorkingLists.{basis_element_list, cover_list, care_list, output_list, output_leads_list, output_basis_list}
+use Rattle.lattice.specs.WorkingLists.{basis_element_list, cover_list, care_list, output_list, output_basis_list}
 use Rattle.lattice.specs.WorkingLists.{first_phase, second_phase}
 use Rattle.lattice.specs.declared.row.Row.{Row}
 use Rattle.lattice.specs.declared.kind.Kind.{Kind}
@@ -59,7 +59,7 @@ second_variable_is_least =
 -- how many families the working sets have: of phase 1 for polynomials alone, of phase 1 in mode basis, of phase 2 in mode basis
 counts : ℕ → ℕ → Kind → List Row → List ℕ
 unfolding working_set distinct ones_list interpolation_list standard_list leads_list normal_form_of normal_form_list basis_element_list
-    cover_list care_list output_list output_leads_list output_basis_list first_phase second_phase sub includes interpolate upper_zeros
+    cover_list care_list output_list output_basis_list first_phase second_phase sub includes interpolate upper_zeros
     upper_ones lower_points ones_of standard_of has_divisors leads_of basis_element_of combine family_where numbers_below low_cofactor
     high_cofactor join has value divides cube cover rows_with points_where in_cube
 counts n outputs kind rows =

@@ -248,3 +248,5 @@ pub use Rattle.lattice.proofs.Results.{weight_below}
 pub use Rattle.lattice.proofs.Results.{divides_zero}
 -- A family given by a test has as many members as numbers pass it.
 pub use Rattle.lattice.proofs.Counting.{length_where}
+-- The terms of a polynomial, given from the greatest to the least, are below the bound of its variables.
+pub use Rattle.lattice.proofs.Families.{terms_below}

@@ -17,14 +17,14 @@ use Rattle.pla_reader.specs.declared.refusal.Why.{Why}
 use Rattle.pla_reader.specs.declared.refusal.Why.TheVariants.{Unsupported}
 use Rattle.pla_reader.specs.Description.{FitsSizes}
 use Rattle.pla_reader.specs.Lines.{is_printable, words_of}
-use Rattle.pla_reader.specs.Grammar.{begins_command, arguments_on, arguments_of, number_in, kind_in, is_row, is_end}
+use Rattle.pla_reader.specs.Grammar.{begins_command, arguments_of, number_in, kind_in, is_row, is_end}
 use Rattle.pla_reader.specs.Grammar.{is_unsupported, is_row, sizes_given, symbols, size_fault, kind_fault, names_fault, row_fault}
 use Rattle.pla_reader.specs.Grammar.{command_fault, fault_of}
 use Rattle.pla_reader.specs.Reading.{row_of, rows_of}
 use Rattle.pla_reader.specs.Draft.{Said, LinesSay, WereGiven, FitTogether, WereRead, IsCommandLine}
 use Rattle.pla_reader.proofs.Fitting.{row_fits, ascend_push}
 use Rattle.pla_reader.proofs.Earlier.{same_arguments, first_arguments, row_pushed, no_row_pushed, length-rows_of, still_no_rows, IsRowLine}
-use Rattle.pla_reader.proofs.Earlier.{row_fault_on, row_on}
+use Rattle.pla_reader.proofs.Earlier.{arguments_on, row_fault_on, row_on}
 use Rattle.lattice.specs.declared.limits.TheConstants.{MAX_VARS}
 
 -- ---- options
@@ -170,7 +170,6 @@ module _ (s : Said) (earlier : List (List ℕ)) (read : WereRead s earlier) wher
     blank_fault plain blank = rw (plain, blank) refl
 
     pub read_blank : words_of line ≡ [] → WereRead s lines
-    unfolding arguments_on
     read_blank blank = still (say_same (rw blank refl) (rw blank refl) (rw blank refl) (rw blank refl) (rw blank refl)) (rw blank refl)
 
     -- a row
@@ -184,7 +183,6 @@ module _ (s : Said) (earlier : List (List ℕ)) (read : WereRead s earlier) wher
           refl)
 
       silent : (command : List ℕ) → begins_command command ≡ true → arguments_on command (words_of line) ≡ None
-      unfolding arguments_on
       silent command begins = rw (is.words_are, no_command is.word command is.begins begins) refl
 
       pub read_row : (row : Row) → row_fault (option_zip s.inputs s.outputs) (length s.rows) line ≡ None
@@ -227,8 +225,10 @@ module _ (s : Said) (earlier : List (List ℕ)) (read : WereRead s earlier) wher
       fault_on = rw (is.plain, is.words, is.begins) refl
 
       on : (asked : List ℕ) → arguments_on asked (words_of line) ≡ cond (bytes_eq word asked) (Some arguments) None
-      unfolding arguments_on
-      on asked = rw is.words refl
+      on asked = rw is.words (elim (cases_Bool (bytes_eq word asked)) [
+        | inl same ↦ rw same refl
+        | inr other ↦ rw other refl
+      ])
 
       no_row : is_row line ≡ false
       no_row = rw (is.words, is.begins) refl

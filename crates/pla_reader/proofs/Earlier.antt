@@ -1,8 +1,10 @@
 -- What lines gave, with one more line at their end.
 use Rattle.std.proofs.Common.{◌≡◌, ℕ, suc, ◌+◌, true, false, List, [], ◌∷◌, ◌++◌, length, get_or, map, Option, Some, None, refl, sym, ap}
-use Rattle.std.proofs.Common.{◌∙◌, arith}
-use Rattle.std.specs.Option.{option_or}
-use Rattle.std.specs.List.{filter, enumerate_from, list_all}
+use Rattle.std.proofs.Common.{◌∙◌, Bool, arith, drop, take}
+use Rattle.std.specs.Option.{option_map, option_or}
+use Rattle.std.specs.List.{filter, find, enumerate_from, list_all, list_any}
+use Rattle.std.specs.Str.{bytes_eq}
+use Rattle.std.proofs.lemmas.List.Folds.{find-append}
 use Rattle.std.proofs.lemmas.List.{map-append, length-map, append-nil, nil_from_length}
 use Rattle.std.proofs.lemmas.List.Elements.{filter-append}
 use Rattle.std.proofs.lemmas.Bool.{ne_eqb}
@@ -10,7 +12,7 @@ use Rattle.lattice.specs.declared.kind.Kind.{Kind}
 use Rattle.lattice.specs.declared.row.Row.{Row}
 use Rattle.pla_reader.specs.Lines.{is_printable, words_of}
 use Rattle.pla_reader.specs.Parts.{BeginsWithWord}
-use Rattle.pla_reader.specs.Grammar.{begins_command, arguments_on, arguments_of, is_row, sizes_given, row_fault, fault_of}
+use Rattle.pla_reader.specs.Grammar.{begins_command, arguments_of, is_row, sizes_given, row_fault, fault_of}
 use Rattle.pla_reader.specs.Reading.{row_of, rows_of}
 
 -- ---- arguments
@@ -18,17 +20,24 @@ use Rattle.pla_reader.specs.Reading.{row_of, rows_of}
 or_none : {A : Type 0} (o : Option A) → option_or o None ≡ o
 or_none o = grind arith
 
-or_assoc : {A : Type 0} (a b c : Option A) → option_or a (option_or b c) ≡ option_or (option_or a b) c
-or_assoc a b c = grind arith
+map_or : {A B : Type 0} (f : A → B) (a b : Option A) → option_map f (option_or a b) ≡ option_or (option_map f a) (option_map f b)
+map_or f (Some x) b = refl
+map_or f None b = refl
+
+abbrev pub begins : (command : List ℕ) → (words : List (List ℕ)) → Bool
+begins command words = list_any (λ word. bytes_eq word command) (take 1 words)
+
+-- the words after the command, where it is this one
+abbrev pub arguments_on : (command : List ℕ) → (words : List (List ℕ)) → Option (List (List ℕ))
+arguments_on command words = option_map (drop 1) (find (begins command) (words ∷ []))
 
 module _ (command : List ℕ) where
   pushed : (lines : List (List ℕ)) (line : List ℕ)
       → arguments_of command (lines ++ line ∷ []) ≡ option_or (arguments_of command lines) (arguments_on command (words_of line))
   unfolding arguments_of
-  pushed [] line = or_none (arguments_on command (words_of line))
-  pushed (first ∷ lines) line =
-      ap (option_or (arguments_on command (words_of first))) (pushed lines line)
-      ∙ or_assoc (arguments_on command (words_of first)) (arguments_of command lines) (arguments_on command (words_of line))
+  pushed lines line =
+      ap (λ ls. option_map (drop 1) (find (begins command) ls)) (map-append words_of lines (line ∷ []))
+      ∙ (ap (option_map (drop 1)) (find-append (begins command) (map words_of lines) (words_of line ∷ [])) ∙ map_or (drop 1) _ _)
 
   pub same_arguments : (lines : List (List ℕ)) (line : List ℕ) → arguments_on command (words_of line) ≡ None
       → arguments_of command (lines ++ line ∷ []) ≡ arguments_of command lines

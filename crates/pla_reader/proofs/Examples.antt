@@ -4,7 +4,7 @@ use Rattle.std.specs.Prelude.{codes}
 use Rattle.lattice.specs.declared.kind.Kind.TheVariants.{Fd, Fr}
 use Rattle.pla_reader.specs.declared.refusal.Why.TheVariants.{RowLength, NoSize, NamesEarly, TypeLate}
 use Rattle.pla_reader.specs.Lines.{content, words_of}
-use Rattle.pla_reader.specs.Grammar.{kind_named, arguments_on, arguments_of, symbols, size_fault, kind_fault, names_fault, row_fault}
+use Rattle.pla_reader.specs.Grammar.{kind_named, arguments_of, symbols, size_fault, kind_fault, names_fault, row_fault}
 use Rattle.pla_reader.specs.Grammar.{command_fault, fault_of}
 use Rattle.pla_reader.specs.Reading.{input_mask, output_mask, row_of, rows_of, up_to_end, first_fault, description_of, reading_of}
 use Rattle.pla_reader.specs.Reading.{bytes_taken}
@@ -25,7 +25,7 @@ two_rows : reading_of
       in_names = [];
       out_names = [];
     })
-unfolding reading_of first_fault fault_of description_of up_to_end content words_of kind_named arguments_on arguments_of symbols size_fault
+unfolding reading_of first_fault fault_of description_of up_to_end content words_of kind_named arguments_of symbols size_fault
     kind_fault names_fault row_fault command_fault rows_of row_of input_mask output_mask
 two_rows = refl
 
@@ -40,12 +40,12 @@ with_names : reading_of
       in_names = [];
       out_names = codes "f" ∷ codes "g" ∷ [];
     })
-unfolding reading_of first_fault fault_of description_of up_to_end content words_of kind_named arguments_on arguments_of symbols size_fault
+unfolding reading_of first_fault fault_of description_of up_to_end content words_of kind_named arguments_of symbols size_fault
     kind_fault names_fault row_fault command_fault rows_of row_of input_mask output_mask
 with_names = refl
 
 taken : (bytes_taken (line (codes ".e") ++ line (codes "1")) ≡ 3) × (bytes_taken (line (codes ".i 1") ++ codes ".o 2") ≡ 9)
-unfolding bytes_taken up_to_end content words_of arguments_on
+unfolding bytes_taken up_to_end content words_of
 taken = (refl, refl)
 
 -- no line, too few symbols, names before the sizes, and a type after a row
@@ -55,6 +55,6 @@ refusals : (reading_of [] ≡ Err (record { line = 0; why = NoSize }))
     × (reading_of (line (codes ".i 2") ++ line (codes ".ilb a b") ++ line (codes ".o 1")) ≡ Err (record { line = 2; why = NamesEarly }))
     × (reading_of (line (codes ".i 2") ++ line (codes ".o 1") ++ line (codes "10 1") ++ line (codes ".type fd")) ≡ Err
     (record { line = 4; why = TypeLate }))
-unfolding reading_of first_fault fault_of description_of up_to_end content words_of kind_named arguments_on arguments_of symbols size_fault
+unfolding reading_of first_fault fault_of description_of up_to_end content words_of kind_named arguments_of symbols size_fault
     kind_fault names_fault row_fault command_fault rows_of row_of input_mask output_mask
 refusals = (refl, refl, refl, refl)

@@ -1,8 +1,8 @@
 -- What a line of a description may be, and what is wrong with one. A line here is what stands on it. What the lines before
 -- it gave is asked of the list of them; none of them has a fault.
 use Rattle.std.specs.Prelude.{ℕ, ◌+◌, Bool, false, not, ◌&&◌, ◌||◌, ◌==◌, nat_lt, nat_le, List, [], ◌∷◌, length, take, drop, codes, Option}
-use Rattle.std.specs.Prelude.{Some, None, is_some, is_none, option_and_then, slice_get, slice_index, if◌then◌else◌}
-use Rattle.std.specs.List.{filter, list_all, list_any}
+use Rattle.std.specs.Prelude.{Some, None, is_some, is_none, map, option_and_then, slice_get, slice_index, if◌then◌else◌}
+use Rattle.std.specs.List.{filter, find, list_all, list_any}
 use Rattle.std.specs.Option.{option_or, option_map, option_map_or, option_zip}
 use Rattle.std.specs.Char.{is_ascii_digit}
 use Rattle.std.specs.Str.{bytes_eq}
@@ -19,8 +19,7 @@ use Rattle.lattice.specs.declared.limits.TheConstants.{MAX_VARS}
 
 -- what a table has for a name, or else the other value
 abbrev pub entry_for : {A : Type 0} → A → List (List ℕ × A) → List ℕ → A
-entry_for other [] name = other
-entry_for other (entry ∷ table) name = if bytes_eq name entry.0 then entry.1 else entry_for other table name
+entry_for other table name = option_map_or (λ entry. entry.1) (find (λ entry. bytes_eq name entry.0) table) other
 
 unfoldable pub kind_named : List ℕ → Option Kind
 kind_named = entry_for None ((codes "f", Some F) ∷ (codes "fd", Some Fd) ∷ (codes "fr", Some Fr) ∷ (codes "fdr", Some Fdr) ∷ [])
@@ -31,15 +30,10 @@ begins_command word = slice_index word 0 == 46
 
 -- ---- what lines gave
 
--- the words after the command, where it is this one
-unfoldable pub arguments_on : (command : List ℕ) → (words : List (List ℕ)) → Option (List (List ℕ))
-arguments_on command [] = None
-arguments_on command (word ∷ arguments) = if bytes_eq word command then Some arguments else None
-
--- the arguments of the first line with this command
+-- the arguments of a command, where a line begins with it: those of the first such line
 unfoldable pub arguments_of : (command : List ℕ) → List (List ℕ) → Option (List (List ℕ))
-arguments_of command [] = None
-arguments_of command (line ∷ lines) = option_or (arguments_on command (words_of line)) (arguments_of command lines)
+arguments_of command lines =
+    option_map (drop 1) (find (λ words. list_any (λ word. bytes_eq word command) (take 1 words)) (map words_of lines))
 
 abbrev pub is_given : (command : List ℕ) → List (List ℕ) → Bool
 is_given command lines = is_some (arguments_of command lines)
@@ -121,8 +115,7 @@ row_fault (Some (inputs, outputs)) rows line = first_failed (
 
 -- commands that are known and not supported
 abbrev pub is_unsupported : List ℕ → Bool
-is_unsupported command =
-    list_any (bytes_eq command)
+is_unsupported command = list_any (bytes_eq command)
     (codes ".mv" ∷ codes ".kiss" ∷ codes ".pair" ∷ codes ".phase" ∷ codes ".symbolic" ∷ codes ".symbolic-output" ∷ [])
 
 -- of a command with these arguments

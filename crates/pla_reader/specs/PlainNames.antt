@@ -5,18 +5,14 @@ use Rattle.std.specs.Char.{is_ascii_alphabetic, is_ascii_alphanumeric}
 use Rattle.lattice.specs.Family.{is_distinct}
 use Rattle.lattice.specs.Cofactors.{is_empty}
 
--- whether a plain name may begin with the byte: a letter or _
-abbrev pub begins_name : ℕ → Bool
-begins_name b = is_ascii_alphabetic b || b == 95
-
 -- whether a plain name may go on with the byte: a letter, a digit or one of _ . [ ] < >
 abbrev pub continues_name : ℕ → Bool
 continues_name b = is_ascii_alphanumeric b || list_any (λ c. c == b) (codes "_.[]<>")
 
--- whether the name is plain: 1 to 32 bytes, each of which may stand at its place
+-- whether the name is plain: 1 to 32 bytes, the first of which is a letter or _
 unfoldable pub is_plain : List ℕ → Bool
 is_plain [] = false
-is_plain (first ∷ rest) = nat_lt (length rest) 32 && (begins_name first && list_all continues_name rest)
+is_plain (first ∷ rest) = nat_lt (length rest) 32 && ((is_ascii_alphabetic first || first == 95) && list_all continues_name rest)
 
 -- whether there are names, all of them plain and no two of them the same
 unfoldable pub are_plain : List (List ℕ) → Bool

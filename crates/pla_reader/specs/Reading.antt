@@ -30,17 +30,14 @@ output_mask test (symbol ∷ symbols) = (if test symbol then 1 else 0) + 2 * out
 -- the row on the line of this number: the inputs that it fixes, those that it fixes to 1, and the outputs that have its
 -- cube in ON, in OFF and in DC
 unfoldable pub row_of : (inputs : ℕ) → Kind → (number : ℕ) → (line : List ℕ) → Row
-row_of inputs kind number line =
-    let ins = take inputs (symbols line) in
-    let outs = drop inputs (symbols line) in
-    record {
-      line = number;
-      care = input_mask (is_one_of (codes "01")) ins;
-      value = input_mask (is_one_of (codes "1")) ins;
-      on = output_mask (is_one_of (codes "14")) outs;
-      off = output_mask (λ symbol. has_off kind && is_one_of (codes "0") symbol) outs;
-      dc = output_mask (λ symbol. has_dc kind && is_one_of (codes "-2") symbol) outs;
-    }
+row_of inputs kind number line = let ins = take inputs (symbols line) in let outs = drop inputs (symbols line) in record {
+  line = number;
+  care = input_mask (is_one_of (codes "01")) ins;
+  value = input_mask (is_one_of (codes "1")) ins;
+  on = output_mask (is_one_of (codes "14")) outs;
+  off = output_mask (λ symbol. has_off kind && is_one_of (codes "0") symbol) outs;
+  dc = output_mask (λ symbol. has_dc kind && is_one_of (codes "-2") symbol) outs;
+}
 
 -- the rows among lines, by the numbers of their lines
 unfoldable pub rows_of : (inputs : ℕ) → Kind → List (List ℕ) → List Row
@@ -75,21 +72,18 @@ pub record Description : Type 0 where
 
 -- what lines without a fault say, by the numbers of inputs and outputs
 unfoldable pub description_of : List (List ℕ) → (sizes : ℕ × ℕ) → Description
-description_of lines sizes =
-    let kind = unwrap_or (option_and_then kind_in (arguments_of (codes ".type") lines)) Fd in
-    record {
-      inputs = sizes.0;
-      outputs = sizes.1;
-      kind = kind;
-      rows = rows_of sizes.0 kind lines;
-      in_names = unwrap_or (arguments_of (codes ".ilb") lines) [];
-      out_names = unwrap_or (arguments_of (codes ".ob") lines) [];
-    }
+description_of lines sizes = let kind = unwrap_or (option_and_then kind_in (arguments_of (codes ".type") lines)) Fd in record {
+  inputs = sizes.0;
+  outputs = sizes.1;
+  kind = kind;
+  rows = rows_of sizes.0 kind lines;
+  in_names = unwrap_or (arguments_of (codes ".ilb") lines) [];
+  out_names = unwrap_or (arguments_of (codes ".ob") lines) [];
+}
 
 -- the description at the front of the bytes, or why it is refused: for the first fault of a line, or because a size is missing
 unfoldable pub reading_of : List ℕ → Result Description Refusal
-reading_of bytes =
-    let lines = description_lines bytes in
+reading_of bytes = let lines = description_lines bytes in
     let said = ok_or (option_map (description_of lines) (sizes_given lines)) (record { line = length lines; why = NoSize }) in
     option_map_or Err (first_fault [] lines) said
 

@@ -1,9 +1,10 @@
 //! Names that can be printed, and those that are printed.
-ghost use Rattle.std.specs.Prelude.{◌≡◌, ◌↔◌, IsTrue, IfOk};
+ghost use Rattle.std.specs.Prelude.{◌≡◌, ◌==◌, ◌||◌, ◌↔◌, IsTrue, IfOk};
+ghost use Rattle.std.specs.Char.{is_ascii_alphabetic};
 ghost use Rattle.std.specs.List.{list_all};
 ghost use Rattle.std.specs.Option.{unwrap_or};
 ghost use Rattle.lattice.specs.Family.{includes, is_distinct};
-ghost use Rattle.pla_reader.specs.PlainNames.{begins_name, continues_name, is_plain, ArePlain};
+ghost use Rattle.pla_reader.specs.PlainNames.{continues_name, is_plain, ArePlain};
 ghost use Rattle.pla_reader.specs.PrintedNames.{numbered, printed_names};
 
 use lattice::{Memory, Name, Names};
@@ -11,7 +12,7 @@ use std::alloc::Global;
 
 /// Whether a plain name may begin with the byte.
 fn begins_name(byte: u8) -> bool
-    ensures { result ≡ begins_name byte }
+    ensures { result ≡ (is_ascii_alphabetic byte || byte == 95) }
 {
     byte.is_ascii_alphabetic() || byte == b'_'
 }

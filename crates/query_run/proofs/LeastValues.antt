@@ -6,6 +6,7 @@ use Rattle.lattice.specs.Family.{Family, AreDisjoint, IsFamily, first_only, has,
 use Rattle.lattice.specs.Interpolation.{Fits, IsLeast, interpolate}
 use Rattle.lattice.specs.Polynomial.{ones_of, value}
 use Rattle.lattice.proofs.Polynomials.{All-from_has, All-has, IsFamily-combine, IsFamily-ones_of, IsLeast-interpolate, below_bound}
+use Rattle.lattice.proofs.Polynomials.{IsLeast-unique}
 use Rattle.lattice.proofs.Polynomials.{has-combine, has-family_where_below, value_cases}
 use Rattle.query_run.specs.Reduced.{HasValues, IsReduced, reduced}
 
@@ -63,3 +64,14 @@ module _ (n : ℕ) (given points : Family) (fits : IsFamily n points) where
     values = values_from (interpolate n zeros ones) least.fits;
     least = λ q qf h other. least.least q qf (values_to q h) other;
   }
+
+  as_least : (p : Family) → IsReduced n points given p → IsLeast n zeros ones p
+  as_least p h = record {
+    family = h.family;
+    fits = values_to p h.values;
+    least = λ q qf fits other. h.least q qf (values_from q fits) other;
+  }
+
+  -- there is one such polynomial at most
+  pub reduced_once : (p q : Family) → IsReduced n points given p → IsReduced n points given q → p ≡ q
+  reduced_once p q x y = IsLeast-unique n zeros ones p q (as_least p x) (as_least q y)

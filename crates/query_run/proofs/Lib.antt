@@ -1,6 +1,8 @@
-mod IdealLaws
 mod QueryLines
 mod LeastValues
-mod UsedRows
 mod QueryAnswers
 mod ReducedSteps
+mod PrintedLines
+mod Endings
+mod OneDue
+mod Inhabited

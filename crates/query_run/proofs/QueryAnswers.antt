@@ -1,16 +1,16 @@
 -- The care points of the outputs and the answers to queries, one after the other.
 use Rattle.std.proofs.Common.{◌≡◌, ℕ, zero, suc, ◌+◌, ◌-◌, ◌<◌, ◌≤◌, ◌⊎◌, Ok, Bool, true, List, [], ◌∷◌, ◌++◌, length, take}
 use Rattle.std.proofs.Common.{get_or, ◌^◌, ◌||◌, map, reverse, not, ◌&&◌}
-use Rattle.std.proofs.Common.{refl, sym, ◌∙◌, ap, subst, ⊎_elim, arith}
+use Rattle.std.proofs.Common.{refl, sym, ◌∙◌, ap, ap₂, subst, ⊎_elim, arith}
 use Rattle.std.specs.Prelude.{◌==◌}
-use Rattle.std.specs.List.{All, AllZip, list_any}
+use Rattle.std.specs.List.{All, AllZip, list_any, sum_by}
 use Rattle.std.proofs.lemmas.Bool.{and_parts, eqb-true}
-use Rattle.std.proofs.lemmas.List.{flat_map_more, get_or_append_left, get_or_push, length_push, take_more}
+use Rattle.std.proofs.lemmas.List.{flat_map_more, get_or_append_left, get_or_push, length-map, length_push, take_more}
 use Rattle.std.proofs.lemmas.List.Elements.{All-cons, All-nil}
 use Rattle.std.proofs.lemmas.List.Sums.{sum_by-cons}
 use Rattle.std.proofs.lemmas.List.Folds.{Any-from_list_any}
 use Rattle.std.proofs.lemmas.Slice.Zip.{all_zipped_more}
-use Rattle.lattice.specs.Family.{Covers, Family, includes, is_distinct}
+use Rattle.lattice.specs.Family.{Covers, Family, IsFamily, includes, is_distinct}
 use Rattle.lattice.specs.WorkingLists.{working_set}
 use Rattle.lattice.proofs.Diagrams.{Has-append_left, Has-append_right, covers_append, covers_left, covered_length, covers_nil}
 use Rattle.lattice.proofs.Diagrams.{covers_part, covers_right}
@@ -18,17 +18,18 @@ use Rattle.lattice.proofs.Diagrams.{working_set_is_node_list}
 use Rattle.lattice.proofs.Polynomials.{IsFamily-combine}
 use Rattle.lattice.specs.Rows.{care_ones, care_zeros}
 use Rattle.run_parts.specs.Found.{terms_of}
-use Rattle.query_run.proofs.LeastValues.{reduced_is}
-use Rattle.anf_printer.proofs.PrintedLists.{terms_below}
+use Rattle.query_run.proofs.LeastValues.{reduced_is, reduced_once}
+use Rattle.lattice.proofs.Polynomials.{terms_below}
 use Rattle.node_store.specs.Stores.{Denotes, Gives, Grows, IsSound, Knows, State, family}
 use Rattle.node_store.specs.declared.store.Handle.{Handle}
 use Rattle.node_store.proofs.StoreLaws.{Denotes-family, Denotes-knows, Grows-refl, Grows-trans}
 use Rattle.pla_reader.specs.Reading.{Description}
+use Rattle.point_ideals.specs.Cares.{HoldsPoints, points_list}
+use Rattle.point_ideals.proofs.HeldPoints.{points_later}
 use Rattle.query_run.specs.Answers.{AreAnswered, HoldsAll, IsAnswerTo, answer_terms, answer_to, no_handle, points_of}
 use Rattle.query_run.specs.Answers.{queries_list, query_list, query_nodes}
-use Rattle.query_run.specs.Cares.{HoldsPoints}
 use Rattle.query_run.specs.Queries.{IsQueryOver}
-use Rattle.query_run.specs.Reduced.{points_list, reduced, reduced_list, sum_of_terms}
+use Rattle.query_run.specs.Reduced.{reduced, reduced_list, sum_of_terms}
 use Rattle.query_run.specs.declared.queries.Query.{Query}
 
 -- the list of a query is a part of that of all
@@ -38,11 +39,6 @@ query_listed d [] i q less f h = absurd (omega arith)
 query_listed d (p ∷ queries) zero q less f h = Has-append_left (query_list d p) (queries_list d queries) f h
 query_listed d (p ∷ queries) (suc i) q less f h =
     Has-append_right (query_list d p) (queries_list d queries) f (query_listed d queries i q (omega (arith, less)) f h)
-
--- what holds of care points holds later
-points_later : (s t : State) (d : Description) (output : ℕ) (h : Handle) → Grows s t → HoldsPoints s d output h → HoldsPoints t d output h
-points_later s t d output h grows is =
-    record { denotes = grows.known h.0 _ is.denotes; held = λ f i. grows.held f (is.held f i) }
 
 module _ (d : Description) (queries : List Query) where
   abbrev is_named : ℕ → Bool
@@ -161,7 +157,69 @@ module _ (d : Description) (queries : List Query) where
         answers_later (r ∷ qs) [] z = z
         answers_later (r ∷ qs) (k ∷ hs) z = (gives.grows.known k.0 _ z.0, answers_later qs hs z.1)
 
--- ---- what is counted and printed; t is the state after the answers
+-- ---- what is counted and printed
+
+module _ (d : Description) where
+  points_fit : (q : Query) → IsFamily d.inputs (points_of d q)
+  points_fit q = IsFamily-combine (λ a b. a || b) d.inputs (care_zeros d.inputs d.kind d.rows q.output)
+      (care_ones d.inputs d.kind d.rows q.output)
+
+  answer_right : (q : Query) → IsAnswerTo d q (answer_to d q)
+  answer_right q = reduced_is d.inputs (sum_of_terms d.inputs q.terms) (points_of d q) (points_fit q)
+
+  same_answer : (q : Query) (p : Family) → IsAnswerTo d q p → p ≡ answer_to d q
+  same_answer q p is = reduced_once d.inputs (sum_of_terms d.inputs q.terms) (points_of d q) (points_fit q) p (answer_to d q) is
+      (answer_right q)
+
+  -- answers that were found are answers
+  pub answers_zip : (queries : List Query) (lists : List (List ℕ)) → AllZip (λ q terms. IsAnswerTo d q (reverse terms)) queries lists
+      → AllZip (IsAnswerTo d) queries (map reverse lists)
+  answers_zip [] [] z = tt
+  answers_zip [] (l ∷ ls) z = z
+  answers_zip (q ∷ qs) [] z = z
+  answers_zip (q ∷ qs) (l ∷ ls) z = (z.0, answers_zip qs ls z.1)
+
+  -- each query has an answer
+  pub all_answered : (queries : List Query) → AllZip (IsAnswerTo d) queries (map (answer_to d) queries)
+  all_answered [] = tt
+  all_answered (q ∷ qs) = (answer_right q, all_answered qs)
+
+  -- and one answer
+  pub answers_are : (queries : List Query) (answers : List Family) → AllZip (IsAnswerTo d) queries answers
+      → answers ≡ map (answer_to d) queries
+  answers_are [] [] z = refl
+  answers_are [] (p ∷ ps) z = absurd z
+  answers_are (q ∷ qs) [] z = absurd z
+  answers_are (q ∷ qs) (p ∷ ps) z = ap₂ (λ (x : Family) (xs : List Family). x ∷ xs) (same_answer q p z.0) (answers_are qs ps z.1)
+
+  terms_of_all : (queries : List Query) → sum_by length (map (answer_to d) queries) ≡ answer_terms d queries
+  terms_of_all [] = refl
+  terms_of_all (q ∷ qs) = omega (
+    arith,
+    sum_by-cons length (answer_to d q) (map (answer_to d) qs),
+    sum_by-cons (λ r. length (answer_to d r)) q qs,
+    terms_of_all qs,
+  )
+
+  -- so answers have as many terms as those that are found by families
+  pub answers_count : (queries : List Query) (answers : List Family) → AllZip (IsAnswerTo d) queries answers
+      → sum_by length answers ≡ answer_terms d queries
+  answers_count queries answers z = ap (sum_by length) (answers_are queries answers z) ∙ terms_of_all queries
+
+  -- one for each query
+  pub same_count : (queries : List Query) (answers : List Family) → AllZip (IsAnswerTo d) queries answers
+      → length answers ≡ length queries
+  same_count queries answers z = ap length (answers_are queries answers z) ∙ length-map queries (answer_to d)
+
+  -- and they are polynomials
+  pub answers_over : (queries : List Query) (answers : List Family) → AllZip (IsAnswerTo d) queries answers
+      → All (IsFamily d.inputs) answers
+  answers_over [] [] z = All-nil (IsFamily d.inputs)
+  answers_over [] (p ∷ ps) z = absurd z
+  answers_over (q ∷ qs) [] z = absurd z
+  answers_over (q ∷ qs) (p ∷ ps) z = All-cons (IsFamily d.inputs) p ps z.0.family (answers_over qs ps z.1)
+
+-- t is the state after the answers
 
 module _ (d : Description) (t : State) where
   abbrev Each : List Query → List Handle → Type 0
@@ -185,10 +243,6 @@ module _ (d : Description) (t : State) where
     terms_are qs hs z.1,
   )
 
-  answer_right : (q : Query) → IsAnswerTo d q (answer_to d q)
-  answer_right q = reduced_is d.inputs (sum_of_terms d.inputs q.terms) (points_of d q)
-      (IsFamily-combine (λ a b. a || b) d.inputs (care_zeros d.inputs d.kind d.rows q.output) (care_ones d.inputs d.kind d.rows q.output))
-
   pub lists_right : (queries : List Query) (found : List Handle) (lists : List (List ℕ)) → Each queries found
       → map reverse lists ≡ map (family t) found → AllZip (λ q terms. IsAnswerTo d q (reverse terms)) queries lists
   lists_right [] [] [] z e = tt
@@ -199,7 +253,7 @@ module _ (d : Description) (t : State) where
   lists_right (q ∷ qs) (h ∷ hs) (l ∷ ls) z e =
       let head : reverse l ≡ family t h = cc in
       let rest : map reverse ls ≡ map (family t) hs = cc in
-      (subst (IsAnswerTo d q) (sym (head ∙ Denotes-family t h (answer_to d q) z.0)) (answer_right q), lists_right qs hs ls z.1 rest)
+      (subst (IsAnswerTo d q) (sym (head ∙ Denotes-family t h (answer_to d q) z.0)) (answer_right d q), lists_right qs hs ls z.1 rest)
 
   -- what is held fits the slots
   pub nodes_fit : (queries : List Query) → IsSound t → Covers t.held (working_set d.inputs (queries_list d queries))

@@ -8,8 +8,8 @@ use Rattle.node_store.specs.declared.store.Handle.{Handle}
 use Rattle.pla_reader.specs.Reading.{Description}
 use Rattle.cube_build.specs.declared.rows.CubesRefusal.{CubesRefusal}
 use Rattle.cube_build.specs.declared.rows.CubesRefusal.TheVariants as unbuilt
-use Rattle.query_run.specs.Cares.{HoldsPoints}
-use Rattle.query_run.specs.Reduced.{IsReduced, points_list, reduced, reduced_list, sum_of_terms}
+use Rattle.point_ideals.specs.Cares.{HoldsPoints, points_list}
+use Rattle.query_run.specs.Reduced.{IsReduced, reduced, reduced_list, sum_of_terms}
 use Rattle.query_run.specs.declared.queries.Query.{Query}
 use Rattle.query_run.specs.declared.solving.ReduceRefusal.{ReduceRefusal}
 use Rattle.query_run.specs.declared.solving.ReduceRefusal.TheVariants.{Exhausted, Memory}

@@ -1,23 +1,36 @@
--- Laws of ideals of points. The functions of src/laws.rt have them as their contracts.
-use Rattle.std.specs.Prelude.{ℕ, ◌^◌, ◌<◌, ◌↔◌, List}
-use Rattle.lattice.specs.Basis.{IsLead, IsReducedBasis}
-use Rattle.lattice.specs.Family.{Family, IsFamily, inter_of, union_of}
-use Rattle.query_run.specs.Ideals.{Ideal, Intersection, IsLeadOf, IsReducedBasisOf, Sum}
+-- Laws of what is due. The functions of src/laws.rt have them as their contracts.
+use Rattle.std.specs.Prelude.{◌≡◌, ◌++◌, ℕ, List, codes}
+use Rattle.pla_reader.specs.Reading.{description}
+use Rattle.pla_reader.specs.declared.pla.Pla.{Pla}
+use Rattle.point_ideals.specs.declared.joined.Joining.TheVariants.{Meet, Union}
+use Rattle.run_parts.specs.Descriptions.{Describes}
+use Rattle.query_run.specs.Due.{Due, IsDue, done, silent}
+use Rattle.query_run.specs.declared.mode.QueryMode.{QueryMode}
+use Rattle.query_run.specs.declared.mode.QueryMode.TheVariants.{Join, Reduce}
+use Rattle.query_run.specs.declared.outcome.Outcome.TheVariants as ends
+use Rattle.query_run.specs.declared.queries.QueryWhy.TheVariants.{TermOrder}
 
--- what is common to the ideals of two sets of points vanishes on both
-abbrev pub IntersectionIsOfUnion : Type 0
-IntersectionIsOfUnion = (n : ℕ) (points others : Family) → IsFamily n points → IsFamily n others → (p : Family)
-    → Intersection (Ideal n points) (Ideal n others) p ↔ Ideal n (union_of n points others) p
+-- no more than one thing is due for a mode and bytes
+abbrev pub OneIsDue : Type 0
+OneIsDue = (mode : QueryMode) (bits : ℕ) (bytes : List ℕ) (a b : Due) → IsDue mode bits bytes a → IsDue mode bits bytes b → a ≡ b
 
--- what vanishes on the common points of two sets is a sum of what vanishes on the one and what vanishes on the other
-abbrev pub SumIsOfIntersection : Type 0
-SumIsOfIntersection = (n : ℕ) (points others : Family) → IsFamily n points → IsFamily n others → (p : Family)
-    → Sum n (Ideal n points) (Ideal n others) p ↔ Ideal n (inter_of n points others) p
+-- and no less, where the bytes describe this
+abbrev pub SomeIsDue : Pla → Type 0
+SomeIsDue p = (mode : QueryMode) (bits : ℕ) (bytes : List ℕ) → Describes bytes (description p) → (due : Due) × IsDue mode bits bytes due
 
--- the leads of the ideal of points are the leads of the points, and its reduced bases are those of the points
-abbrev pub LeadsOfIdeal : Type 0
-LeadsOfIdeal = (n : ℕ) (points : Family) → IsFamily n points → (m : ℕ) → IsLeadOf (Ideal n points) m ↔ ((m < 2 ^ n) × IsLead n points m)
+-- a file of two points over two inputs
+abbrev pub two_points : List ℕ
+two_points = codes ".i 2\n.o 1\n.ilb a b\n.ob f\n.type fr\n11 1\n00 0\n.e\n"
 
-abbrev pub BasisOfIdeal : Type 0
-BasisOfIdeal = (n : ℕ) (points : Family) → IsFamily n points → (basis : List Family)
-    → IsReducedBasisOf (Ideal n points) basis ↔ IsReducedBasis n points basis
+-- and one of three points, of which each of two outputs has two
+abbrev pub two_outputs : List ℕ
+two_outputs = codes ".i 2\n.o 2\n.ilb a b\n.ob f g\n.type fr\n11 1-\n00 00\n10 -1\n.e\n"
+
+-- what is due for them: so the premises of the clauses of `nf_run` are met in each mode
+abbrev pub DueForExamples : Type 0
+DueForExamples =
+    IsDue Reduce 19 (two_points ++ codes "f = a\nf = a*b + 1\n") (done (codes "f = b\nf = b + 1\n"))
+    × IsDue Reduce 19 (two_points ++ codes "f = b + a\n") (silent (ends.QueryText 1 TermOrder))
+    × IsDue (Join Meet) 19 two_points (silent ends.TwoOutputs)
+    × IsDue (Join Union) 19 two_outputs (done (codes "0 = a*b + b\n"))
+    × IsDue (Join Meet) 19 two_outputs (done (codes "0 = b\n0 = a\n"))

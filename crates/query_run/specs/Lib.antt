@@ -1,6 +1,7 @@
 pub mod Answers
-pub mod Cares
-pub mod Ideals
-pub mod Laws
 pub mod Queries
 pub mod Reduced
+pub mod Due
+pub mod Laws
+pub mod Parts
+pub mod Run

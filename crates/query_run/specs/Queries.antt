@@ -6,10 +6,10 @@ use Rattle.lattice.specs.Cofactors.{is_empty}
 use Rattle.lattice.specs.Family.{Family, IsFamily, includes}
 use Rattle.pla_reader.specs.Grammar.{first_failed}
 use Rattle.pla_reader.specs.Lines.{lines_of}
-use Rattle.pla_reader.specs.declared.pla.Pla.{Pla}
+use Rattle.pla_reader.specs.Reading.{Description}
 use Rattle.pla_reader.specs.declared.refusal.LineRefusal.{LineRefusal}
 use Rattle.pla_reader.specs.declared.refusal.LineRefusal.TheVariants as line_refusals
-use Rattle.pla_reader.specs.PrintedNames.{input_names, output_names}
+use Rattle.pla_reader.specs.PrintedNames.{printed_names}
 use Rattle.cert_check.specs.Reading.{are_known, are_ordered, bare, is_line, left_of, monomials_of, place_of, right_of, terms_in, words}
 use Rattle.cert_check.specs.declared.refusal.AnswerWhy.{AnswerWhy}
 use Rattle.query_run.specs.declared.queries.Query.{Query}
@@ -47,8 +47,9 @@ queries_on ins outs count read (line ∷ lines) =
     (queries_on ins outs (count + 1) (read ++ query_of ins outs (words (bare line)) ∷ []) lines)
 
 -- what the text asks of a description, or why it is refused
-abbrev pub query_reading : Pla → List ℕ → Reading
-query_reading p text = queries_on (input_names p) (output_names p) 0 [] (lines_of text)
+abbrev pub query_reading : Description → List ℕ → Reading
+query_reading d text =
+    queries_on (printed_names (codes "x") d.inputs d.in_names) (printed_names (codes "f") d.outputs d.out_names) 0 [] (lines_of text)
 
 -- the result gives what was read, unless memory ran out
 abbrev pub GivesQueries : Result (List Query) QueryRefusal → Reading → Type 0

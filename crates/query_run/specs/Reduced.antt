@@ -4,8 +4,7 @@ use Rattle.std.specs.List.{All}
 use Rattle.lattice.specs.Family.{Family, IsFamily, family_where, has, minus_of}
 use Rattle.lattice.specs.Interpolation.{interpolate}
 use Rattle.lattice.specs.Polynomial.{IsLess, ones_of, value}
-use Rattle.lattice.specs.WorkingLists.{care_list, care_set, interpolation_list, ones_list}
-use Rattle.pla_reader.specs.Reading.{Description}
+use Rattle.lattice.specs.WorkingLists.{interpolation_list, ones_list}
 
 -- p has the values of the given polynomial at the points
 abbrev pub HasValues : List ℕ → Family → Family → Type 0
@@ -45,8 +44,3 @@ values_list n given points =
 
 abbrev pub reduced_list : ℕ → List ℕ → Family → List Family
 reduced_list n terms points = terms_list n terms ++ values_list n (sum_of_terms n terms) points
-
--- of the care points of an output
-abbrev pub points_list : Description → ℕ → List Family
-points_list d output =
-    care_list d.inputs d.kind d.rows output ++ care_set d.inputs d.kind d.rows output ∷ []

@@ -5,16 +5,16 @@ ghost use Rattle.lattice.specs.Family.{Covers};
 ghost use Rattle.lattice.specs.WorkingLists.{working_set};
 ghost use Rattle.node_store.specs.Stores.{Grows, IsFull};
 ghost use Rattle.pla_reader.specs.Reading.{description};
+ghost use Rattle.point_ideals.specs.Cares.{HoldsPoints};
 ghost use Rattle.query_run.specs.Answers.{AreAnswered, HoldsAll, queries_list};
-ghost use Rattle.query_run.specs.Cares.{HoldsPoints};
 ghost use Rattle.query_run.specs.Queries.{IsQueryOver};
 
-use crate::cares::care_points;
 use crate::queries::Query;
 use crate::reduction::reduced;
 use cube_build::CubesRefusal;
 use node_store::{Handle, Store};
 use pla_reader::Pla;
+use point_ideals::care_points;
 use std::alloc::Global;
 
 /// Whether a query is on the output.

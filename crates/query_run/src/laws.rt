@@ -1,22 +1,22 @@
 //! Functions that do nothing. Their contracts are the laws of `specs/Laws.antt`, so a check proves these.
-ghost use Rattle.query_run.specs.Laws.{BasisOfIdeal, IntersectionIsOfUnion, LeadsOfIdeal, SumIsOfIntersection};
+ghost use Rattle.query_run.specs.Laws.{DueForExamples, OneIsDue, SomeIsDue};
 
-/// The intersection of the ideals of two sets of points is the ideal of their union.
-pub fn intersection_is_of_union()
-    ensures { IntersectionIsOfUnion }
+use cube_sets::conflict;
+use pla_reader::Pla;
+
+/// For a mode and bytes one outcome, with its text, is due at most.
+pub fn one_is_due()
+    ensures { OneIsDue }
 {}
 
-/// Their sum is the ideal of the intersection of the two sets.
-pub fn sum_is_of_intersection()
-    ensures { SumIsOfIntersection }
-{}
+/// For a mode and bytes that describe the file, one is due at least. Where the bytes have no description, their refusal is due.
+pub fn some_is_due(pla: &Pla)
+    ensures { SomeIsDue pla.now }
+{
+    let _ = conflict(pla);
+}
 
-/// The leads of the ideal of points are the leads of the points.
-pub fn leads_of_ideal()
-    ensures { LeadsOfIdeal }
-{}
-
-/// The reduced bases of the ideal of points are those of the points.
-pub fn basis_of_ideal()
-    ensures { BasisOfIdeal }
+/// What is due for worked files in each mode, for a query that is refused, and for a file with one output in a mode that needs two.
+pub fn due_for_examples()
+    ensures { DueForExamples }
 {}

@@ -4,6 +4,7 @@ ghost use Rattle.std.specs.List.{All};
 ghost use Rattle.cert_check.specs.Reading.{words};
 ghost use Rattle.pla_reader.specs.Lines.{lines_of};
 ghost use Rattle.pla_reader.specs.Parts.{Stops};
+ghost use Rattle.pla_reader.specs.Reading.{description};
 ghost use Rattle.lattice.specs.declared.limits.TheConstants.{MAX_VARS};
 ghost use Rattle.query_run.specs.Queries.{GivesQueries, IsQueryOver, order_refusal, queries_on, query_fault, query_of, query_reading};
 
@@ -94,7 +95,7 @@ fn read_lines(
 /// lines are counted.
 pub fn read_queries(alloc: Global, p: &Pla, text: &[u8]) -> Result<Queries, QueryRefusal>
     requires { length text.now < 2 ^ 32 }
-    ensures reading { GivesQueries result (query_reading p.now text.now) }
+    ensures reading { GivesQueries result (query_reading (description p.now) text.now) }
     ensures over { IfOk result (All (IsQueryOver p.now.inputs p.now.outputs)) }
 {
     let for_inputs = names_in_place(alloc, "x", p.inputs, &p.in_names)?;

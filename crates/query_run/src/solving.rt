@@ -14,7 +14,8 @@ use cube_build::CubesRefusal;
 use lattice::{Memory, MonoLists, Plan, Planned, plan_of};
 use node_store::{PlainStore, Store};
 use pla_reader::Pla;
-use run_parts::{count_terms, lists_of};
+use run_parts::lists_of;
+use set_algebra::WalkRefusal;
 use std::alloc::Global;
 
 /// Why queries were not answered.
@@ -37,6 +38,20 @@ impl From<CubesRefusal> for ReduceRefusal {
         match refusal {
             CubesRefusal::Full => ReduceRefusal::Exhausted,
             CubesRefusal::Memory => ReduceRefusal::Memory,
+        }
+    }
+}
+
+impl From<WalkRefusal> for ReduceRefusal {
+    ghost use Rattle.set_algebra.specs.declared.counted.WalkRefusal.TheVariants.{Over, Memory as NoMemory};
+    ghost use Rattle.query_run.specs.declared.solving.ReduceRefusal.TheVariants.{Terms, Memory as OutOfMemory};
+
+    ghost from_gives = { λ refusal e. (refusal ≡ Over → e ≡ Terms) × (refusal ≡ NoMemory → e ≡ OutOfMemory) };
+
+    fn from(refusal: WalkRefusal) -> Self {
+        match refusal {
+            WalkRefusal::Over => ReduceRefusal::Terms,
+            WalkRefusal::Memory => ReduceRefusal::Memory,
         }
     }
 }
@@ -86,10 +101,8 @@ fn reduce_in<S: Store>(
     ensures terms { IsErrOf result ReduceRefusal.Terms → (query_nodes (description p.now) queries.now ≤ (S.state store.old).capacity) × (limit < answer_terms (description p.now) queries.now) }
 {
     let found = answered(alloc, store, p, queries)?;
-    match count_terms(store, 0, &found, limit) {
-        None => Err(ReduceRefusal::Terms),
-        Some(_) => Ok(lists_of(alloc, store, &found, limit)?),
-    }
+    let mut left = limit;
+    Ok(lists_of(alloc, store, &found, &mut left)?)
 }
 
 /// Answers the queries on a store of 2^bits slots: for each the terms, from the greatest to the least, of the least polynomial

@@ -1,12 +1,19 @@
 ghost use Rattle.std.specs.Prelude.{◌<◌, length};
 
-use crate::{QueryRefusal, QueryWhy, read_queries, reduce};
-use lattice::{Mono, MonoLists};
+use crate::{QueryRefusal, QueryWhy, nf_run, read_queries, reduce};
+use lattice::{Mono, MonoLists, Words};
+use outside::{MemSink, MemSource};
 use pla_reader::read;
 use std::alloc::Global;
+use std::process::Abort;
 use std::test::Fail;
 
 const FILE: &[u8] = b".i 2\n.o 2\n.ilb a b\n.ob s c\n.e\n";
+
+// Two care points of one output; and three points, two of which are care points of each of two outputs.
+const TWO_POINTS: &str = ".i 2\n.o 1\n.type fr\n11 1\n00 0\n.e\n";
+
+const TWO_OUTPUTS: &str = ".i 2\n.o 2\n.type fr\n11 1-\n00 00\n10 -1\n.e\n";
 
 // Why the queries on a file of two inputs and two outputs are refused, if they are.
 fn refused(alloc: Global, text: &[u8]) -> Result<Option<QueryRefusal>, Fail>
@@ -87,6 +94,128 @@ fn outputs_in_any_order(rt: HostRuntime) -> Result<(), Fail> {
     assert_eq!(rt; lists.len(), expected.len());
     for (terms, wanted) in lists.as_slice().iter().zip(expected) {
         assert_eq!(rt; terms.as_slice(), wanted);
+    }
+    Ok(())
+}
+
+const NEVER: u64 = 1_000_000;
+
+// A run with the words on a text, where one read and one write may fail: its status, what it wrote and its message are these.
+fn check<R: Abort>(
+    rt: &R,
+    alloc: Global,
+    line: &str,
+    text: &str,
+    fails: (u64, u64),
+    want: (u8, &str, &str),
+) -> Result<(), Fail> {
+    let mut words = Words::new(alloc);
+    for word in line.split(' ') {
+        words.push(word).map_err(|_| "memory")?;
+    }
+    let mut source = MemSource::make(alloc, text.as_bytes(), 4, &[fails.0]).map_err(|_| "memory")?;
+    let mut out = MemSink::make(alloc, 200, 4, &[fails.1]).map_err(|_| "memory")?;
+    let mut err = MemSink::make(alloc, 200, 7, &[]).map_err(|_| "memory")?;
+    let status = nf_run(alloc, &words, 8, &mut source, &mut out, &mut err);
+    assert_eq!(rt; status, want.0, "{line} at {text}");
+    assert_eq!(rt; out.bytes(), want.1.as_bytes(), "{line} at {text}");
+    assert_eq!(rt; err.bytes(), want.2.as_bytes(), "{line} at {text}");
+    Ok(())
+}
+
+// Each line of queries after one description, and the status, answers and message.
+#[test]
+fn runs_of_mode_reduce(rt: HostRuntime) -> Result<(), Fail> {
+    for (queries, status, answers, message) in [
+        ("f1 = x1\nf1 = x1*x2 + 1\n", 0, "f1 = x2\nf1 = x2 + 1\n", ""),
+        (
+            "f1 = x1*x2 + 1\nf1 = x1\nf1 = 0",
+            0,
+            "f1 = x2 + 1\nf1 = x2\nf1 = 0\n",
+            "",
+        ),
+        ("", 0, "", ""),
+        ("f1 = x2 + x1\n", 3, "", "nfq: query line 1: TermOrder\n"),
+        (
+            "f1 = x1\n\nf2 = x1\n",
+            3,
+            "",
+            "nfq: query line 3: UnknownName\n",
+        ),
+    ] {
+        let alloc = rt.alloc();
+        let text = format!(in alloc; "{TWO_POINTS}{queries}")?;
+        check(
+            &rt,
+            alloc,
+            "nfq reduce",
+            text.as_str(),
+            (NEVER, NEVER),
+            (status, answers, message),
+        )?;
+    }
+    Ok(())
+}
+
+// The other modes, the statuses of bad words and bad descriptions, and those of faults.
+#[test]
+fn other_runs(rt: HostRuntime) -> Result<(), Fail> {
+    let usage = "nfq: usage: nfq reduce|union|meet\n";
+    let clash = ".i 2\n.o 2\n.type fr\n1- 1-\n-1 0-\n";
+    for (line, text, fails, want) in [
+        (
+            "nfq union",
+            TWO_OUTPUTS,
+            (NEVER, NEVER),
+            (0, "0 = x1*x2 + x2\n", ""),
+        ),
+        (
+            "nfq meet",
+            TWO_OUTPUTS,
+            (NEVER, NEVER),
+            (0, "0 = x2\n0 = x1\n", ""),
+        ),
+        (
+            "nfq meet",
+            TWO_POINTS,
+            (NEVER, NEVER),
+            (3, "", "nfq: two outputs are needed\n"),
+        ),
+        ("nfq", TWO_OUTPUTS, (NEVER, NEVER), (2, "", usage)),
+        ("nfq meets", TWO_OUTPUTS, (NEVER, NEVER), (2, "", usage)),
+        ("nfq meet meet", TWO_OUTPUTS, (NEVER, NEVER), (2, "", usage)),
+        (
+            "nfq union",
+            "",
+            (NEVER, NEVER),
+            (3, "", "nfq: line 0: NoSize\n"),
+        ),
+        (
+            "nfq union",
+            clash,
+            (NEVER, NEVER),
+            (4, "", "nfq: output 1: on line 4, off line 5\n"),
+        ),
+        (
+            "nfq reduce",
+            clash,
+            (NEVER, NEVER),
+            (4, "", "nfq: output 1: on line 4, off line 5\n"),
+        ),
+        (
+            "nfq union",
+            TWO_OUTPUTS,
+            (2, NEVER),
+            (8, "", "nfq: read fault\n"),
+        ),
+        (
+            "nfq union",
+            TWO_OUTPUTS,
+            (NEVER, 2),
+            (9, "0 = ", "nfq: write fault\n"),
+        ),
+    ] {
+        check(&rt, rt.alloc(), line, text, fails, want)?;
     }
     Ok(())
 }

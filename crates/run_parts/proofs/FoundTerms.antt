@@ -1,14 +1,21 @@
--- Sums of terms over the elements of a list so far, what a store knows of them later, and the terms of one more polynomial.
+-- Sums of terms over the elements of a list so far, what a store knows of them later, the terms of one more polynomial, working
+-- sets that are held, and errors that are passed on.
 use Rattle.std.proofs.Common.{◌≡◌, ℕ, ◌+◌, ◌<◌, ◌≤◌, List, [], ◌∷◌, length, take, get_or, ap, sym, refl, arith, ◌++◌, map, reverse}
-use Rattle.std.proofs.Common.{ap₂, ◌∙◌}
+use Rattle.std.proofs.Common.{ap₂, ◌∙◌, true, not, ◌&&◌, Result, Ok, Err}
+use Rattle.std.specs.Result.{IsErrAnd, IsErrOf}
 use Rattle.std.specs.List.{All, sum_by}
+use Rattle.std.proofs.lemmas.Bool.{and_parts}
 use Rattle.std.proofs.lemmas.List.Sums.{sum_by-cons, sum_by_more, sum_by_more_le}
 use Rattle.std.proofs.lemmas.List.Elements.{All-head, All-tail, All-weaker}
 use Rattle.std.proofs.lemmas.List.{map_more, map_push, reverse-reverse}
-use Rattle.lattice.specs.Family.{Family}
-use Rattle.node_store.specs.Stores.{State, Knows, family, Grows}
+use Rattle.lattice.specs.Family.{Covers, Family, includes, is_distinct}
+use Rattle.lattice.specs.WorkingLists.{working_set}
+use Rattle.lattice.proofs.Diagrams.{covered_length, working_set_is_node_list}
+use Rattle.node_store.specs.Stores.{State, IsSound, Knows, family, Grows}
 use Rattle.node_store.proofs.StoreLaws.{Grows-family, Grows-knows}
 use Rattle.node_store.specs.declared.store.Handle.{Handle}
+use Rattle.set_algebra.specs.declared.counted.WalkRefusal.{WalkRefusal}
+use Rattle.set_algebra.specs.declared.counted.WalkRefusal.TheVariants.{Over, Memory}
 use Rattle.run_parts.specs.Found.{terms_of}
 
 -- what is there where an index is out of range
@@ -65,3 +72,27 @@ pub families_later : (s t : State) (hs : List Handle) → Grows s t → All (Kno
 families_later s t [] grows known = refl
 families_later s t (h ∷ hs) grows known = ap₂ (λ (x : Family) (xs : List Family). x ∷ xs)
     (Grows-family s t h grows (All-head (Knows s) h hs known)) (families_later s t hs grows (All-tail (Knows s) h hs known))
+
+-- no family stands in a working set twice
+pub working_set_is_distinct : (n : ℕ) (list : List Family) → is_distinct (working_set n list) ≡ true
+working_set_is_distinct n list =
+    (and_parts (is_distinct (working_set n list)) (not (includes (working_set n list) []) && not (includes (working_set n list) (0 ∷ [])))
+    (working_set_is_node_list n list)).0
+
+-- a working set that is held fits into the slots
+pub fits : (s : State) (n : ℕ) (list : List Family) → IsSound s → Covers s.held (working_set n list)
+    → length (working_set n list) ≤ s.capacity
+fits s n list ok held = omega (arith, covered_length (working_set n list) s.held (working_set_is_distinct n list) held, ok.room)
+
+-- an error that is passed on is the same
+pub same_error : {T E : Type 0} (r : Result T E) (x y : E) → IsErrAnd r (λ e. e ≡ x) → IsErrOf r y → x ≡ y
+same_error (Ok t) x y passed is = cc
+same_error (Err e) x y passed is = let same : e ≡ y = cc in sym passed ∙ same
+
+-- a walk that ended in an error which is passed on as `over` was over its limit
+pub walk_was_over : {T E : Type 0} (r : Result T E) (w : WalkRefusal) (over memory : E)
+    → IsErrAnd r (λ e. (w ≡ Over → e ≡ over) × (w ≡ Memory → e ≡ memory)) → (memory ≡ over → ⊥) → IsErrOf r over → w ≡ Over
+walk_was_over r Over over memory passed apart is = refl
+walk_was_over (Ok t) Memory over memory passed apart is = cc
+walk_was_over (Err e) Memory over memory passed apart is =
+    let same : e ≡ over = cc in absurd (apart (sym (passed.1 refl) ∙ same))

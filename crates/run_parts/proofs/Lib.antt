@@ -1,2 +1,3 @@
 pub mod FoundTerms
 mod PointLeads
+pub mod Runs

@@ -1,5 +1,5 @@
 //! The description that the bytes of a source begin with.
-ghost use Rattle.std.specs.Prelude.{◌≡◌, IfErr, IfOk};
+ghost use Rattle.std.specs.Prelude.{◌≡◌, IfErr, IfOk, drop};
 ghost use Rattle.pla_reader.specs.Reading.{bytes_taken, description};
 ghost use Rattle.run_parts.specs.Descriptions.{Describes, Undescribes};
 
@@ -37,4 +37,11 @@ pub fn described(alloc: Global, bytes: &[u8]) -> Result<(Pla, usize), DescribeRe
         }),
         Err(ReadRefusal::Memory) => Err(DescribeRefusal::Memory),
     }
+}
+
+/// The bytes behind the first ones, of which there may be fewer.
+pub fn behind(bytes: &[u8], taken: usize) -> &[u8]
+    ensures { result.now ≡ drop taken bytes.now }
+{
+    bytes.get(taken..).unwrap_or(&[])
 }

@@ -1,15 +1,20 @@
-//! What each program does with a description: it reads one, and finds, counts and lists families of its points.
+//! What each program does: it takes its words, reads a description, finds, counts and lists families of its points, and tells in a line
+//! how the run ended.
 #![tactic(auto)]
 
 mod counts;
 mod describe;
 mod leads;
+mod lines;
 mod listed;
+mod words;
 
 pub use crate::counts::count_terms;
-pub use crate::describe::{DescribeRefusal, MOST_BYTES, described};
+pub use crate::describe::{DescribeRefusal, MOST_BYTES, behind, described};
 pub use crate::leads::leads_of_points;
-pub use crate::listed::{lists_of, terms_of};
+pub use crate::lines::{LONGEST_LINE, contradiction_line, count_line, fixed_line, refusal_line};
+pub use crate::listed::{lists_of, lists_upto, terms_of};
+pub use crate::words::words_of;
 
 #[cfg(test)]
 mod tests;

@@ -1,48 +1,67 @@
-//! The terms of polynomials, from their diagrams.
-ghost use Rattle.std.specs.Prelude.{◌≡◌, ◌≤◌, IfOk, length, map, reverse};
+//! The terms of polynomials, from their diagrams, as long as they are within a limit.
+ghost use Rattle.std.specs.Prelude.{◌≡◌, ◌<◌, ◌≤◌, ◌+◌, IfOk, IsErrOf, OnOk, length, map, reverse};
 ghost use Rattle.std.specs.List.{All};
 ghost use Rattle.node_store.specs.Stores.{Knows, Reads, family};
 ghost use Rattle.run_parts.specs.Found.{terms_of};
 
-use lattice::{Memory, MonoLists, Monos};
+use lattice::{MonoLists, Monos};
 use node_store::{Handle, Store};
 use set_algebra::{WalkRefusal, walk_upto};
 use std::alloc::Global;
 
-/// The terms of a polynomial, of which there are at most `limit`, from the greatest to the least.
+/// The terms of a polynomial, from the greatest to the least. `left` is how many terms may be listed, which it lessens by those
+/// that it lists; `Over` exactly where there are more.
 pub fn terms_of<S: Store>(
     alloc: Global,
     store: &mut S,
     polynomial: Handle,
-    limit: u64,
-) -> Result<Monos, Memory>
-    requires known { Knows (S.state store.old) polynomial }
-    requires few { length (family (S.state store.old) polynomial) ≤ limit }
+    left: &mut u64,
+) -> Result<Monos, WalkRefusal>
+    requires { Knows (S.state store.old) polynomial }
     ensures reads { Reads (S.state store.old) (S.state store.new) }
     ensures terms { IfOk result (λ terms. terms ≡ reverse (family (S.state store.old) polynomial)) }
+    ensures left { OnOk result (left.new + length (family (S.state store.old) polynomial) ≡ left.old) }
+    ensures over { IsErrOf result WalkRefusal.Over → left.old < length (family (S.state store.old) polynomial) }
 {
-    match walk_upto(alloc, store, polynomial, limit) {
-        Ok(terms) => Ok(terms),
-        Err(WalkRefusal::Over) => unreachable!(),
-        Err(WalkRefusal::Memory) => Err(Memory),
-    }
+    let terms = walk_upto(alloc, store, polynomial, *left)?;
+    *left -= terms.len() as u64;
+    Ok(terms)
 }
 
-/// The terms of each polynomial, where all have at most `limit` of them, from the greatest to the least.
+/// The terms of each polynomial, from the greatest to the least. `left` is how many terms all of them may have, which it lessens
+/// by those that it lists; `Over` exactly where they have more.
 pub fn lists_of<S: Store>(
     alloc: Global,
     store: &mut S,
     polynomials: &[Handle],
-    limit: u64,
-) -> Result<MonoLists, Memory>
-    requires known { All (Knows (S.state store.old)) polynomials.now }
-    requires few { terms_of (S.state store.old) polynomials.now ≤ limit }
+    left: &mut u64,
+) -> Result<MonoLists, WalkRefusal>
+    requires { All (Knows (S.state store.old)) polynomials.now }
     ensures reads { Reads (S.state store.old) (S.state store.new) }
     ensures lists { IfOk result (λ lists. map reverse lists ≡ map (family (S.state store.old)) polynomials.now) }
+    ensures left { OnOk result (left.new + terms_of (S.state store.old) polynomials.now ≡ left.old) }
+    ensures over { IsErrOf result WalkRefusal.Over → left.old < terms_of (S.state store.old) polynomials.now }
 {
     let mut lists = MonoLists::new(alloc);
     for polynomial in polynomials {
-        lists.push(terms_of(alloc, store, *polynomial, limit)?)?;
+        lists.push(terms_of(alloc, store, *polynomial, left)?)?;
     }
     Ok(lists)
+}
+
+/// The terms of each polynomial, from the greatest to the least; `Over` exactly where they have more than `limit` terms in all.
+pub fn lists_upto<S: Store>(
+    alloc: Global,
+    store: &mut S,
+    polynomials: &[Handle],
+    limit: u64,
+) -> Result<MonoLists, WalkRefusal>
+    requires { All (Knows (S.state store.old)) polynomials.now }
+    ensures reads { Reads (S.state store.old) (S.state store.new) }
+    ensures lists { IfOk result (λ lists. map reverse lists ≡ map (family (S.state store.old)) polynomials.now) }
+    ensures within { OnOk result (terms_of (S.state store.old) polynomials.now ≤ limit) }
+    ensures over { IsErrOf result WalkRefusal.Over → limit < terms_of (S.state store.old) polynomials.now }
+{
+    let mut left = limit;
+    lists_of(alloc, store, polynomials, &mut left)
 }

@@ -31,8 +31,7 @@ left_after note states = map (after_note note) (filter (λ s. nat_lt 0 s.patienc
 
 -- those that are left after some notes: those with patience for each, told of all
 abbrev pub left_after_all : List Note → List WatcherState → List WatcherState
-left_after_all notes states =
-    map (λ s. record { told = s.told ++ notes; patience = s.patience - length notes })
+left_after_all notes states = map (λ s. record { told = s.told ++ notes; patience = s.patience - length notes })
     (filter (λ s. nat_le (length notes) s.patience) states)
 
 -- the line on a note

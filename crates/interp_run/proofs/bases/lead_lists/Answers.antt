@@ -1,32 +1,55 @@
-use Rattle.std.proofs.Common.{◌≤◌, ap, map, subst, sym, ◌∙◌}
-use Rattle.std.specs.List.{All}
+use Rattle.std.proofs.Common.{Err, ap, arith, map, ◌∙◌}
 use Rattle.std.proofs.lemmas.List.Elements.{All-drop}
 use Rattle.lattice.specs.WorkingLists.{output_numbers}
 use Rattle.node_store.specs.Stores.{Knows, family}
 use Rattle.pla_reader.specs.Reading.{description}
-use Rattle.std.proofs.lemmas.Result.{IfOk-weaker}
+use Rattle.run_parts.proofs.FoundTerms.{walk_was_over}
 use Rattle.interp_run.specs.Phases.{task, terms_of}
+use Rattle.interp_run.specs.declared.phases.Stop.TheVariants.{Terms, Memory}
 use Rattle.interp_run.specs.declared.tasks.Part.TheVariants.{Leads}
-use Rattle.interp_run.proofs.GroupedElements.{leads_listed, polynomials_enough, terms_behind}
+use Rattle.interp_run.proofs.CountedTerms.{families_later}
+use Rattle.interp_run.proofs.GroupedElements.{leads_listed, polynomials_enough, terms_parted}
 use Rattle.interp_run.proofs.bases.lead_lists.Goals as goal
 
 pub split_at-requires : goal.split_at-requires
 split_at-requires g c =
     let d = description c.args.pla.now in
-    polynomials_enough (g.S.Store.state c.args.store.now) d c.args.found.now (map (task Leads) (output_numbers d.outputs)) c.requires.found
+    polynomials_enough (g.S.Store.state c.args.store.now) d c.args.found.now (map (task Leads) (output_numbers d.outputs)) c.requires
 
-pub lists_of-requires : goal.lists_of-requires
-lists_of-requires g c =
+pub returns-in_err-lists_of-clause-terms : goal.returns-in_err-lists_of-clause-terms
+returns-in_err-lists_of-clause-terms g c is =
     let s = g.S.Store.state c.args.store.now in
-    let n = c.args.pla.now.outputs in
-    record {
-      known = subst (All (Knows s)) (sym c.split_at.ensures.back) (All-drop (Knows s) n c.args.found.now c.requires.found.0);
-      few = subst (λ hs. terms_of s hs ≤ c.args.limit) (sym c.split_at.ensures.back)
-          (terms_behind s c.args.found.now n c.args.limit c.requires.few);
-    }
+    let t = g.S.Store.state c.count_terms.new.store in
+    let over = walk_was_over c.from_residual.result c.in_err-lists_of.field-0.0 Terms Memory c.from_residual.ensures.1 (λ e. cc) is in
+    omega (
+      arith,
+      terms_parted s t c.args.found.now c.args.pla.now.outputs c.count_terms.ensures.reads.grows c.requires.0,
+      ap (terms_of s) c.split_at.ensures.front,
+      ap (terms_of t) c.split_at.ensures.back,
+      c.in-Some.ensures.count,
+      c.in-Some.ensures.within,
+      c.in_err-lists_of.ensures.over (ap Err over),
+    )
 
 pub returns-clause-leads : goal.returns-clause-leads
 returns-clause-leads g c =
     let s = g.S.Store.state c.args.store.now in
-    IfOk-weaker c.lists_of.result _ _ (λ lists is. leads_listed s (description c.args.pla.now) c.args.found.now lists c.requires.found
-    (is ∙ ap (map (family s)) c.split_at.ensures.back)) c.lists_of.ensures.lists
+    let t = g.S.Store.state c.count_terms.new.store in
+    let n = c.args.pla.now.outputs in
+    leads_listed s (description c.args.pla.now) c.args.found.now c.in_ok-lists_of.field-0 c.requires
+    (c.in_ok-lists_of.ensures.lists ∙ (ap (map (family t)) c.split_at.ensures.back
+    ∙ families_later s t _ c.count_terms.ensures.reads.grows (All-drop (Knows s) n c.args.found.now c.requires.0)))
+
+pub returns-clause-within : goal.returns-clause-within
+returns-clause-within g c =
+    let s = g.S.Store.state c.args.store.now in
+    let t = g.S.Store.state c.count_terms.new.store in
+    omega (
+      arith,
+      terms_parted s t c.args.found.now c.args.pla.now.outputs c.count_terms.ensures.reads.grows c.requires.0,
+      ap (terms_of s) c.split_at.ensures.front,
+      ap (terms_of t) c.split_at.ensures.back,
+      c.in-Some.ensures.count,
+      c.in-Some.ensures.within,
+      c.in_ok-lists_of.ensures.left,
+    )

@@ -1,4 +1,4 @@
-use Rattle.std.proofs.Common.{◌≡◌, ◌⊎◌, ℕ, false, List, inl, inr, sym, subst}
+use Rattle.std.proofs.Common.{◌≡◌, ◌⊎◌, ℕ, false, List, Ok, inl, inr, sym, subst}
 use Rattle.std.specs.Prelude.{Err}
 use Rattle.cli_words.specs.declared.job.Job.{Job}
 use Rattle.pla_reader.specs.Reading.{Description}
@@ -20,7 +20,7 @@ undescribed_ends job reads bytes (Text line why) is =
 undescribed_ends job reads bytes Memory is = no_memory
 
 disordered_ends : (job : Job) → is_gen job.mode ≡ false → (bytes : List ℕ) (d : Description) → Describes bytes d → (o : Outcome)
-    → (in_order job.order d ≡ Err o) ⊎ (o ≡ ends.Memory)
+    → (in_order job.order (Ok d) ≡ Err o) ⊎ (o ≡ ends.Memory)
     → EndsWithout job bytes o
 disordered_ends job reads bytes d is o (inl bad) = due_without o (no_file o (file_read job reads bytes d is.few is.reading bad))
 disordered_ends job reads bytes d is o (inr none) = subst (EndsWithout job bytes) (sym none) no_memory

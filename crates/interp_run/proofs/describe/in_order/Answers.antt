@@ -17,7 +17,7 @@ arrange-requires c = subst (IsOrder c.args.pla.inputs) (sym c.in-Ok.ensures.orde
 
 refused : (p : Pla) (text : List ℕ) (order : Option (List ℕ)) (refusal : OrderRefusal) → order ≡ Some text
     → (refusal ≡ Bad → IsOrder p.inputs (order_named (input_names p) text) → ⊥)
-    → (in_order order (description p) ≡ Err (disordered_outcome refusal)) ⊎ (disordered_outcome refusal ≡ ends.Memory)
+    → (in_order order (Ok (description p)) ≡ Err (disordered_outcome refusal)) ⊎ (disordered_outcome refusal ≡ ends.Memory)
 refused p text order Bad is bad = inl (rw is (by_no_order p text (bad refl)))
 refused p text order Memory is bad = inr refl
 
@@ -30,7 +30,7 @@ returns-in-Err-clause-err c =
 arranged_is : (p q : Pla) (text order : List ℕ) (asked : Option (List ℕ)) → asked ≡ Some text → order ≡ order_named (input_names p) text
     → IsOrder p.inputs (order_named (input_names p) text)
     → description q ≡ arranged (description p) order
-    → in_order asked (description p) ≡ Ok (description q)
+    → in_order asked (Ok (description p)) ≡ Ok (description q)
 arranged_is p q text order asked is same good made =
     rw is (by_order p text good) ∙ ap (λ (d : Description). Ok d) (sym (made ∙ ap (arranged (description p)) same))
 

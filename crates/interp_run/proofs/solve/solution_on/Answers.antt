@@ -1,6 +1,5 @@
-use Rattle.std.proofs.Common.{◌≡◌, ◌<◌, ◌≤◌, ◌∙◌, ⊎_elim, arith, sym, ap, subst, List, map, Ok, Err, Result}
+use Rattle.std.proofs.Common.{◌≡◌, ◌<◌, ◌≤◌, ◌∙◌, ⊎_elim, arith, sym, ap, subst, List, map, Err}
 use Rattle.std.specs.List.{All}
-use Rattle.std.specs.Result.{IsErrAnd, IsErrOf}
 use Rattle.std.proofs.Math.Pow.{pow_mono}
 use Rattle.std.proofs.lemmas.Bool.{cases_Bool}
 use Rattle.lattice.specs.Family.{Covers}
@@ -13,9 +12,11 @@ use Rattle.interp_run.specs.Answers.{AreAnswers}
 use Rattle.interp_run.specs.Due.{IsDueSolving, solved as due_solved}
 use Rattle.interp_run.specs.Parts.{jobs_for}
 use Rattle.interp_run.specs.Phases.{AreCares, KnowsSolved, answer_in, answers_for, second_terms}
+use Rattle.run_parts.proofs.FoundTerms.{same_error}
 use Rattle.interp_run.proofs.DoneTasks.{first_later}
 use Rattle.interp_run.proofs.LimitsPassed.{last_terms_over, within_limits}
-use Rattle.interp_run.proofs.SolvedAnswers.{answers_counted, answers_are, first_planned, fits, last_list}
+use Rattle.run_parts.proofs.FoundTerms.{fits}
+use Rattle.interp_run.proofs.SolvedAnswers.{answers_counted, answers_are, first_planned, last_list}
 use Rattle.interp_run.proofs.TaskJobs.{jobs_counted, second_few, second_none}
 use Rattle.interp_run.proofs.solve.solution_on.Goals as goal
 
@@ -61,18 +62,10 @@ second_phase-requires-clause-planned g c κs within =
     (sym (c.points_counted-points.ensures.reads.grows.plan ∙ (c.in_ok-first.ensures.grows.plan ∙ (ap (λ (s : State). s.plan) state
     ∙ c.run_plan.ensures)))) (λ f h. h)
 
-pub shown_in-requires : goal.shown_in-requires
-shown_in-requires g c =
+pub shown_of-requires : goal.shown_of-requires
+shown_of-requires g c =
     let u = cached_state c.second_phase.new.store in
-    record {
-      known = subst (All (KnowsSolved u)) (sym c.deref-2.ensures.value)
-          c.in_ok-solved.ensures.solved.known;
-    }
-
--- an error that was passed on is this one
-err_same : {T E : Type 0} (r : Result T E) (x y : E) → IsErrAnd r (λ e. e ≡ x) → IsErrOf r y → x ≡ y
-err_same (Ok t) x y a b = cc
-err_same (Err e) x y a b = let same : e ≡ y = cc in sym a ∙ same
+    subst (All (KnowsSolved u)) (sym c.deref-2.ensures.value) c.in_ok-solved.ensures.solved.known
 
 pub returns-in_err-shown-clause-terms : goal.returns-in_err-shown-clause-terms
 returns-in_err-shown-clause-terms g c is =
@@ -88,7 +81,7 @@ returns-in_err-shown-clause-terms g c is =
     last_terms_over job d c.requires.consistent c.requires.fits (omega (arith, room, capacity, pow_mono c.requires.bits.1))
     (subst (λ n. job.terms < n) (ap (second_terms u) c.deref-2.ensures.value ∙ answers_counted d job.mode u solved are)
     (c.in_err-shown.ensures.terms
-    (ap Err (err_same c.from_residual-in_err-shown.result c.in_err-shown.field-0.0 _ c.from_residual-in_err-shown.ensures.1 is))))
+    (ap Err (same_error c.from_residual-in_err-shown.result c.in_err-shown.field-0.0 _ c.from_residual-in_err-shown.ensures.1 is))))
 
 pub returns-clause-jobs : goal.returns-clause-jobs
 returns-clause-jobs g c =
@@ -97,7 +90,7 @@ returns-clause-jobs g c =
     let u = cached_state c.second_phase.new.store in
     let are = c.in_ok-solved.ensures.solved in
     let answers : answers_for d mode ≡ map shown_answer c.in_ok-shown.shown.items =
-    sym (c.in_ok-shown.ensures.shown.0 ∙ (ap (map (answer_in u)) c.deref-2.ensures.value ∙ are.answers)) in
+    sym (c.in_ok-shown.ensures.shown ∙ (ap (map (answer_in u)) c.deref-2.ensures.value ∙ are.answers)) in
     omega (arith, c.in_ok-first.ensures.jobs, c.in_ok-solved.ensures.jobs, jobs_counted d mode, ap (jobs_for mode) answers)
 
 pub returns-clause-ok : goal.returns-clause-ok
@@ -112,9 +105,9 @@ returns-clause-ok g c =
     ∙ ap (λ (s : State). s.capacity) (c.new-pass.ensures.state ∙ (c.pass.ensures.state ∙ c.in_ok-table.ensures.state)))) in
     let room = fits u d.inputs (last_list d job.mode) (cached_sound c.second_phase.new.store) are.held in
     let all = subst (λ n. n ≤ job.terms) (ap (second_terms u) c.deref-2.ensures.value ∙ answers_counted d job.mode u solved are)
-    c.in_ok-shown.ensures.shown.1 in
+    c.in_ok-shown.ensures.within in
     let answers : answers_for d job.mode ≡ map shown_answer c.in_ok-shown.shown.items =
-    sym (c.in_ok-shown.ensures.shown.0 ∙ (ap (map (answer_in u)) c.deref-2.ensures.value ∙ are.answers)) in (
+    sym (c.in_ok-shown.ensures.shown ∙ (ap (map (answer_in u)) c.deref-2.ensures.value ∙ are.answers)) in (
       subst (AreAnswers d job.mode) answers (answers_are d job.mode c.requires.consistent),
       subst (λ (xs : List Answer). IsDueSolving job d (due_solved job d xs)) answers
           (within_limits job d c.requires.consistent c.requires.fits (omega (arith, room, capacity, pow_mono c.requires.bits.1)) all),

@@ -1,6 +1,7 @@
 use Rattle.std.proofs.Common.{◌∙◌, rules, refl}
 use Rattle.interp_run.specs.Run.{memory, read_fault}
-use Rattle.interp_run.proofs.Endings.{keeps_same, ran_read, ran_short}
+use Rattle.run_parts.proofs.Runs.{keeps_same}
+use Rattle.interp_run.proofs.Endings.{ran_read, ran_short}
 use Rattle.interp_run.proofs.top.of_source.Goals as goal
 
 pub returns-in-Err-Fault-clause-ran : goal.returns-in-Err-Fault-clause-ran

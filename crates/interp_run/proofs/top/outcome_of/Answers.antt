@@ -2,7 +2,8 @@ use Rattle.std.proofs.Common.{◌≡◌, ◌≤◌, ap, refl, rules, subst, sym,
 use Rattle.cli_words.specs.declared.job.Job.{Job}
 use Rattle.interp_run.specs.Due.{IsDue, is_gen, least_jobs}
 use Rattle.interp_run.specs.Run.{memory, refused}
-use Rattle.interp_run.proofs.Endings.{keeps_same, ran_short}
+use Rattle.run_parts.proofs.Runs.{keeps_same}
+use Rattle.interp_run.proofs.Endings.{ran_short}
 use Rattle.interp_run.proofs.OneDue.{reading_mode, same_job}
 use Rattle.interp_run.proofs.top.outcome_of.Goals as goal
 

@@ -1,6 +1,6 @@
 use Rattle.std.proofs.Common.{◌∙◌, List, ℕ, subst}
 use Rattle.outside.specs.Causes.{GainsUnlessRose}
-use Rattle.interp_run.proofs.Endings.{gains_line}
+use Rattle.run_parts.proofs.Runs.{gains_line}
 use Rattle.interp_run.proofs.top.report.Goals as goal
 
 pub returns-clause-line : goal.returns-clause-line

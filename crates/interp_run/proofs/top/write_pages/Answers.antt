@@ -1,7 +1,8 @@
 use Rattle.std.proofs.Common.{◌∷◌, ◌++◌, ◌∙◌, ◌+◌, ◌≡◌, [], length, length-append, arith, rules, sym, refl}
 use Rattle.std.proofs.lemmas.Slice.Zip.{zip_turn}
 use Rattle.watch.proofs.LeftAfter.{left_after_all-nil}
-use Rattle.interp_run.proofs.Written.{appends_nothing, page_begun, page_written, on_err, room_for_more, stopped_at, told_more}
+use Rattle.run_parts.proofs.Runs.{appends_nothing}
+use Rattle.interp_run.proofs.Written.{page_begun, page_written, on_err, room_for_more, stopped_at, told_more}
 use Rattle.interp_run.specs.Due.{Due}
 use Rattle.interp_run.specs.declared.outcome.Outcome.TheVariants as ends
 use Rattle.interp_run.proofs.top.write_pages.Goals as goal

@@ -13,7 +13,7 @@ returns-in_err-count g c =
     let hs = c.args.polynomials.now in
     let i = c.loop-polynomial.polynomial-index in
     let h = get_or hs i no_handle in
-    let known = All-get_or (Knows s) hs i no_handle c.loop-polynomial-test.true c.requires.known in
+    let known = All-get_or (Knows s) hs i no_handle c.loop-polynomial-test.true c.requires in
     let more = one_more (handle_terms s) (handle_terms t) hs i h no_handle c.loop-polynomial-test.true refl
     (length-later s t h reads.grows known) in
     record {
@@ -32,7 +32,7 @@ loop-polynomial-preserved g c =
     let hs = c.args.polynomials.now in
     let i = c.loop-polynomial.polynomial-index in
     let h = get_or hs i no_handle in
-    let known = All-get_or (Knows s) hs i no_handle c.loop-polynomial-test.true c.requires.known in
+    let known = All-get_or (Knows s) hs i no_handle c.loop-polynomial-test.true c.requires in
     let more = one_more (handle_terms s) (handle_terms t) hs i h no_handle c.loop-polynomial-test.true refl
     (length-later s t h reads.grows known) in
     record {

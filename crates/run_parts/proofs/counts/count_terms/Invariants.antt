@@ -1,4 +1,4 @@
-use Rattle.std.proofs.Common.{◌≡◌, ◌≤◌, ◌+◌, take}
+use Rattle.std.proofs.Common.{◌≡◌, ◌≤◌, take}
 use Rattle.node_store.specs.Stores.{Reads}
 use Rattle.run_parts.specs.Found.{terms_of}
 use Rattle.run_parts.proofs.counts.count_terms.Given as goal
@@ -9,6 +9,6 @@ invariant-loop-polynomial g l =
     let s = g.S.Store.state l.fn.store in
     record {
       reads : Reads s (g.S.Store.state l.store);
-      count : l.count ≡ l.fn.before + terms_of s (take l.polynomial-index l.polynomials);
+      count : l.count ≡ terms_of s (take l.polynomial-index l.polynomials);
       within : l.count ≤ l.limit;
     }

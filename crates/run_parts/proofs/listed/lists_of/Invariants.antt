@@ -1,12 +1,14 @@
-use Rattle.std.proofs.Common.{◌≡◌, map, reverse, take}
+use Rattle.std.proofs.Common.{◌≡◌, ◌+◌, map, reverse, take}
 use Rattle.node_store.specs.Stores.{Reads, family}
+use Rattle.run_parts.specs.Found.{terms_of}
 use Rattle.run_parts.proofs.listed.lists_of.Given as goal
 
--- the terms of the polynomials so far
+-- the terms of the polynomials so far, and how many more may be listed
 abbrev pub invariant-loop-polynomial : goal.invariant-loop-polynomial
 invariant-loop-polynomial g l =
     let s = g.S.Store.state l.fn.store in
     record {
       reads : Reads s (g.S.Store.state l.store);
       lists : map reverse l.lists ≡ map (family s) (take l.polynomial-index l.polynomials);
+      left : l.left + terms_of s (take l.polynomial-index l.polynomials) ≡ l.fn.left;
     }

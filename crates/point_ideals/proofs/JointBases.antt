@@ -1,0 +1,44 @@
+-- The reduced basis of the intersection and of the sum of the ideals of two outputs' care points.
+use Rattle.std.proofs.Common.{◌≡◌, ℕ, ◌↔◌, List, map, refl}
+use Rattle.lattice.specs.Basis.{IsReducedBasis, basis_element_of, reduced_basis_of}
+use Rattle.lattice.specs.Family.{Family, IsFamily}
+use Rattle.lattice.proofs.Polynomials.{IsFamily-combine, IsReducedBasis-unique, reduced_basis_exists}
+use Rattle.pla_reader.specs.Reading.{Description}
+use Rattle.point_ideals.specs.Ideals.{Ideal}
+use Rattle.point_ideals.specs.Joined.{IsJointBasis, joint_basis_of, joint_ideal, joint_leads, joint_points, output_points}
+use Rattle.point_ideals.specs.declared.joined.Joining.{Joining}
+use Rattle.point_ideals.specs.declared.joined.Joining.TheVariants.{Meet, Union}
+use Rattle.point_ideals.proofs.IdealLaws.{basis_same, intersection_law, sum_law}
+
+points_fit : (d : Description) (output : ℕ) → IsFamily d.inputs (output_points d output)
+points_fit d output = IsFamily-combine _ d.inputs _ _
+
+-- the points put together are a family
+pub joint_fits : (d : Description) (joining : Joining) → IsFamily d.inputs (joint_points d joining)
+joint_fits d Union = IsFamily-combine _ d.inputs _ _
+joint_fits d Meet = IsFamily-combine _ d.inputs _ _
+
+-- the reduced basis has an element for each lead
+pub basis_listed : (d : Description) (joining : Joining)
+    → map (λ m. basis_element_of d.inputs m (joint_points d joining)) (joint_leads d joining) ≡ joint_basis_of d joining
+unfolding reduced_basis_of
+basis_listed d joining = refl
+
+same_ideal : (d : Description) (joining : Joining) (p : Family) → joint_ideal d joining p ↔ Ideal d.inputs (joint_points d joining) p
+same_ideal d Union = intersection_law d.inputs (output_points d 1) (output_points d 2) (points_fit d 1) (points_fit d 2)
+same_ideal d Meet = sum_law d.inputs (output_points d 1) (output_points d 2) (points_fit d 1) (points_fit d 2)
+
+joint_same : (d : Description) (joining : Joining) (basis : List Family)
+    → IsJointBasis d joining basis ↔ IsReducedBasis d.inputs (joint_points d joining) basis
+joint_same d joining basis =
+    basis_same d.inputs (joint_points d joining) (joint_fits d joining) (joint_ideal d joining) (same_ideal d joining) basis
+
+-- there is a reduced basis
+pub joint_exists : (d : Description) (joining : Joining) → IsJointBasis d joining (joint_basis_of d joining)
+joint_exists d joining =
+    (joint_same d joining _).1 (reduced_basis_exists d.inputs (joint_points d joining) (joint_fits d joining))
+
+-- and only one
+pub joint_unique : (d : Description) (joining : Joining) (b c : List Family) → IsJointBasis d joining b → IsJointBasis d joining c → b ≡ c
+joint_unique d joining b c one two =
+    IsReducedBasis-unique d.inputs (joint_points d joining) b c ((joint_same d joining b).0 one) ((joint_same d joining c).0 two)

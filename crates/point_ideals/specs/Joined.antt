@@ -1,0 +1,143 @@
+-- The ideals of the care points of two outputs put together, the reduced basis of what comes out, and what finding it needs.
+use Rattle.std.specs.Prelude.{◌≡◌, ◌<◌, ◌≤◌, ℕ, ◌^◌, ◌++◌, ◌∷◌, List, [], Option, Some, None, if◌then◌else◌, length, map, nat_lt, reverse, sum_by}
+use Rattle.std.specs.Prelude.{IfOk, IsErrOf, OnOk, Result}
+use Rattle.std.specs.List.{All, flat_map}
+use Rattle.lattice.specs.Basis.{basis_element_of, leads_of, reduced_basis_of, standard_of}
+use Rattle.lattice.specs.Family.{Covers, Family, inter_of, union_of}
+use Rattle.lattice.specs.WorkingLists.{basis_element_list, care_set, working_set}
+use Rattle.node_store.specs.Stores.{Denotes, Knows, State, family}
+use Rattle.node_store.specs.declared.store.Handle.{Handle}
+use Rattle.pla_reader.specs.Reading.{Description}
+use Rattle.run_parts.specs.Found.{point_leads_list}
+use Rattle.cube_build.specs.declared.rows.CubesRefusal.{CubesRefusal}
+use Rattle.cube_build.specs.declared.rows.CubesRefusal.TheVariants as unbuilt
+use Rattle.set_algebra.specs.declared.counted.WalkRefusal.{WalkRefusal}
+use Rattle.set_algebra.specs.declared.counted.WalkRefusal.TheVariants as unlisted
+use Rattle.point_ideals.specs.Cares.{points_list}
+use Rattle.point_ideals.specs.Ideals.{Ideal, Intersection, IsReducedBasisOf, Polynomials, Sum}
+use Rattle.point_ideals.specs.declared.joined.Joining.{Joining}
+use Rattle.point_ideals.specs.declared.joined.Joining.TheVariants.{Meet, Union}
+use Rattle.point_ideals.specs.declared.phases.Joint.{Joint}
+use Rattle.point_ideals.specs.declared.joined.BasisRefusal.{BasisRefusal}
+use Rattle.point_ideals.specs.declared.joined.BasisRefusal.TheVariants.{Exhausted, Memory, Terms}
+
+-- the care points of an output
+abbrev pub output_points : Description → ℕ → Family
+output_points d output = care_set d.inputs d.kind d.rows output
+
+-- of the polynomials that vanish at the care points of output 1 and of those that vanish at the care points of output 2: the common
+-- ones, or the sums of one of the former and one of the latter
+abbrev pub joint_ideal : Description → Joining → Polynomials
+joint_ideal d Union = Intersection (Ideal d.inputs (output_points d 1)) (Ideal d.inputs (output_points d 2))
+joint_ideal d Meet = Sum d.inputs (Ideal d.inputs (output_points d 1)) (Ideal d.inputs (output_points d 2))
+
+-- the reduced basis of these
+abbrev pub IsJointBasis : Description → Joining → List Family → Type 0
+IsJointBasis d joining basis = IsReducedBasisOf (joint_ideal d joining) basis
+
+-- ---- by families
+
+-- all members of two families, or the common ones
+abbrev pub joined : Joining → ℕ → Family → Family → Family
+joined Union = union_of
+joined Meet = inter_of
+
+-- the points of both outputs put together
+abbrev pub joint_points : Description → Joining → Family
+joint_points d joining = joined joining d.inputs (output_points d 1) (output_points d 2)
+
+-- their leads, and their reduced basis
+abbrev pub joint_leads : Description → Joining → Family
+joint_leads d joining = leads_of d.inputs (standard_of d.inputs (joint_points d joining))
+
+abbrev pub joint_basis_of : Description → Joining → List Family
+joint_basis_of d joining = reduced_basis_of d.inputs (joint_points d joining)
+
+-- ---- the families that are needed
+
+-- of the points
+abbrev pub joint_points_list : Description → Joining → List Family
+joint_points_list d joining = points_list d 1 ++ (points_list d 2 ++ joint_points d joining ∷ [])
+
+-- of phase 1: of the points and their leads
+abbrev pub first_phase_list : Description → Joining → List Family
+first_phase_list d joining = joint_points_list d joining ++ point_leads_list d.inputs (joint_points d joining)
+
+-- of the elements with some leads
+abbrev pub elements_list : ℕ → Family → List ℕ → List Family
+elements_list n points leads = flat_map (λ m. basis_element_list n m points) leads
+
+-- of phase 2: these, and of the elements
+abbrev pub second_phase_list : Description → Joining → List Family
+second_phase_list d joining =
+    first_phase_list d joining ++ elements_list d.inputs (joint_points d joining) (joint_leads d joining)
+
+-- the nodes that the leads need, and those that the elements need too
+abbrev pub first_nodes : Description → Joining → ℕ
+first_nodes d joining = length (working_set d.inputs (first_phase_list d joining))
+
+abbrev pub last_nodes : Description → Joining → ℕ
+last_nodes d joining = length (working_set d.inputs (second_phase_list d joining))
+
+-- the first limit that a basis passes, of stores of 2^bits slots and of a number of terms: the nodes and then the leads of phase 1,
+-- and the nodes and then all terms of phase 2
+abbrev pub first_refused : (bits limit : ℕ) → Description → Joining → List Family → Option BasisRefusal
+first_refused bits limit d joining basis =
+    if nat_lt (2 ^ bits) (first_nodes d joining) then Some Exhausted
+    else if nat_lt limit (length basis) then Some Terms
+    else if nat_lt (2 ^ bits) (last_nodes d joining) then Some Exhausted
+    else if nat_lt limit (sum_by length basis) then Some Terms
+    else None
+
+-- ---- what was found
+
+-- the handle is of the points, and what they needed is held
+pub record HoldsJointPoints (s : State) (d : Description) (joining : Joining) (points : Handle) : Type 0 where
+  pub denotes : Denotes s points (joint_points d joining)
+  pub held : Covers s.held (working_set d.inputs (joint_points_list d joining))
+
+-- phase 1 was done
+pub record HoldsJoint (s : State) (d : Description) (joining : Joining) (found : Joint) : Type 0 where
+  pub points : Denotes s found.points (joint_points d joining)
+  pub leads : Denotes s found.leads (joint_leads d joining)
+  pub held : Covers s.held (working_set d.inputs (first_phase_list d joining))
+
+-- the handles are of the elements with these leads, and what they needed is held
+pub record HoldsElements (s : State) (points : Family) (leads : List ℕ) (elements : List Handle) : Type 0 where
+  pub known : All (Knows s) elements
+  pub are : map (family s) elements ≡ map (λ m. basis_element_of s.vars m points) leads
+  pub held : Covers s.held (working_set s.vars (elements_list s.vars points leads))
+
+-- phase 2 was done
+pub record HoldsBasis (s : State) (d : Description) (joining : Joining) (found : List Handle) : Type 0 where
+  pub known : All (Knows s) found
+  pub are : map (family s) found ≡ joint_basis_of d joining
+  pub held : Covers s.held (working_set d.inputs (second_phase_list d joining))
+
+-- why a basis was not found where the families were not all found, or where the terms were not listed
+abbrev pub refusal_of : CubesRefusal → BasisRefusal
+refusal_of unbuilt.Full = Exhausted
+refusal_of unbuilt.Memory = Memory
+
+abbrev pub refusal_by : WalkRefusal → BasisRefusal
+refusal_by unlisted.Over = Terms
+refusal_by unlisted.Memory = Memory
+
+-- ---- what a phase gives that needs so many nodes and counts so many leads or terms: an answer, where these are no more than the slots
+-- and the limit, or the refusal of the first that is more, or want of memory
+pub record PhaseGives {T : Type 0} (slots limit nodes count : ℕ) (IsAnswer : T → Type 0) (result : Result T BasisRefusal) : Type 0 where
+  pub answer : IfOk result IsAnswer
+  pub fits : OnOk result (nodes ≤ slots)
+  pub few : OnOk result (count ≤ limit)
+  pub exhausted : IsErrOf result Exhausted → slots < nodes
+  pub terms : IsErrOf result Terms → (nodes ≤ slots) × (limit < count)
+
+-- phase 1: the leads, from the greatest to the least
+abbrev pub FindsLeads : (slots limit : ℕ) → Description → Joining → Result Family BasisRefusal → Type 0
+FindsLeads slots limit d joining = PhaseGives slots limit (first_nodes d joining) (length (joint_leads d joining))
+    (λ leads. reverse leads ≡ joint_leads d joining)
+
+-- phase 2: the basis, with the terms of each element from the greatest to the least
+abbrev pub FindsBasis : (slots limit : ℕ) → Description → Joining → Result (List Family) BasisRefusal → Type 0
+FindsBasis slots limit d joining = PhaseGives slots limit (last_nodes d joining) (sum_by length (joint_basis_of d joining))
+    (λ lists. map reverse lists ≡ joint_basis_of d joining)

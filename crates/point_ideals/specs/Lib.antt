@@ -1,0 +1,4 @@
+pub mod Cares
+pub mod Ideals
+pub mod Joined
+pub mod Laws
