@@ -14,7 +14,7 @@ import sys
 
 COLUMNS = 140
 PUBLIC_MODULES = 2
-PROOF_LINES = 38_000
+PROOF_LINES = 27_400
 # Modules whose lemmas nothing need use: examples, and what the words of kept results are made of.
 EXAMPLES = re.compile(r"Examples|Worked|WordParts")
 
@@ -381,7 +381,7 @@ def names_imported(top):
     for _, path in sources_of(top):
         text = "\n".join(line for line in read_lines(path) if not PASSED_ON.match(line))
         names |= {(module, name) for module, name, _ in imported(text)}
-        names |= {(f".{module}", name) for module, name in re.findall(r"(\w+)(?:\.|::)([^\s(){}.,;:]+)", text)}
+        names |= {(f".{module}", name) for module, name in re.findall(r"\b(?=(\w+)(?:\.|::)([^\s(){}.,;:]+))", text)}
     return names
 
 

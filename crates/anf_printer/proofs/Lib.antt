@@ -1,2 +1,1 @@
-mod Variables
 mod Texts

@@ -70,6 +70,7 @@ fn lines_with(
 }
 
 /// The text of the lines, with the names of the inputs and outputs of `p` that are printed.
+#[tactic(auto, using(pla_reader::proofs::ArrangedInputs::count_printed))]
 pub fn lines_text(alloc: Global, p: &Pla, lines: &[Line]) -> Result<Text, Memory>
     requires { All (λ l. IsLineOver p.now.inputs p.now.outputs (shown_line l)) lines.now }
     ensures { IfOk result (λ text. text ≡ lines_text (input_names p.now) (output_names p.now) (map shown_line lines.now)) }

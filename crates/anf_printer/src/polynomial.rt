@@ -22,6 +22,7 @@ fn first_variable(names: &[Name], m: u64) -> (&[u8], u64)
 }
 
 /// Puts the monomial at the end of the text.
+#[tactic(auto, using(crate::proofs::Texts::monomial_rules))]
 fn push_monomial(text: &mut Vec<u8>, names: &[Name], m: Mono) -> Result<(), AllocError>
     requires { m < 2 ^ length names.now }
     ensures { OnOk result (text.new.items ≡ text.old.items ++ monomial_text names.now m) }

@@ -1,12 +1,9 @@
 -- Plans that have every family, and what the calls of this crate need.
 use Rattle.std.proofs.Common.{◌≡◌, ℕ, List, [], ◌∷◌, is_some, ap, subst, arith}
-use Rattle.lattice.specs.Family.{Family, IsFamily, Covers}
-use Rattle.lattice.specs.Basis.{ones_at}
-use Rattle.lattice.specs.Operations.{product_of, variable}
-use Rattle.lattice.specs.WorkingLists.{operation_list, needs, working_set}
+use Rattle.lattice.specs.Words.{Family, IsFamily, Covers, ones_at, product_of, variable, operation_list, needs, working_set}
 use Rattle.lattice.specs.declared.op.Op.TheVariants.{Ones, Product}
 use Rattle.lattice.proofs.Polynomials.{IsFamily-family_where}
-use Rattle.node_store.specs.Stores.{State, Knows, family, IsSound, IsPlanned, needs_of}
+use Rattle.node_store.specs.Stores.{State, Knows, IsSound, IsPlanned, needs_of}
 use Rattle.node_store.specs.AnyFamily.{MayHoldAny, every_family}
 use Rattle.node_store.specs.Plain.{plain_state}
 use Rattle.node_store.specs.PlainOf.{state_of}
@@ -32,20 +29,13 @@ any_ones_at vars s m f any = any.planned (ones_at s.vars m f) (subst (λ v. IsFa
 pub any_ones : (vars : ℕ) (s : State) (h set : Handle) → IsSound s → Knows s h → Knows s set → MayHoldAny vars s
     → Covers s.plan (needs_of s Ones h set.0)
 unfolding needs operation_list
-any_ones vars s h set ok kh ks any =
-    any_ones_set s.plan s.vars (λ f is. any.planned f (subst (λ v. IsFamily v f) any.vars_are is)) s.vars
-    (omega arith) (family s h) (family s set) (known_after s h ok kh) (known_after s set ok ks)
+any_ones vars s h set ok kh ks any = grind (arith, any_ones_set, known_after)
 
 pub any_times : (vars : ℕ) (s : State) (f : Family) (var : ℕ) → MayHoldAny vars s
     → IsPlanned s (product_of s.vars f (variable s.vars var ∷ []))
-any_times vars s f var any =
-    any.planned (product_of s.vars f (variable s.vars var ∷ []))
-    (subst (λ v. IsFamily v (product_of s.vars f (variable s.vars var ∷ []))) any.vars_are
-    (IsFamily-product_of s.vars f (variable s.vars var ∷ [])))
+any_times vars s f var any = grind (arith, IsFamily-product_of s.vars f (variable s.vars var ∷ []))
 
 pub any_product : (vars : ℕ) (s : State) (a b : Handle) → IsSound s → Knows s a → Knows s b → MayHoldAny vars s
     → Covers s.plan (needs_of s Product a b.0)
 unfolding needs operation_list
-any_product vars s a b ok ka kb any =
-    any_product_list s.plan s.vars (λ f is. any.planned f (subst (λ v. IsFamily v f) any.vars_are is)) s.vars
-    (omega arith) (family s a) (family s b) (known_after s a ok ka) (known_after s b ok kb)
+any_product vars s a b ok ka kb any = grind (arith, any_product_list)

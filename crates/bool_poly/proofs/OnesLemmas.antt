@@ -14,8 +14,8 @@ pub use Rattle.bool_poly.proofs.OnesSteps.{with_after}
 -- the second half may be asked for in a state that knows as much
 pub use Rattle.bool_poly.proofs.OnesSteps.{with_later}
 -- what finding them needs, by the list
-pub use Rattle.bool_poly.proofs.SingleOnes.{needs_ones}
+pub use Rattle.bool_poly.proofs.OnesFamilies.{needs_ones}
 -- the points at which a single monomial is 1 are those that it divides
-pub use Rattle.bool_poly.proofs.SingleOnes.{ones_of-single}
+pub use Rattle.bool_poly.proofs.OnesFamilies.{ones_of-single}
 -- what has a single monomial and the points that it divides has what finding them by its polynomial needs
-pub use Rattle.bool_poly.proofs.SingleOnes.{covers_single}
+pub use Rattle.bool_poly.proofs.OnesFamilies.{covers_single}

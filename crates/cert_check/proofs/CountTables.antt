@@ -1,6 +1,6 @@
 -- Tables of all points by halves, without the greatest variable and with it, and tables in which monomials are marked.
-use Rattle.std.proofs.Common.{◌≡◌, ◌≢◌, ℕ, zero, suc, ◌+◌, ◌-◌, ◌^◌, ◌<◌, ◌≤◌, Bool, ◌==◌, List, [], ◌∷◌, ◌++◌, length, get_or}
-use Rattle.std.proofs.Common.{refl, sym, ap, ◌∙◌, subst, ⊎_elim, arith, length-append, cond, take, All, count_by, rules}
+use Rattle.std.proofs.Common.{◌≡◌, ◌≢◌, ℕ, zero, suc, ◌+◌, ◌-◌, ◌^◌, ◌<◌, ◌≤◌, Bool, ◌==◌, List, [], ◌∷◌, ◌++◌, length, get_or, refl, sym}
+use Rattle.std.proofs.Common.{ap, ◌∙◌, subst, ⊎_elim, arith, length-append, cond, take, All, count_by, rules}
 use Rattle.std.proofs.lemmas.Bool.{cases_lt}
 use Rattle.std.proofs.lemmas.Grind.{pow_more}
 use Rattle.std.proofs.lemmas.List.{get_or_append_left, get_or-append-add, length-replicate, get_or-replicate, length-set, get_or-set_same}
@@ -9,8 +9,7 @@ use Rattle.std.proofs.lemmas.List.Elements.{All-head}
 use Rattle.std.proofs.lemmas.List.Sums.{count_by-le-length, length-filter}
 use Rattle.std.proofs.Math.Nat.{pow-le-pow_right}
 use Rattle.std.proofs.Math.ListN.{set, replicate}
-use Rattle.lattice.specs.Family.{divides, has, IsFamily, numbers_below, family_where}
-use Rattle.lattice.specs.Cofactors.{join}
+use Rattle.lattice.specs.Words.{divides, has, IsFamily, numbers_below, family_where, join}
 use Rattle.lattice.proofs.Polynomials.{IsFamily-family_where, has-family_where_below, same_below, IsFamily-join, has-join_low}
 use Rattle.lattice.proofs.Polynomials.{has-join_high, count, count_join_low, count_join_high, length-numbers_below, has-nil, has_more_same}
 use Rattle.lattice.proofs.Polynomials.{has_more_other, family_where-agree}
@@ -44,28 +43,23 @@ pub counts_one : (n : ℕ) (table : List ℕ) → n ≡ 0 → length table ≡ 2
     CountsDivisors n (marked n table) table
 counts_one n table none size marks = rw none (counts_alone table (rw none at size) marks)
 
+-- what holds below 2 ^ d, and of each such number with 2 ^ d added, holds below 2 ^ (d + 1)
+by_halves : (P : ℕ → Type 0) (d : ℕ) → ((x : ℕ) → x < 2 ^ d → P x) → ((x : ℕ) → x < 2 ^ d → P (2 ^ d + x)) → (x : ℕ) → x < 2 ^ (d + 1) → P x
+by_halves P d low high x below = ⊎_elim (low x) (λ most. let double = pow_more 2 d in
+    let e : 2 ^ d + (x - 2 ^ d) ≡ x = omega arith in subst P e (high (x - 2 ^ d) (omega arith))) (cases_lt x (2 ^ d))
+
 module _ (d : ℕ) (lo hi : List ℕ) (size : length lo ≡ 2 ^ d) where
   marked_low : (x : ℕ) → x < 2 ^ d → has (marked (d + 1) (lo ++ hi)) x ≡ has (join d (marked d lo) (marked d hi)) x
   marked_low x below = search (rules, arith, pow_more, has-marked, get_or_append_left, has-join_low)
 
   marked_high : (x : ℕ) → x < 2 ^ d → has (marked (d + 1) (lo ++ hi)) (2 ^ d + x) ≡ has (join d (marked d lo) (marked d hi)) (2 ^ d + x)
   marked_high x below =
-      let double = pow_more 2 d in
       let here : get_or (lo ++ hi) (2 ^ d + x) 0 ≡ get_or hi x 0 = rw size at (get_or-append-add lo hi x 0) in
-      rw (
-        has-marked (d + 1) (lo ++ hi) (2 ^ d + x) (omega arith),
-        here,
-        has-join_high d (marked d lo) (marked d hi) x (marked_family d lo),
-        has-marked d hi x below,
-      ) refl
+      grind (arith, pow_more 2 d, has-marked, has-join_high d (marked d lo) (marked d hi) x (marked_family d lo))
 
   marked_halves : marked (d + 1) (lo ++ hi) ≡ join d (marked d lo) (marked d hi)
-  marked_halves = same_below (d + 1) (marked (d + 1) (lo ++ hi)) (join d (marked d lo) (marked d hi))
-      (marked_family (d + 1) (lo ++ hi)) (IsFamily-join d (marked d lo) (marked d hi) (marked_family d lo) (marked_family d hi))
-      (λ x below. ⊎_elim (λ less. marked_low x less)
-      (λ most. let double = pow_more 2 d in let e : 2 ^ d + (x - 2 ^ d) ≡ x = omega arith in subst
-      (λ (y : ℕ). has (marked (d + 1) (lo ++ hi)) y ≡ has (join d (marked d lo) (marked d hi)) y) e (marked_high (x - 2 ^ d) (omega arith)))
-      (cases_lt x (2 ^ d)))
+  marked_halves = same_below (d + 1) _ _ (marked_family (d + 1) (lo ++ hi)) (IsFamily-join d _ _ (marked_family d lo) (marked_family d hi))
+      (by_halves (λ x. has (marked (d + 1) (lo ++ hi)) x ≡ has (join d (marked d lo) (marked d hi)) x) d marked_low marked_high)
 
   pub counts_halves : (low high sums : List ℕ) → CountsDivisors d (marked d lo) low → CountsDivisors d (marked d hi)
       high → length sums ≡ length high → ((k : ℕ) → k < length low → get_or sums k 0 ≡ get_or high k 0 + get_or low k 0)
@@ -73,19 +67,15 @@ module _ (d : ℕ) (lo hi : List ℕ) (size : length lo ≡ 2 ^ d) where
   unfolding count
   counts_halves low high sums of_low of_high same each = record {
     size = let double = pow_more 2 d in omega (arith, length-append low sums, of_low.size, of_high.size);
-    each = λ a below. ⊎_elim (λ less. get_or_append_left low sums 0 a (omega (arith, of_low.size)) ∙
-        (of_low.each a less ∙ sym (ap (count_by (λ m. divides m a)) marked_halves
-        ∙ count_join_low d (marked d lo) (marked d hi) a (marked_family d lo) (marked_family d hi) less)))
-        (λ most. let double = pow_more 2 d in let e : 2 ^ d + (a - 2 ^ d) ≡ a = omega arith in
-        subst (λ (y : ℕ). get_or (low ++ sums) y 0 ≡ count_by (λ m. divides m y) (marked (d + 1) (lo ++ hi))) e
-        (at_high (a - 2 ^ d) (omega arith))) (cases_lt a (2 ^ d));
+    each = by_halves (λ a. get_or (low ++ sums) a 0 ≡ count_by (λ m. divides m a) (marked (d + 1) (lo ++ hi))) d
+        (λ a less. get_or_append_left low sums 0 a (omega (arith, of_low.size))
+        ∙ (of_low.each a less ∙ sym (ap (count_by (λ m. divides m a)) marked_halves
+        ∙ count_join_low d (marked d lo) (marked d hi) a (marked_family d lo) (marked_family d hi) less))) at_high;
   }
     where
       at_high : (x : ℕ) → x < 2 ^ d → get_or (low ++ sums) (2 ^ d + x) 0 ≡ count_by (λ m. divides m (2 ^ d + x)) (marked (d + 1) (lo ++ hi))
       at_high x below =
-          let l = of_low.each x below in
-          let h = of_high.each x below in
-          let s = each x (omega (arith, of_low.size)) in
+          let l = of_low.each x below in let h = of_high.each x below in let s = each x (omega (arith, of_low.size)) in
           let whole = count_join_high d (marked d lo) (marked d hi) x (marked_family d lo) (marked_family d hi) below in
           let here : get_or (low ++ sums) (2 ^ d + x) 0 ≡ get_or sums x 0 = ap
           (λ (k : ℕ). get_or (low ++ sums) (k + x) 0) (sym of_low.size) ∙ get_or-append-add low sums x 0 in
@@ -95,14 +85,7 @@ module _ (d : ℕ) (lo hi : List ℕ) (size : length lo ≡ 2 ^ d) where
 -- the sums of two counts are small
 pub sums_fit : (d : ℕ) (lo hi low high : List ℕ) (k : ℕ) → d ≤ 13 → CountsDivisors d (marked d lo) low →
     CountsDivisors d (marked d hi) high → k < length low → get_or high k 0 + get_or low k 0 < 65536
-sums_fit d lo hi low high k small of_low of_high below =
-    let at : k < 2 ^ d = omega (arith, of_low.size) in
-    let l = of_low.each k at in
-    let h = of_high.each k at in
-    let few_low = marked_few d lo k in
-    let few_high = marked_few d hi k in
-    let most : 2 ^ d ≤ 2 ^ 13 = pow-le-pow_right (omega arith) small in
-    omega (arith, l, h, few_low, few_high, most)
+sums_fit d lo hi low high k small of_low of_high below = grind (arith, marked_few d lo k, marked_few d hi k, pow-le-pow_right)
 
 -- a table over one variable more, by its halves
 pub counts_whole : (n : ℕ) (table lo hi low high sums : List ℕ) → n ≢ 0 → table ≡ lo ++ hi → length lo ≡ 2 ^ (n - 1) →
@@ -114,8 +97,7 @@ counts_whole n table lo hi low high sums some cut size of_low of_high same each 
     (counts_halves (n - 1) lo hi size low high sums of_low of_high same each))
 
 pub half_of : (n size : ℕ) → n ≢ 0 → size ≡ 2 ^ n → size ≡ 2 ^ (n - 1) + 2 ^ (n - 1)
-half_of n size some is = let e : n ≡ n - 1 + 1 = omega arith in let double = pow_more 2 (n - 1) in omega
-    (arith, is, ap (λ (k : ℕ). 2 ^ k) e, double)
+half_of n size some is = grind (arith, pow_more 2 (n - 1))
 
 -- ==== A table in which monomials are marked
 
@@ -144,5 +126,4 @@ mark_tells b = grind arith
 pub marked_is : (n : ℕ) (monomials table : List ℕ) → MarksMonomials n monomials table → marked n table ≡ family_where
     n (has monomials)
 unfolding marked
-marked_is n monomials table marks = family_where-agree n (λ m. get_or table m 0 == 1) (has monomials)
-    (λ x below. ap (λ (v : ℕ). v == 1) (marks.each x below) ∙ mark_tells (has monomials x))
+marked_is n monomials table marks = grind (arith, family_where-agree, mark_tells)

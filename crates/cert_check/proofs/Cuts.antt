@@ -1,6 +1,5 @@
 -- A text cut at a byte of one kind.
-use Rattle.std.proofs.Common.{◌≡◌, ℕ, ◌+◌, ◌-◌, ◌<◌, ◌≤◌, cond, ltb, eqb, List, [], ◌∷◌, length, take, drop, Option, Some, None, Bor, rules}
-use Rattle.std.proofs.Common.{⊎_elim, arith}
+use Rattle.std.proofs.Common.{◌≡◌, ℕ, ◌+◌, ◌-◌, cond, ltb, eqb, List, [], ◌∷◌, length, take, drop, Option, Some, None, Bor, rules, arith}
 use Rattle.std.specs.List.{position_or_len}
 use Rattle.std.proofs.lemmas.Bool.{cases_lt, lt-ltb, le-ltb}
 use Rattle.std.proofs.lemmas.List.{take_all, length-drop}
@@ -21,10 +20,7 @@ abbrev pub FindsByte : ℕ → List ℕ → Option ℕ → Type 0
 FindsByte byte text found = found ≡ cond (ltb (place byte text) (length text)) (Some (place byte text)) None
 
 pub parts_whole : (byte : ℕ) (text : List ℕ) (found : Option ℕ) → FindsByte byte text found → found ≡ None → parts byte text ≡ text ∷ []
-parts_whole byte text found is none = ⊎_elim
-    (λ (lt : place byte text < length text). let some = rw (lt-ltb (place byte text) (length text) lt) at is in cc)
-    (λ (le : length text ≤ place byte text). slice_split_none (λ b. eqb b byte) text
-    (λ k d h. fails_before_first (λ b. eqb b byte) text k d (omega arith))) (cases_lt (place byte text) (length text))
+parts_whole byte text found is none = grind (arith, lt-ltb, slice_split_none, eqb, fails_before_first, cases_lt)
 
 pub parts_first : (byte : ℕ) (text : List ℕ) (found : Option ℕ) (end : ℕ) → FindsByte byte text found → found ≡ Some end
     → parts byte text ≡ take end text ∷ parts byte (take (length text - (end + 1)) (drop (end + 1) text))

@@ -2,8 +2,7 @@
 use Rattle.std.proofs.Common.{◌≡◌, ℕ, List, [], ◌∷◌, ◌++◌, codes, Ok, Err, refl}
 use Rattle.pla_reader.specs.Lines.{lines_of}
 use Rattle.pla_reader.specs.PlainNames.{is_plain}
-use Rattle.lattice.specs.Family.{divides, has, includes, numbers_below, family_where}
-use Rattle.lattice.specs.Polynomial.{value}
+use Rattle.lattice.specs.Words.{divides, has, includes, numbers_below, family_where, value}
 use Rattle.cert_check.specs.declared.answer.Given.{Given}
 use Rattle.cert_check.specs.declared.answer.GivenOutput.{GivenOutput}
 use Rattle.cert_check.specs.declared.refusal.AnswerWhy.TheVariants.{BadLine, UnknownName, TermOrder, MissingOutput}
@@ -13,8 +12,8 @@ use Rattle.cert_check.specs.declared.refusal.Verdict.TheVariants.{Yes, No}
 use Rattle.cert_check.specs.Reading.{bare, is_term, is_sum, is_line, terms_in, factors_of, factors_product, monomial_of, monomials_of}
 use Rattle.cert_check.specs.Reading.{are_known, ascends_from, are_ordered, left_fault, right_fault, line_fault, with_element, with_line}
 use Rattle.cert_check.specs.Reading.{Reading, read_on}
-use Rattle.cert_check.specs.Faults.{first_verdict, misses, is_one_in, greatest_of, is_comparable, is_below_last}
-use Rattle.cert_check.specs.Faults.{is_divided, miscounts, basis_checks, reduced_checks, output_checks}
+use Rattle.cert_check.specs.Faults.{first_verdict, misses, is_one_in, greatest_of, is_comparable, is_below_last, is_divided, miscounts}
+use Rattle.cert_check.specs.Faults.{basis_checks, reduced_checks, output_checks}
 
 abbrev line : List ℕ → List ℕ
 line text = text ++ codes "\n"

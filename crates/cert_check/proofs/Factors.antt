@@ -7,7 +7,7 @@ use Rattle.std.proofs.lemmas.List.Sums.{sum_by-cons}
 use Rattle.std.proofs.lemmas.Grind.{pow_more}
 use Rattle.std.proofs.Math.Nat.{pow-le-pow_right, mul_comm}
 use Rattle.std.proofs.lemmas.List.{append-nil}
-use Rattle.lattice.specs.Family.{includes}
+use Rattle.lattice.specs.Words.{includes}
 use Rattle.cert_check.specs.Reading.{parts, is_term, terms_in, factors_of, place_of, factors_product, monomial_of, are_known, ascends_from}
 use Rattle.cert_check.specs.Reading.{monomials_of, are_ordered, is_sum}
 
@@ -63,13 +63,7 @@ module _ (names factors rest : List (List ℕ)) (name : List ℕ) (place product
       let here : 2 ^ (length names - 1 - place_of names name) ≡ weight = rw (← is) (sym weight_is) in
       let whole = so_far.product_is in
       let cons = sum_by-cons (λ other. 2 ^ (length names - 1 - place_of names other)) name rest in
-      record {
-        known = (and_parts (includes names name) (list_all (includes names) rest) so_far.known).1;
-        ascends = rw is (sym (rw (le-leb least (place_of names name) (rw (← is) less)) refl) ∙ so_far.ascends);
-        product_is = omega (arith, whole, cons, here);
-        within = omega arith;
-        room = let r = so_far.room in omega (arith, r, up, doubled, same, weight_is);
-      }
+      grind (arith, and_parts, le-leb)
 
 pub factors_whole : (names factors : List (List ℕ)) (product least : ℕ) → ReadsFactors names factors [] product least
     → (ascends_from names 0 factors ≡ true) × (product ≡ factors_product names factors)
@@ -94,8 +88,7 @@ pub record ReadsTerms (names words left : List (List ℕ)) (limit : ℕ) (monos 
   pub monos_are : monos ++ monomials_of names left ≡ monomials_of names words
 
 pub terms_none : (names words : List (List ℕ)) (limit : ℕ) (monos : List ℕ) → are_known names (terms_in words) ≡ true
-    → limit ≡ 2 ^ length names
-    → monos ≡ [] → ReadsTerms names words words limit monos
+    → limit ≡ 2 ^ length names → monos ≡ [] → ReadsTerms names words words limit monos
 terms_none names words limit monos known limit_is none = record { known = known; ordered = rw limit_is refl; monos_are = rw none refl }
 
 module _ (names words rest : List (List ℕ)) (word : List ℕ) (limit : ℕ) (monos : List ℕ)

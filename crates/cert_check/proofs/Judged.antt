@@ -1,30 +1,24 @@
 -- The first check that fails, and the verdicts on elements and on outputs in turn.
-use Rattle.std.proofs.Common.{◌≡◌, ℕ, suc, ◌-◌, ◌<◌, ◌≤◌, Bool, true, false, ◌==◌, ltb, List, [], ◌∷◌, ◌++◌, length, get_or, reverse, refl}
-use Rattle.std.proofs.Common.{sym, ap, ◌∙◌, arith, zero, ◌+◌, ◌^◌, take, drop, subst, add-one, append_assoc, append-nil, map, cond, rules}
+use Rattle.std.proofs.Common.{◌≡◌, ℕ, suc, ◌-◌, ◌<◌, ◌≤◌, Bool, true, false, ltb, List, [], ◌∷◌, ◌++◌, length, get_or, reverse, refl, sym}
+use Rattle.std.proofs.Common.{ap, ◌∙◌, arith, ◌+◌, ◌^◌, take, drop, add-one, map, cond}
 use Rattle.std.specs.List.{slice_get, All, list_any}
 use Rattle.std.specs.Option.{option_map_or}
-use Rattle.std.proofs.lemmas.List.{take_more, drop_all, take_all}
-use Rattle.std.proofs.lemmas.List.Elements.{All-nil, All-cons, All-head, All-tail}
-use Rattle.lattice.specs.Family.{Family, has, IsFamily, family_where}
-use Rattle.lattice.specs.Polynomial.{value}
-use Rattle.lattice.proofs.Polynomials.{family_where_has, family_where-agree}
-use Rattle.lattice.specs.Rows.{care_zeros, care_ones}
-use Rattle.lattice.specs.WorkingLists.{care_set}
+use Rattle.std.proofs.lemmas.List.{take_more, drop_all, flat_map_more}
+use Rattle.std.proofs.Math.Seq.{drop-cons}
+use Rattle.std.proofs.lemmas.List.Elements.{All-nil, All-head, All-tail, All-append, All-take}
+use Rattle.lattice.specs.Words.{Family, IsFamily, care_zeros, care_ones, care_set}
 use Rattle.pla_reader.specs.Reading.{Description}
 use Rattle.lattice.proofs.Polynomials.{terms_below as below_all}
 use Rattle.cert_check.specs.declared.refusal.Fault.{Fault}
 use Rattle.cert_check.specs.declared.refusal.Verdict.TheVariants.{Yes, No}
-use Rattle.cert_check.specs.Faults.{Check, first_verdict, misses, is_one_in, is_comparable, is_below_last, greatest_of, element_checks}
-use Rattle.cert_check.specs.Faults.{basis_checks, is_divided, miscounts, reduced_checks, output_checks, checks_from, verdict_on}
+use Rattle.cert_check.specs.Faults.{Check, first_verdict, misses, is_comparable, is_below_last, greatest_of, element_checks, basis_checks}
+use Rattle.cert_check.specs.Faults.{is_divided, miscounts, reduced_checks, output_checks, checks_from, verdict_on}
 use Rattle.cert_check.specs.declared.answer.Given.{Given}
 use Rattle.cert_check.specs.declared.refusal.Stop.{Stop}
 use Rattle.cert_check.specs.Parts.{Fails}
-use Rattle.cert_check.specs.Marks.{CountsDivisors}
 use Rattle.cert_check.specs.declared.answer.GivenOutput.{GivenOutput}
 use Rattle.cert_check.specs.declared.refusal.Fault.TheVariants.{Count, Reducible}
 use Rattle.cert_check.specs.Right.{polynomial}
-use Rattle.cert_check.proofs.Reversed.{has-reverse, value-reverse}
-use Rattle.cert_check.proofs.Points.{any-agree}
 use Rattle.cert_check.specs.declared.refusal.Stop.TheVariants as stop
 
 pub goes_past : (test : Bool) (line : ℕ) (why : Fault) (rest : List Check) → test ≡ false → first_verdict
@@ -37,35 +31,16 @@ unfolding first_verdict
 none_failed = refl
 
 -- what fails in front of other checks, and what does not
-pub fails_in_front : (checks rest : List Check) (line : ℕ) (why : Fault) → first_verdict checks ≡ No line why →
-    first_verdict (checks ++ rest) ≡ No line why
+pub fails_in_front : (checks rest : List Check) (e : Stop) → Fails e (first_verdict checks) → Fails e (first_verdict (checks ++ rest))
 unfolding first_verdict
-fails_in_front [] rest line why fails = cc
-fails_in_front (check ∷ checks) rest line why fails = grind (arith, fails, fails_in_front checks rest line why)
+fails_in_front checks rest stop.Memory fails = tt
+fails_in_front [] rest (stop.Fault line why) fails = cc
+fails_in_front (check ∷ checks) rest (stop.Fault line why) fails = grind (arith, fails, fails_in_front checks rest (stop.Fault line why))
 
 pub fine_in_front : (checks rest : List Check) → first_verdict checks ≡ Yes → first_verdict (checks ++ rest) ≡ first_verdict rest
 unfolding first_verdict
 fine_in_front [] rest fine = refl
 fine_in_front (check ∷ checks) rest fine = grind (arith, fine, fine_in_front checks rest)
-
--- ---- values of the terms, each counted once
-
-module _ (n : ℕ) (terms : List ℕ) (family : IsFamily n (reverse terms)) where
-  where_is : family_where n (has terms) ≡ reverse terms
-  where_is = sym (family_where_has n (reverse terms) family ∙ family_where-agree n (has (reverse terms)) (has terms)
-      (λ x below. has-reverse terms x))
-
-  value_where : (a : ℕ) → value (family_where n (has terms)) a ≡ value terms a
-  value_where a = ap (λ (p : Family). value p a) where_is ∙ value-reverse terms a
-
-  pub is_one_where : (points : Family) → is_one_in points (family_where n (has terms)) ≡ is_one_in points terms
-  unfolding is_one_in
-  is_one_where points = any-agree (λ a. value (family_where n (has terms)) a == 1) (λ a. value terms a == 1) points
-      (λ a h. ap (λ (v : ℕ). v == 1) (value_where a))
-
-  pub misses_where : (zeros ones : Family) → misses zeros ones (family_where n (has terms)) ≡ misses zeros ones terms
-  unfolding misses
-  misses_where zeros ones = search (rules, arith, any-agree, value_where)
 
 -- ---- the greatest monomial of an element
 
@@ -101,36 +76,17 @@ below_last_of (t ∷ u ∷ others) m last some is =
 
 -- ==== The verdict on one element, and on elements in turn
 
--- the terms of a polynomial lie below 2 ^ n
-pub terms_below : (n : ℕ) (terms seen : List ℕ) → IsFamily n (reverse terms) → seen ≡ terms → All (λ m. m < 2 ^ n) seen
-terms_below n terms seen family is = subst (All (λ m. m < 2 ^ n)) (sym is) (below_all n terms family)
-
--- the table of a polynomial's terms tells of its values
-pub value_tested : (n : ℕ) (points : Family) (terms seen counts table : List ℕ) (b : Bool) → IsFamily n
-    (reverse terms) → seen ≡ terms → table ≡ counts → CountsDivisors n (family_where n (has seen)) counts
-    → ((f : Family) → CountsDivisors n f table → b ≡ is_one_in points f) → b ≡ is_one_in points terms
-value_tested n points terms seen counts table b family seen_is table_is counted tested =
-    tested (family_where n (has terms)) (rw (← seen_is, table_is) counted) ∙ is_one_where n terms family points
-
 -- ---- elements in turn
 
 pub drop_next : {X : Type 0} (xs : List X) (i : ℕ) (x : X) → i < length xs → x ≡ get_or xs i x → drop i xs ≡ x ∷ drop (i + 1) xs
-drop_next [] i x within is = absurd (omega (arith, within))
-drop_next (y ∷ xs) zero x within is = cc
-drop_next (y ∷ xs) (suc i) x within is = rw add-one (rw add-one at (drop_next xs i x (omega (arith, within)) is))
-
-greatest_of-push : (elements : List Given) (element : Given) → greatest_of (elements ++ element ∷ []) ≡ greatest_of
-    elements ++ take 1 element.terms
-unfolding greatest_of
-greatest_of-push [] element = append-nil (take 1 element.terms)
-greatest_of-push (e ∷ elements) element = ap (λ (ts : List ℕ). take 1 e.terms ++ ts)
-    (greatest_of-push elements element) ∙ sym (append_assoc (take 1 e.terms) (greatest_of elements) (take 1 element.terms))
+drop_next xs i x within is = rw (add-one, drop-cons xs i x within, ← is)
 
 pub tops_next : (elements : List Given) (i top : ℕ) (element : Given) (tops new : List ℕ) → i < length elements →
     element ≡ get_or elements i element → tops ≡ greatest_of (take i elements) → take 1 element.terms ≡ top ∷ []
     → new ≡ tops ++ top ∷ [] → new ≡ greatest_of (take (i + 1) elements)
+unfolding greatest_of
 tops_next elements i top element tops new within is so_far here new_is =
-    rw (take_more elements i element within, ← is, greatest_of-push (take i elements) element, here, ← so_far) new_is
+    cc (take_more elements i element within, flat_map_more (λ (e : Given). take 1 e.terms) [] (take i elements) element)
 
 module _ (points : Family) (elements : List Given) (i : ℕ) (element : Given) (earlier : List ℕ)
     (within : i < length elements) (is : element ≡ get_or elements i element)
@@ -142,9 +98,7 @@ module _ (points : Family) (elements : List Given) (i : ℕ) (element : Given) (
 
   pub elements_fail : (e : Stop) → Fails e (first_verdict (element_checks points earlier element)) → Fails e
       (first_verdict (basis_checks points [] elements))
-  elements_fail (stop.Fault line why) fails = here_first ∙ fails_in_front (element_checks points earlier element)
-      (basis_checks points (earlier ++ take 1 element.terms) (drop (i + 1) elements)) line why fails
-  elements_fail stop.Memory fails = tt
+  elements_fail e fails = rw here_first (fails_in_front (element_checks points earlier element) _ e fails)
 
   pub elements_next : (top : ℕ) (new : List ℕ) → first_verdict (element_checks points earlier element) ≡ Yes →
       take 1 element.terms ≡ top ∷ [] → new ≡ earlier ++ top ∷ [] → first_verdict
@@ -156,22 +110,13 @@ pub elements_fine : (points : Family) (elements : List Given) (i : ℕ) (earlier
     (basis_checks points [] elements) ≡ first_verdict (basis_checks points earlier (drop i elements)) → length elements
     ≤ i → first_verdict (basis_checks points [] elements) ≡ Yes
 unfolding basis_checks
-elements_fine points elements i earlier so_far whole = so_far ∙
-    (ap (λ (es : List Given). first_verdict (basis_checks points earlier es)) (drop_all i elements whole) ∙ none_failed)
+elements_fine points elements i earlier so_far whole = grind (arith, drop_all, none_failed)
 
 pub no_tops : (tops : List ℕ) → tops ≡ [] → tops ≡ greatest_of []
 unfolding greatest_of
 no_tops tops none = none
 
 -- ==== The verdict on what can be reduced, on an output, and on outputs in turn
-
-pub tail_is : (terms : List ℕ) → 1 ≤ length terms → take (length terms - 1) (drop 1 terms) ≡ drop 1 terms
-tail_is [] some = absurd (omega arith)
-tail_is (t ∷ terms) some = take_all (length (t ∷ terms) - 1) terms (omega arith)
-
-pub no_tail : (terms : List ℕ) → length terms < 1 → terms ≡ drop 1 terms
-no_tail [] none = refl
-no_tail (t ∷ terms) none = absurd (omega arith)
 
 pub tail_below : (n : ℕ) (terms seen : List ℕ) → All (λ m. m < n) terms → seen ≡ drop 1 terms → All (λ m. m < n) seen
 tail_below n [] seen all is = rw is all
@@ -207,8 +152,7 @@ module _ (n : ℕ) (zeros ones points : Family) (given : GivenOutput) (fits : mi
 
   pub basis_fails : (e : Stop) → Fails e (first_verdict (basis_checks points [] given.basis))
       → Fails e (first_verdict (output_checks n zeros ones points given))
-  basis_fails (stop.Fault line why) fails = behind_value ∙ fails_in_front (basis_checks points [] given.basis) count_checks line why fails
-  basis_fails stop.Memory fails = tt
+  basis_fails e fails = rw behind_value (fails_in_front (basis_checks points [] given.basis) count_checks e fails)
 
   pub behind_basis : (tops : List ℕ) → first_verdict (basis_checks points [] given.basis) ≡ Yes → tops ≡ greatest_of given.basis
       → first_verdict (output_checks n zeros ones points given)
@@ -221,33 +165,21 @@ greatest_below : (n : ℕ) (elements : List Given) → All (λ e. IsFamily n (po
     (λ m. m < 2 ^ n) (greatest_of elements)
 unfolding greatest_of
 greatest_below n [] families = All-nil (λ m. m < 2 ^ n)
-greatest_below n (e ∷ elements) families = in_front e.terms (greatest_of elements)
-    (terms_below n e.terms e.terms (All-head (λ e. IsFamily n (polynomial e)) e elements families) refl)
-    (greatest_below n elements (All-tail (λ e. IsFamily n (polynomial e)) e elements families))
-  where
-    in_front : (terms rest : List ℕ) → All (λ m. m < 2 ^ n) terms → All (λ m. m < 2 ^ n) rest → All (λ m. m < 2 ^ n)
-        (take 1 terms ++ rest)
-    in_front [] rest all later = later
-    in_front (t ∷ terms) rest all later = All-cons (λ m. m < 2 ^ n) t rest (All-head (λ m. m < 2 ^ n) t terms all) later
+greatest_below n (e ∷ elements) families = All-append (λ m. m < 2 ^ n) (take 1 e.terms) (greatest_of elements)
+    (All-take (λ m. m < 2 ^ n) 1 e.terms (below_all n e.terms (All-head (λ d. IsFamily n (polynomial d)) e elements families)))
+    (greatest_below n elements (All-tail (λ d. IsFamily n (polynomial d)) e elements families))
 
 pub tops_below : (n : ℕ) (elements seen : List Given) (tops table : List ℕ) → All (λ e. IsFamily n (polynomial e))
     elements → table ≡ tops → tops ≡ greatest_of seen → seen ≡ elements → All (λ m. m < 2 ^ n) table
-tops_below n elements seen tops table families table_is tops_are seen_are =
-    rw (table_is, tops_are, seen_are) (greatest_below n elements families)
+tops_below n elements seen tops table families table_is tops_are seen_are = grind (arith, greatest_below n elements families)
 
 -- the terms of polynomials lie below the size of a table
-pub terms_within : (n size : ℕ) (terms : List ℕ) → IsFamily n (reverse terms) → size ≡ 2 ^ n → All (λ m. m < size) terms
-terms_within n size terms family is = rw is (terms_below n terms terms family refl)
+pub terms_within : {n size : ℕ} {terms seen : List ℕ} → IsFamily n (reverse terms) → seen ≡ terms → size ≡ 2 ^ n → All (λ m. m < size) seen
+terms_within {n} {terms = terms} family seen_is is = rw (seen_is, is) (below_all n terms family)
 
 pub elements_within : (n size : ℕ) (elements : List Given) → All (λ e. IsFamily n (polynomial e)) elements → size ≡ 2
     ^ n → All (λ e. All (λ m. m < size) e.terms) elements
-elements_within n size elements families is i d within = terms_within n size (get_or elements i d).terms (families i d within) is
-
-pub values_tested : (n : ℕ) (zeros ones : Family) (terms seen counts table : List ℕ) (b : Bool) → IsFamily n
-    (reverse terms) → seen ≡ terms → table ≡ counts → CountsDivisors n (family_where n (has seen)) counts
-    → ((f : Family) → CountsDivisors n f table → b ≡ misses zeros ones f) → b ≡ misses zeros ones terms
-values_tested n zeros ones terms seen counts table b family seen_is table_is counted tested =
-    tested (family_where n (has terms)) (rw (← seen_is, table_is) counted) ∙ misses_where n terms family zeros ones
+elements_within n size elements families is i d within = terms_within (families i d within) refl is
 
 -- ---- outputs in turn
 
@@ -264,14 +196,11 @@ module _ (p : Description) (answer : List GivenOutput) (i : ℕ)
     output_here = rw (so_far, drop_next answer i given within is, number) refl
 
     pub output_fails : (e : Stop) → Fails e (first_verdict here) → Fails e (verdict_on p answer)
-    output_fails (stop.Fault line why) fails = output_here ∙ fails_in_front here
-        (checks_from p (output + 1) (drop (i + 1) answer)) line why fails
-    output_fails stop.Memory fails = tt
+    output_fails e fails = rw output_here (fails_in_front here _ e fails)
 
     pub output_fine : first_verdict here ≡ Yes → verdict_on p answer ≡ first_verdict (checks_from p (i + 1 + 1) (drop (i + 1) answer))
     output_fine fine = rw (output_here, fine_in_front here _ fine, number) refl
 
   pub outputs_fine : length answer ≤ i → verdict_on p answer ≡ Yes
   unfolding checks_from
-  outputs_fine whole = so_far ∙ (ap (λ (gs : List GivenOutput). first_verdict (checks_from p (i + 1) gs))
-      (drop_all i answer whole) ∙ none_failed)
+  outputs_fine whole = grind (arith, drop_all, none_failed)

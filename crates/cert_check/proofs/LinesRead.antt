@@ -1,24 +1,22 @@
 -- The form of a line, the lines of an answer in turn, and that what they give fits the description.
-use Rattle.std.proofs.Common.{rules}
-use Rattle.std.proofs.Common.{◌≡◌, ℕ, Bool, true, false, ◌||◌, eqb, List, [], ◌∷◌, ◌++◌, length, codes, Some, None, refl, sym, ap, ◌∙◌}
-use Rattle.std.proofs.Common.{⊎_elim, arith, ◌+◌, ◌<◌, ◌≤◌, cond, ltb, Ok, Err, zero, suc, ◌^◌, map, reverse, Option, Result, subst, IfOk}
+use Rattle.std.proofs.Common.{rules, ◌≡◌, ℕ, Bool, true, false, ◌||◌, eqb, List, [], ◌∷◌, ◌++◌, length, codes, Some, None, refl, sym, ap}
+use Rattle.std.proofs.Common.{◌∙◌, ⊎_elim, arith, ◌+◌, ◌<◌, ◌≤◌, cond, Ok, Err, zero, suc, ◌^◌, map, reverse, Option, Result, subst, IfOk}
 use Rattle.std.specs.Str.{bytes_eq}
 use Rattle.std.specs.Option.{option_or, option_map_or}
-use Rattle.std.specs.List.{join_with_byte, All}
+use Rattle.std.specs.List.{All}
 use Rattle.std.specs.List.Sorted.{IsStrictlyIncreasing}
-use Rattle.std.proofs.lemmas.Bool.{cases_Bool, lt-ltb, le-ltb, ne_eqb, false≢true, ltb-false, not-false}
+use Rattle.std.proofs.lemmas.Bool.{cases_Bool, lt-ltb, le-ltb, ne_eqb, false≢true}
 use Rattle.std.proofs.Math.Bool.{and-false}
-use Rattle.std.proofs.lemmas.List.{append-nil, length_push}
+use Rattle.std.proofs.lemmas.List.{append-nil, length_push, nil_from_length}
+use Rattle.std.proofs.lemmas.Bool.Decides.{nat_tests}
 use Rattle.std.proofs.lemmas.Slice.Eq.{bytes_eq-Decides}
 use Rattle.std.proofs.lemmas.List.Splits.{join_with_byte-slice_split, length-slice_split}
 use Rattle.std.proofs.lemmas.List.Elements.{All-nil, All-cons, All-push, All-head, All-tail}
-use Rattle.lattice.specs.Cofactors.{is_empty}
-use Rattle.lattice.specs.Family.{has, IsFamily}
+use Rattle.lattice.specs.Words.{is_empty, has, IsFamily}
 use Rattle.lattice.proofs.Polynomials.{has_none, has_cases, ascends-nil, is_family}
 use Rattle.pla_reader.specs.declared.refusal.LineRefusal.{LineRefusal}
 use Rattle.pla_reader.specs.Parts.{Stops}
 use Rattle.pla_reader.specs.Lines.{lines_of}
-use Rattle.pla_reader.specs.Grammar.{first_failed}
 use Rattle.pla_reader.specs.Reading.{Description}
 use Rattle.cert_check.specs.declared.answer.Given.{Given}
 use Rattle.cert_check.specs.declared.answer.GivenOutput.{GivenOutput}
@@ -37,9 +35,7 @@ use Rattle.pla_reader.specs.declared.refusal.LineRefusal.TheVariants as line_ref
 zero_from : (right : List ℕ) (ws : List (List ℕ)) → words right ≡ ws → is_right ws ≡ (bytes_eq right (codes "0") || is_sum ws)
 zero_from [] [] cut = cc
 zero_from (b ∷ right) [] cut = absurd (omega (arith, length-slice_split (λ x. eqb x 32) (b ∷ right), ap length cut))
-zero_from right (w ∷ []) cut =
-    let back : w ≡ right = sym (ap (join_with_byte 32) cut) ∙ join_with_byte-slice_split 32 right in
-    ap (λ (t : List ℕ). bytes_eq t (codes "0") || is_sum (w ∷ [])) back
+zero_from right (w ∷ []) cut = cc (join_with_byte-slice_split 32 right)
 zero_from right (w ∷ v ∷ ws) cut = search (rules, arith, bytes_eq-Decides, cases_Bool)
 
 pub right_by_sum : (right : List ℕ) (sum : Bool) → bytes_eq right (codes "0") ≡ false → sum ≡ is_sum (words right) →
@@ -94,19 +90,14 @@ with_element-push [] output element = refl
 with_element-push (o ∷ []) output element = refl
 with_element-push (o ∷ p ∷ read) output element = ap (λ (os : List GivenOutput). o ∷ os) (with_element-push (p ∷ read) output element)
 
-pub with_element-none : (read : List GivenOutput) (element : Given) → read ≡ [] → [] ≡ with_element read element
+pub element_alone : (old new : List GivenOutput) (element : Given) → old ≡ new ++ [] → length old ≡ 0 → new ≡ with_element old element
 unfolding with_element
-with_element-none read element none = rw none refl
+element_alone old new element is none = grind (arith, append-nil new, nil_from_length old)
 
 pub element_added : (old rest new : List GivenOutput) (last : GivenOutput) (basis : List Given) (element : Given) →
     old ≡ rest ++ last ∷ [] → basis ≡ last.basis ++ element ∷ [] → new ≡ rest ++ record
     { poly = last.poly; basis = basis } ∷ [] → new ≡ with_element old element
-element_added old rest new last basis element old_is basis_is new_is =
-    rw (old_is, with_element-push rest last element, ← basis_is) new_is
-
-pub element_alone : (old new : List GivenOutput) (element : Given) → old ≡ new ++ [] → length old ≡ 0 → new ≡ with_element old element
-element_alone [] new element is none = sym (append-nil new) ∙ (sym is ∙ with_element-none [] element refl)
-element_alone (o ∷ old) new element is none = absurd (omega arith)
+element_added old rest new last basis element old_is basis_is new_is = grind (arith, with_element-push)
 
 -- ==== The lines of an answer, read one after the other
 
@@ -147,16 +138,13 @@ module _ (ins outs : List (List ℕ)) (text rest : List ℕ) (count : ℕ) (read
     line_refused (line_refusal.Memory) filled stops = tt
     line_refused (line_refusal.Bad why) filled stops = rw (next_line false filled, stops) refl
 
-  at_end : rest ≡ [] → read_on ins outs 0 [] (lines_of text) ≡ cond (ltb (length read) (length outs)) (Err (count, MissingOutput)) (Ok read)
-  unfolding read_on
-  at_end nothing = rw (so_far.goes_on, nothing) refl
-
   pub output_missing : rest ≡ [] → length read < length outs → read_on ins outs 0 [] (lines_of text) ≡ Err (count, MissingOutput)
-  output_missing nothing few = rw (at_end nothing, lt-ltb (length read) (length outs) few) refl
+  unfolding read_on
+  output_missing nothing few = rw (so_far.goes_on, nothing, lt-ltb (length read) (length outs) few) refl
 
   pub all_read : rest ≡ [] → length outs ≤ length read → read_on ins outs 0 [] (lines_of text) ≡ Ok read
-  all_read nothing enough = at_end nothing ∙ ap (λ (b : Bool). cond {A = Reading} b (Err (count, MissingOutput))
-      (Ok read)) (le-ltb (length read) (length outs) enough)
+  unfolding read_on
+  all_read nothing enough = rw (so_far.goes_on, nothing, le-ltb (length read) (length outs) enough) refl
 
 pub empty_is : (xs : List ℕ) (b : Bool) → b ≡ eqb (length xs) 0 → is_empty xs ≡ b
 empty_is [] b is = sym is
@@ -172,75 +160,54 @@ module _ (names : List (List ℕ)) where
   unfolding are_ordered
   ordered-parts limit term terms ordered = grind (arith, ordered)
 
-  ordered_below : (limit : ℕ) (terms : List (List ℕ)) → are_ordered names limit terms ≡ true → (x : ℕ) → has
-      (map (monomial_of names) terms) x ≡ true → x < limit
-  ordered_below limit [] ordered x h = has_none x h
-  ordered_below limit (term ∷ terms) ordered x h =
-      search (rules, arith, has_cases, ordered-parts, ordered_below (monomial_of names term) terms)
-
-  ordered_ascends : (limit : ℕ) (terms : List (List ℕ)) → are_ordered names limit terms ≡ true → IsStrictlyIncreasing
-      (reverse (map (monomial_of names) terms))
-  ordered_ascends limit [] ordered = ascends-nil
-  ordered_ascends limit (term ∷ terms) ordered =
-      let parts = ordered-parts limit term terms ordered in
-      ascends_below (monomial_of names term) (map (monomial_of names) terms) (ordered_ascends (monomial_of names term) terms parts.1)
-      (ordered_below (monomial_of names term) terms parts.1)
+  ordered_terms : (limit : ℕ) (terms : List (List ℕ)) → are_ordered names limit terms ≡ true
+      → IsStrictlyIncreasing (reverse (map (monomial_of names) terms))
+      × ((x : ℕ) → has (map (monomial_of names) terms) x ≡ true → x < limit)
+  unfolding are_ordered
+  ordered_terms limit [] ordered = (ascends-nil, λ x h. has_none x h)
+  ordered_terms limit (term ∷ terms) ordered =
+      let m = monomial_of names term in let parts = ordered-parts limit term terms ordered in
+      let later = ordered_terms m terms parts.1 in (
+        ascends_below m (map (monomial_of names) terms) later.0 later.1,
+        λ x h. grind (arith, has_cases m (map (monomial_of names) terms) x h, later.1 x, parts.0),
+      )
 
   pub ordered_family : (n : ℕ) (right : List (List ℕ)) → are_ordered names (2 ^ n) (terms_in right) ≡ true → IsFamily n
       (reverse (monomials_of names right))
   unfolding monomials_of
   ordered_family n right ordered =
-      is_family n (reverse (map (monomial_of names) (terms_in right))) (ordered_ascends (2 ^ n) (terms_in right) ordered)
-      (λ x h. ordered_below (2 ^ n) (terms_in right) ordered x (sym (has-reverse (map (monomial_of names) (terms_in right)) x) ∙ h))
+      let both = ordered_terms (2 ^ n) (terms_in right) ordered in
+      is_family n (reverse (map (monomial_of names) (terms_in right))) both.0
+      (λ x h. both.1 x (sym (has-reverse (map (monomial_of names) (terms_in right)) x) ∙ h))
 
 -- ---- a line without a fault
 
-two_fine : (a b : Bool) (x y : AnswerWhy) → first_failed ((a, x) ∷ (b, y) ∷ []) ≡ None → b ≡ false
-two_fine a b x y none = grind (arith, none)
-
-both_fine : (left right : Option AnswerWhy) → option_or left right ≡ None → (left ≡ None) × (right ≡ None)
-both_fine left right none = grind (arith, none)
-
 module _ (ins outs : List (List ℕ)) (before : ℕ) (line : List (List ℕ)) (fine : line_fault ins outs before line ≡ None) where
-  sides_fine : (left_fault outs before (left_of line) ≡ None) × (right_fault ins (right_of line) ≡ None)
-  unfolding line_fault
-  sides_fine = grind (arith, fine, both_fine (left_fault outs before (left_of line)) (right_fault ins (right_of line)))
-
   terms_fine : are_ordered ins (2 ^ length ins) (terms_in (right_of line)) ≡ true
-  unfolding right_fault
-  terms_fine = not-false (are_ordered ins (2 ^ length ins) (terms_in (right_of line))) (two_fine _ _ _ _ sides_fine.1)
+  unfolding right_fault line_fault
+  terms_fine = grind (arith, fine)
 
   next_fine : is_element (left_of line) ≡ false → is_next outs before (left_of line) ≡ true
-  unfolding left_fault
-  next_fine other = not-false (is_next outs before (left_of line)) (two_fine _ _ _ _ (rw other at sides_fine.0))
+  unfolding left_fault line_fault
+  next_fine other = grind (arith, fine, other)
 
 next_within : (outs : List (List ℕ)) (before : ℕ) (name : List ℕ) → is_next outs before name ≡ true → before < length outs
 next_within [] before name next = absurd (false≢true next)
 next_within (o ∷ outs) zero name next = omega arith
-next_within (o ∷ outs) (suc before) name next = let within : before < length outs = next_within outs before name next
-    in omega arith
+next_within (o ∷ outs) (suc before) name next = grind (arith, next_within outs before name next)
 
 -- ---- one more line
 
-with_element-over : (n : ℕ) (read : List GivenOutput) (element : Given) → All (IsOutputOver n) read → IsFamily n
-    (polynomial element) → All (IsOutputOver n) (with_element read element)
+with_element-fits : (n : ℕ) (read : List GivenOutput) (element : Given) → All (IsOutputOver n) read → IsFamily n (polynomial element)
+    → All (IsOutputOver n) (with_element read element) × (length (with_element read element) ≡ length read)
 unfolding with_element
-with_element-over n [] element all family = all
-with_element-over n (o ∷ []) element all family =
+with_element-fits n [] element all family = (all, refl)
+with_element-fits n (o ∷ []) element all family =
     let over = All-head (IsOutputOver n) o [] all in
-    All-cons (IsOutputOver n) _ [] (record {
-      poly = over.poly;
-      basis = All-push (λ (e : Given). IsFamily n (polynomial e)) o.basis element over.basis family;
-    }) (All-nil (IsOutputOver n))
-with_element-over n (o ∷ p ∷ read) element all family =
-    All-cons (IsOutputOver n) o _ (All-head (IsOutputOver n) o (p ∷ read) all)
-    (with_element-over n (p ∷ read) element (All-tail (IsOutputOver n) o (p ∷ read) all) family)
-
-length-with_element : (read : List GivenOutput) (element : Given) → length (with_element read element) ≡ length read
-unfolding with_element
-length-with_element [] element = refl
-length-with_element (o ∷ []) element = refl
-length-with_element (o ∷ p ∷ read) element = ap suc (length-with_element (p ∷ read) element)
+    (All-cons (IsOutputOver n) _ [] (search (rules, arith, All-push)) (All-nil (IsOutputOver n)), refl)
+with_element-fits n (o ∷ p ∷ read) element all family =
+    let later = with_element-fits n (p ∷ read) element (All-tail (IsOutputOver n) o (p ∷ read) all) family in
+    (All-cons (IsOutputOver n) o _ (All-head (IsOutputOver n) o (p ∷ read) all) later.0, ap suc later.1)
 
 fine_unless : (fault : Option AnswerWhy) (number : ℕ) (reading : Reading) (answer : List GivenOutput)
     → option_map_or (λ why. Err (number, why)) fault reading ≡ Ok answer → (fault ≡ None) × (reading ≡ Ok answer)
@@ -261,30 +228,21 @@ module _ (ins outs : List (List ℕ)) where
       let output : GivenOutput = record { poly = given; basis = [] } in
       let family : IsFamily (length ins) (polynomial given) = ordered_family ins (length ins) (right_of line)
       (terms_fine ins outs (length read) line fine) in
-      ⊎_elim (λ (element : is_element (left_of line) ≡ true). rw element (record {
-        over = with_element-over (length ins) read given fits.over family;
-        few = let f = fits.few in omega (arith, f, length-with_element read given);
-      }))
+      ⊎_elim (λ (element : is_element (left_of line) ≡ true). rw element (
+      let next = with_element-fits (length ins) read given fits.over family in
+      record { over = next.0; few = let f = fits.few in omega (arith, f, next.1) }))
       (λ (other : is_element (left_of line) ≡ false).
       let within = next_within outs (length read) (left_of line) (next_fine ins outs (length read) line fine other) in
-      rw other (record {
-        over = All-push (IsOutputOver (length ins)) read output fits.over
-            (record { poly = family; basis = All-nil (λ (e : Given). IsFamily (length ins) (polynomial e)) });
-        few = omega (arith, within, length_push read output);
-      }))
+      rw other (search (rules, arith, All-push, All-nil, length_push)))
       (cases_Bool (is_element (left_of line)))
 
   read_fits : (count : ℕ) (read : List GivenOutput) (lines : List (List ℕ)) (answer : List GivenOutput) → FitsOutputs
       (length ins) (length outs) read → read_on ins outs count read lines ≡ Ok answer → All (IsOutputOver (length ins))
       answer × (length answer ≡ length outs)
   unfolding read_on
-  read_fits count read [] answer fits is = ⊎_elim (λ (few : ltb (length read) (length outs) ≡ true). let wrong = rw few at is in absurd cc)
-      (λ (enough : ltb (length read) (length outs) ≡ false).
-      let whole = rw enough at is in
-      let same : read ≡ answer = cc in
-      let most = fits.few in
-      let least = ltb-false (length read) (length outs) enough in
-      rw (← same) (fits.over, omega arith)) (cases_Bool (ltb (length read) (length outs)))
+  read_fits count read [] answer fits is =
+      let parts : (read ≡ answer) × (length outs ≤ length read) = grind (arith, is, nat_tests) in
+      let few = fits.few in rw (← parts.0) (fits.over, omega arith)
   read_fits count read (line ∷ lines) answer fits is = ⊎_elim
       (λ (empty : is_empty (bare line) ≡ true). read_fits (count + 1) read lines answer fits (rw empty at is))
       (λ (filled : is_empty (bare line) ≡ false).

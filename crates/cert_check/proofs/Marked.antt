@@ -11,8 +11,8 @@ use Rattle.std.proofs.Math.Bool.{or-false}
 use Rattle.std.proofs.lemmas.List.Folds.{list_any-append}
 use Rattle.std.proofs.lemmas.List.{take_more, length-map}
 use Rattle.std.proofs.lemmas.Option.{slice_get_within}
-use Rattle.lattice.specs.Family.{divides, has, IsFamily}
-use Rattle.lattice.specs.Rows.{in_cube, cover, rows_with, on_set, off_set, dc_set, points_where, care_zeros, care_ones, is_zero, is_one}
+use Rattle.lattice.specs.Words.{divides, has, IsFamily, in_cube, cover, rows_with, on_set, off_set, dc_set, points_where, care_zeros}
+use Rattle.lattice.specs.Words.{care_ones, is_zero, is_one}
 use Rattle.lattice.specs.declared.row.Row.{Row}
 use Rattle.lattice.specs.declared.kind.Kind.{Kind}
 use Rattle.lattice.proofs.Polynomials.{has-family_where_below, IsFamily-family_where}
@@ -47,20 +47,14 @@ any_more p rows r = list_any-append p rows (r ∷ []) ∙ ap (λ (b : Bool). lis
 
 mark_inside : (mask : Row → ℕ) (rows : List Row) (r : Row) (a m : ℕ) → in_cube r a ≡ true → IsMark mask rows a m →
     IsMark mask (rows ++ r ∷ []) a (bit_or m (mask r))
-mark_inside mask rows r a m inside before j small =
-    rw (divides-or j m (mask r), before j small, any_more (λ s. in_cube s a && divides (2 ^ j) (mask s)) rows r, inside) refl
+mark_inside mask rows r a m inside before j small = grind (arith, divides-or, any_more)
 
 mark_outside : (mask : Row → ℕ) (rows : List Row) (r : Row) (a m : ℕ) → in_cube r a ≡ false → IsMark mask rows a m →
     IsMark mask (rows ++ r ∷ []) a m
-mark_outside mask rows r a m outside before j small =
-    rw (before j small, any_more (λ s. in_cube s a && divides (2 ^ j) (mask s)) rows r, outside) (sym (or-false _))
+mark_outside mask rows r a m outside before j small = grind (arith, any_more, or-false)
 
 pub marks_none : (a : ℕ) → MarksPoint [] a (record { on = 0; off = 0; dc = 0 })
-marks_none a = record {
-  on = λ j small. divides-zero j;
-  off = λ j small. divides-zero j;
-  dc = λ j small. divides-zero j;
-}
+marks_none a = grind (arith, divides-zero)
 
 -- ---- the points with a value
 
@@ -77,10 +71,7 @@ covered mask n output a m rows first last below mark = search (rules, arith, has
 pub is_care_of : (n output a : ℕ) (kind : Kind) (value : Bool) (rows : List Row) (m : Marks) → 1 ≤ output → output ≤
     64 → a < 2 ^ n → MarksPoint rows a m → has_value kind value (has (on_set n rows output) a) (has (off_set n rows output) a)
     (has (dc_set n rows output) a) ≡ is_care kind value output m
-is_care_of n output a kind value rows m first last below at =
-    let on = covered (λ r. r.on) n output a m.on rows first last below at.on in
-    let off = covered (λ r. r.off) n output a m.off rows first last below at.off in
-    let dc = covered (λ r. r.dc) n output a m.dc rows first last below at.dc in rw (on, off, dc) refl
+is_care_of n output a kind value rows m first last below at = grind (arith, covered)
 
 -- ---- the table of marks
 
@@ -109,8 +100,7 @@ pub marks_next_inside : (rows : List Row) (i : ℕ) (d : Row) (a : ℕ) (m n : M
     } → MarksPoint (take (i + 1) rows) a n
 unfolding in_cube
 marks_next_inside rows i d a m n within inside before is =
-    let r = get_or rows i d in
-    let here : in_cube r a ≡ true = eq-eqb (bit_and a r.care) r.value inside in
+    let r = get_or rows i d in let here : in_cube r a ≡ true = eq-eqb (bit_and a r.care) r.value inside in
     rw (take_more rows i d within, is) (record {
       on = mark_inside (λ s. s.on) (take i rows) r a m.on here before.on;
       off = mark_inside (λ s. s.off) (take i rows) r a m.off here before.off;
@@ -128,8 +118,7 @@ marks_next_outside rows i d a m n within outside before is = grind (arith, commo
 points_at : (test : Bool → Bool → Bool → Bool) (n : ℕ) (rows : List Row) (output a : ℕ) → a < 2 ^ n → has
     (points_where test n rows output) a ≡ test (has (on_set n rows output) a) (has (off_set n rows output) a) (has (dc_set n rows output) a)
 unfolding points_where
-points_at test n rows output a below = has-family_where_below n
-    (λ x. test (has (on_set n rows output) x) (has (off_set n rows output) x) (has (dc_set n rows output) x)) a below
+points_at test n rows output a below = simp has-family_where_below
 
 -- care points are a family
 pub points_family : (test : Bool → Bool → Bool → Bool) (n : ℕ) (rows : List Row) (output : ℕ) → IsFamily n (points_where test n rows output)

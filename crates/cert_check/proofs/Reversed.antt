@@ -2,8 +2,7 @@
 use Rattle.std.proofs.Common.{◌≡◌, ℕ, ◌%◌, ◌<◌, true, List, [], ◌∷◌, ◌++◌, reverse, refl, sym, ap, ◌∙◌, subst, ⊎_elim, arith}
 use Rattle.std.specs.List.Sorted.{IsStrictlyIncreasing}
 use Rattle.std.proofs.lemmas.List.{reverse-append}
-use Rattle.lattice.specs.Family.{has}
-use Rattle.lattice.specs.Polynomial.{value}
+use Rattle.lattice.specs.Words.{has, value}
 use Rattle.lattice.proofs.Polynomials.{has-nil, has-cons, has_none, has_cases, has-append, ascends-nil, ascends-cons, ascends-append, count}
 use Rattle.lattice.proofs.Polynomials.{count-append, value-count}
 
@@ -12,8 +11,7 @@ reverse_cons x xs = reverse-append (x ∷ []) xs
 
 pub has-reverse : (xs : List ℕ) (x : ℕ) → has (reverse xs) x ≡ has xs x
 has-reverse [] x = refl
-has-reverse (y ∷ xs) x =
-    grind (arith, reverse_cons y xs, has-append (reverse xs) (y ∷ []) x, has-cons y xs x, has-cons y [] x, has-nil x, has-reverse xs x)
+has-reverse (y ∷ xs) x = grind (arith, reverse_cons, has-append, has-cons, has-nil, has-reverse xs x)
 
 -- strictly descending terms below a limit make a family below it
 pub ascends_below : (m : ℕ) (ms : List ℕ) → IsStrictlyIncreasing (reverse ms) → ((x : ℕ) → has ms x ≡ true → x < m) →
@@ -26,8 +24,7 @@ ascends_below m ms up below =
 
 count-reverse : (p : List ℕ) (a : ℕ) → count (reverse p) a ≡ count p a
 count-reverse [] a = refl
-count-reverse (m ∷ p) a =
-    rw reverse_cons (omega (arith, count-append (reverse p) (m ∷ []) a, count-append (m ∷ []) p a, count-reverse p a))
+count-reverse (m ∷ p) a = rw reverse_cons (omega (arith, count-append (reverse p) (m ∷ []) a, count-append (m ∷ []) p a, count-reverse p a))
 
 pub value-reverse : (p : List ℕ) (a : ℕ) → value (reverse p) a ≡ value p a
 value-reverse p a = value-count (reverse p) a ∙ (ap (λ (n : ℕ). n % 2) (count-reverse p a) ∙ sym (value-count p a))

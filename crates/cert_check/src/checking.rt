@@ -57,6 +57,7 @@ fn count_free(counts: &[u16]) -> usize
 }
 
 /// Whether the number of points that nothing divides differs from that of the care points.
+#[tactic(auto, unfolding(crate::specs::Faults::miscounts))]
 fn miscounts(care: &[Care], counts: &[u16]) -> bool
     ensures { (n : ℕ) (zeros ones : Family) (tops : List ℕ) → MarksCare n zeros ones care.now → CountsDivisors n (family_where n (has tops)) counts.now → result ≡ miscounts n (union_of n zeros ones) tops }
 {

@@ -55,20 +55,6 @@ pub record TakesOne (a : Arg) (parser : ValueParser) : Type 0 where
   pub parser_is : a.value_parser ≡ Some parser
   pub named : a.id.now ≡ [] → ⊥
 
-accepted_by : (c : Command) (a : Arg) (q : ValueParser) (t : List ℕ) → IsOnly c a → TakesOne a q → PassesArg c a.id.now t
-    → Accepts a.ignore_case q t
-accepted_by c a q t only takes pass =
-    let s = only pass.0 pass.1 pass.2 pass.3 pass.4.0 in
-    let is_q : parser_of pass.1 ≡ q = ap parser_of_value (s.parser q takes.parser_is) in
-    let as_q : Accepts pass.1.ignore_case q t = subst (λ (w : ValueParser). Accepts pass.1.ignore_case w t) is_q pass.4.1 in
-    subst (λ (b : Bool). Accepts b q t) s.ignore_case as_q
-
-read_by : (c : Command) (a : Arg) (q : ValueParser) (r : Reading) → IsOnly c a → TakesOne a q → HasReading c a.id.now r → r ≡ reading_of q
-read_by c a q r only takes has =
-    let s = only has.0 has.1 has.2 has.3 has.4.0 in
-    let is_q : parser_of has.1 ≡ q = ap parser_of_value (s.parser q takes.parser_is) in
-    sym has.4.1 ∙ ap reading_of is_q
-
 from_entry : (c : Command) (f : Found) (a : Arg) (q : ValueParser) (x : MatchedArg) → IsOnly c a → TakesOne a q
     → matched_of f a.id.now ≡ Some x
     → 0 < length x.vals.items → All (λ v. PassesArg c a.id.now v.now) x.vals.items → HasReading c a.id.now x.reading
@@ -78,30 +64,10 @@ from_entry c f a q x only takes is some pass has = go x.vals.items refl some pas
     go : (vs : List (Bor (List ℕ))) → x.vals.items ≡ vs → 0 < length vs → All (λ v. PassesArg c a.id.now v.now) vs
         → HasValue f a.id.now a.ignore_case q
     go [] vals some pass = absurd (omega arith)
-    go (v ∷ vs) vals some pass = record {
-      text = v.now;
-      first = rw (is, vals) refl;
-      one = rw (is, vals) (ap (λ (how : Reading). Some (read_as how v.now)) (read_by c a q x.reading only takes has));
-      accepted = accepted_by c a q v.now only takes
-          (All-get_or (λ (w : Bor (List ℕ)). PassesArg c a.id.now w.now) (v ∷ vs) 0 v (omega arith) pass);
-    }
+    go (v ∷ vs) vals some pass = grind (arith, pass 0 v (omega arith))
 
 is_no_group : (c : Command) (e : Entry) → groups_of c ≡ [] → (e.0.now ≡ [] → ⊥) → IsGroupEntry c e → e.1.is_group ≡ true → ⊥
-is_no_group c e no_groups named known group =
-    ⊎_elim named (λ some. let none : length (groups_of c) ≡ 0 = ap length no_groups in absurd (omega arith)) (known group)
-
-no_count : (c : Command) (a : Arg) (q : ValueParser) → IsOnly c a → TakesOne a q → IsCountArg c a.id.now → ⊥
-no_count c a q only takes count =
-    let s = only count.0 count.1 count.2 count.3 count.4.0 in
-    let is_set = ap (λ (o : Option ArgAction). unwrap_or o Set) (s.action Set takes.set) in
-    let both : Set ≡ Count = sym is_set ∙ count.4.1 in
-    cc
-
-not_none : (c : Command) (a : Arg) (q : ValueParser) → IsOnly c a → TakesOne a q → AllowsNone c a.id.now → ⊥
-not_none c a q only takes none =
-    let s = only none.0 none.1 none.2 none.3 none.4.0 in
-    ⊎_elim (λ least. let some = s.least takes.set takes.least in absurd (omega arith))
-    (λ delim. true≢false (sym delim ∙ ap is_some (s.val_delim ∙ takes.whole))) none.4.1
+is_no_group c e no_groups named known group = grind arith
 
 abbrev FilledAs : Command → MatchedArg → List ℕ → Type 0
 FilledAs c x id = ((x.is_group ≡ true) × IsKnownGroup c id)
@@ -109,7 +75,7 @@ FilledAs c x id = ((x.is_group ≡ true) × IsKnownGroup c id)
 
 has_values : (c : Command) (a : Arg) (q : ValueParser) (x : MatchedArg) → IsOnly c a → TakesOne a q → (x.is_group ≡ true → ⊥)
     → FilledAs c x a.id.now → 0 < length x.vals.items
-has_values c a q x only takes no_group filled = grind (arith, no_count c a q only takes, not_none c a q only takes)
+has_values c a q x only takes no_group filled = grind (arith, unwrap_or, true≢false, is_some)
 
 no_other : {P Q : Type 0} → P ⊎ Q → (P → ⊥) → Q
 no_other (inl p) not = absurd (not p)
@@ -119,11 +85,9 @@ entry_has : (c : Command) (f : Found) (a : Arg) (q : ValueParser) (e : Entry) �
     → matched_of f a.id.now ≡ Some e.1 → e.0.now ≡ a.id.now → EntryPasses c e → HasValue f a.id.now a.ignore_case q
 entry_has c f a q e only takes no_groups is key pass =
     let no_group = is_no_group c e no_groups (λ empty. takes.named (sym key ∙ empty)) pass.3 in
-    let all = no_other pass.0 no_group in
-    let reading = no_other pass.4 no_group in
-    from_entry c f a q e.1 only takes is (has_values c a q e.1 only takes no_group (subst (λ (id : List ℕ). FilledAs c e.1 id) key pass.1))
-    (subst (λ (id : List ℕ). All (λ v. PassesArg c id v.now) e.1.vals.items) key all)
-    (subst (λ (id : List ℕ). HasReading c id e.1.reading) key reading)
+    let passes = rw key at pass in
+    from_entry c f a q e.1 only takes is (has_values c a q e.1 only takes no_group passes.1) (no_other passes.0 no_group)
+    (no_other passes.4 no_group)
 
 -- an argument that takes one value and has an entry has a value
 pub value_found : (c : Command) (f : Found) (a : Arg) (q : ValueParser) → IsOnly c a → TakesOne a q → groups_of c ≡ [] → ValuesPass c f
@@ -140,9 +104,6 @@ value_found c f a q only takes no_groups passes has = go (matched_of f a.id.now)
 
 -- ---- entries and texts
 
-never : {P : Type 0} → false ≡ true → P
-never e = absurd (true≢false (sym e))
-
 some_entry : (xs : List Entry) (id : Text) (i : ℕ) → i < length xs → ((d : Entry) → bytes_eq (slice_index_or xs i d).0.now id ≡ true)
     → is_some (option_map (λ (e : Entry). e.1) (find (λ (e : Entry). bytes_eq e.0.now id) xs)) ≡ true
 some_entry [] id i lt same = absurd (omega arith)
@@ -154,16 +115,13 @@ differs s t other same = true≢false (sym ((bytes_eq-Decides s t).1 same) ∙ o
 
 -- a text that is one of the names is the name of some mode
 mode_among : (P : Text → Type 0) (text : Text) (ms : List Mode) → P text
-    → list_any (λ (name : Text). bytes_eq name text) (map mode_name ms) ≡ true
-    → Any (λ mode. P (mode_name mode)) ms
-mode_among P text [] holds among = never among
+    → list_any (λ (name : Text). bytes_eq name text) (map mode_name ms) ≡ true → Any (λ mode. P (mode_name mode)) ms
+mode_among P text [] holds among = absurd cc
 mode_among P text (x ∷ xs) holds among =
     elim (or_cases (bytes_eq (mode_name x) text) (list_any (λ (name : Text). bytes_eq name text) (map mode_name xs)) among) [
       | inl is ↦ (0, x, omega arith, refl, subst P (sym ((bytes_eq-Decides (mode_name x) text).0 is)) holds)
       | inr later ↦
-          let any = mode_among P text xs holds later in
-          let lt = any.2 in
-          (suc any.0, any.1, omega arith, any.3, any.4)
+          let any = mode_among P text xs holds later in let lt = any.2 in (suc any.0, any.1, omega arith, any.3, any.4)
     ]
 
 -- ---- the six arguments
@@ -171,30 +129,13 @@ mode_among P text (x ∷ xs) holds among =
 rules_at : NameList → List Rule
 rules_at list = mode_rule list ∷ options
 
-below_six : (P : ℕ → Type 0) → P 0 → P 1 → P 2 → P 3 → P 4 → P 5 → (k : ℕ) → k < 6 → P k
-below_six P a b c d e f zero lt = a
-below_six P a b c d e f (suc zero) lt = b
-below_six P a b c d e f (suc (suc zero)) lt = c
-below_six P a b c d e f (suc (suc (suc zero))) lt = d
-below_six P a b c d e f (suc (suc (suc (suc zero)))) lt = e
-below_six P a b c d e f (suc (suc (suc (suc (suc zero))))) lt = f
-below_six P a b c d e f (suc (suc (suc (suc (suc (suc k)))))) lt = absurd (omega arith)
-
 -- an argument, told by its rule
 module _ (a : Arg) (r : Rule) (is : rule_of a ≡ r) (simple : IsSimpleArg a) (q : ValueParser) where
   takes_one : r.action ≡ Some Set → r.range ≡ None → r.parser ≡ Some q → bytes_eq r.id [] ≡ false → TakesOne a q
-  takes_one set one parser named = record {
-    set = ap (λ (x : Rule). x.action) is ∙ set;
-    whole = simple.delimiter;
-    least = subst (λ (o : Option ValueRange). 1 ≤ (unwrap_or_range o).start_inclusive) (sym (ap (λ (x : Rule). x.range) is ∙ one))
-        (omega arith);
-    parser_is = ap (λ (x : Rule). x.parser) is ∙ parser;
-    named = λ empty. differs r.id [] named (sym (ap (λ (x : Rule). x.id) is) ∙ empty);
-  }
+  takes_one set one parser named = grind (arith, differs)
 
   by_rule : (f : Found) → r.ignore_case ≡ false → HasValue f a.id.now a.ignore_case q → HasValue f r.id false q
-  by_rule f case has = subst (λ (id : Text). HasValue f id false q) (ap (λ (x : Rule). x.id) is)
-      (subst (λ (b : Bool). HasValue f a.id.now b q) (ap (λ (x : Rule). x.ignore_case) is ∙ case) has)
+  by_rule f case has = grind arith
 
 abbrev ids : List Text
 ids = codes "mode" ∷ codes "workers" ∷ codes "nodes" ∷ codes "terms" ∷ codes "seed" ∷ codes "order" ∷ []
@@ -215,12 +156,6 @@ record IsRuleOfOne (k : ℕ) (r : Rule) (q : ValueParser) : Type 0 where
   no_version : bytes_eq r.id (codes "version") ≡ false
   only : (j : ℕ) → j < 6 → IsOnlyAt k r.id j
 
-rule_of_one : {k : ℕ} {r : Rule} {q : ValueParser} → k < 6 → r.action ≡ Some Set → r.range ≡ None → r.parser ≡ Some q
-    → r.ignore_case ≡ false → bytes_eq r.id [] ≡ false → bytes_eq r.id (codes "help") ≡ false
-    → bytes_eq r.id (codes "version") ≡ false → ((j : ℕ) → j < 6 → IsOnlyAt k r.id j) → IsRuleOfOne k r q
-rule_of_one a b c d e f g h i =
-    record { low = a; set = b; one = c; parser_is = d; case = e; named = f; no_help = g; no_version = h; only = i }
-
 module _ (list : NameList) (c : Command) (m : ArgMatches) (is : app_of c ≡ interp_command_at list) (p : IsParsedFrom c m) where
   shape : shape_of c ≡ (interp_command_at list).top
   shape = ap (λ (a : App). a.top) is
@@ -230,9 +165,8 @@ module _ (list : NameList) (c : Command) (m : ArgMatches) (is : app_of c ≡ int
 
   plain : IsPlain c
   plain =
-      let free = free_args c simple (ap has_free_rules shape) in
       let groups = simple_groups c (ap (λ (s : Shape). all_simple s.rules) shape) in
-      ((λ k d lt. let f = free k d lt in (f.exclusive, f.conflicts, f.overrides, groups k d lt)), simple.groups)
+      let free = free_args c simple (ap has_free_rules shape) in grind (arith, free, groups, simple.groups)
 
   parsed : IsParsed p.built (found_of m) (has_subcommand m)
   parsed = p.parsed (p.from.globals ∙ simple.globals)
@@ -252,9 +186,7 @@ module _ (list : NameList) (c : Command) (m : ArgMatches) (is : app_of c ≡ int
 
   id_is : (k : ℕ) (d : Arg) → k < 6 → (slice_index_or (args_of c) k d).id.now ≡ slice_index_or ids k []
   unfolding rules_at
-  id_is k d lt = ap (λ (x : Rule). x.id) (rule_is k d (mode_rule list) lt)
-      ∙ below_six (λ (j : ℕ). (slice_index_or (rules_at list) j (mode_rule list)).id ≡ slice_index_or ids j [])
-      refl refl refl refl refl refl k lt
+  id_is k d lt = grind (arith, rule_is k d (mode_rule list) lt)
 
   module _ (k : ℕ) (d : Arg) (r : Rule) (q : ValueParser) (one : IsRuleOfOne k r q) (at : slice_index_or (rules_at list) k r ≡ r) where
     abbrev arg : Arg
@@ -267,25 +199,25 @@ module _ (list : NameList) (c : Command) (m : ArgMatches) (is : app_of c ≡ int
     has_rule = rule_is k d r one.low ∙ at
 
     unique : (j : ℕ) (e : Arg) → j < length (args_of c) → bytes_eq (slice_index_or (args_of c) j e).id.now arg.id.now ≡ true → j ≡ k
-    unique j e lt same =
-        let count = six in
-        let under : j < 6 = omega arith in
-        one.only j under (subst (λ (id : Text). bytes_eq (slice_index_or ids j []) id ≡ true) (ap (λ (x : Rule). x.id) has_rule)
-        (subst (λ (id : Text). bytes_eq id arg.id.now ≡ true) (id_is j e under) same))
+    unique j e lt same = grind (arith, one.only j, id_is j e, has_rule, six)
 
     not_auto : IsAuto arg → ⊥
-    not_auto (inl help) = differs r.id (codes "help") one.no_help (sym (ap (λ (x : Rule). x.id) has_rule) ∙ help)
-    not_auto (inr version) = differs r.id (codes "version") one.no_version (sym (ap (λ (x : Rule). x.id) has_rule) ∙ version)
+    not_auto auto = grind (arith, differs, one.no_help, one.no_version, has_rule)
 
     is_only : IsOnly p.built arg
     is_only = same_rules_by_id c m p k d low unique not_auto
 
     value_at : is_some (matched_of (found_of m) arg.id.now) ≡ true → HasValue (found_of m) r.id false q
     value_at has =
-        let simple_arg = simple.args k d low in
-        by_rule arg r has_rule simple_arg q (found_of m) one.case
-        (value_found p.built (found_of m) arg q is_only (takes_one arg r has_rule simple_arg q one.set one.one one.parser_is one.named)
-        (p.from.plain plain).1 parsed.values has)
+        let takes = takes_one arg r has_rule (simple.args k d low) q one.set one.one one.parser_is one.named in
+        let value = value_found p.built (found_of m) arg q is_only takes (p.from.plain plain).1 parsed.values has in
+        by_rule arg r has_rule (simple.args k d low) q (found_of m) one.case value
+
+    default_at : 0 < length r.defaults → HasValue (found_of m) r.id false q
+    default_at some =
+        let given = length-map (items_of arg.default_vals) (λ (s : Bor Text). s.now) in
+        let has = default_present c m p simple.globals k d low ((simple.args k d low).default_ifs, grind (arith, given, has_rule)) in
+        value_at (some_entry (found_of m).entries.items arg.id.now has.0 has.1 has.2)
 
     required_at : r.required ≡ true → HasValue (found_of m) r.id false q
     required_at needed =
@@ -293,18 +225,10 @@ module _ (list : NameList) (c : Command) (m : ArgMatches) (is : app_of c ≡ int
         value_at (present_has_entry (found_of m) arg.id.now
         (required_present c m p plain simple.globals negates k d low (ap (λ (x : Rule). x.required) has_rule ∙ needed)))
 
-    default_at : 0 < length r.defaults → HasValue (found_of m) r.id false q
-    default_at some =
-        let given : length (items_of arg.default_vals) ≡ length r.defaults =
-        sym (length-map (items_of arg.default_vals) (λ (s : Bor Text). s.now)) ∙ ap (λ (x : Rule). length x.defaults) has_rule in
-        let has = default_present c m p simple.globals k d low ((simple.args k d low).default_ifs, omega arith) in
-        value_at (some_entry (found_of m).entries.items arg.id.now has.0 has.1 has.2)
-
   number_at : (k : ℕ) (r : Rule) (lo hi : ℕ) → IsRuleOfOne k r (parser.Unsigned lo hi) → slice_index_or (rules_at list) k r ≡ r
       → 0 < length r.defaults → Arg → HasNumber (found_of m) r.id lo hi
   number_at k r lo hi one at some d =
-      let value = default_at k d r (parser.Unsigned lo hi) one at some in
-      (value.text, value.one, value.accepted)
+      let value = default_at k d r (parser.Unsigned lo hi) one at some in (value.text, value.one, value.accepted)
 
   abbrev rule_at : ℕ → Rule
   rule_at k = slice_index_or (rules_at list) k (mode_rule list)
@@ -312,20 +236,15 @@ module _ (list : NameList) (c : Command) (m : ArgMatches) (is : app_of c ≡ int
   each_from : IsModeNames list → Arg → HasEach (found_of m)
   unfolding rules_at
   each_from names d =
-      let mode = required_at 0 d (mode_rule list) (parser.Names list) (rule_of_one (omega arith) refl refl refl refl refl refl refl
-      (below_six (λ (j : ℕ). IsOnlyAt 0 (codes "mode") j) (λ _. refl) never never never never never)) refl refl in
+      let mode = required_at 0 d (mode_rule list) (parser.Names list) (grind arith) refl refl in
       record {
         mode = mode_among (λ (name : Text). first_value (found_of m) (codes "mode") ≡ Some name) mode.text modes mode.first
             (ap (list_any (λ (name : Text). bytes_eq name mode.text)) (sym names)
             ∙ (sym (list_any-map (λ (name : Text). bytes_eq name mode.text) (λ (name : Bor Text). name.now) list.now) ∙ mode.accepted));
-        workers = number_at 1 (rule_at 1) 1 16 (rule_of_one (omega arith) refl refl refl refl refl refl refl
-            (below_six (λ (j : ℕ). IsOnlyAt 1 (codes "workers") j) never (λ _. refl) never never never never)) refl (omega arith) d;
-        nodes = number_at 2 (rule_at 2) MIN_BITS MAX_BITS (rule_of_one (omega arith) refl refl refl refl refl refl refl
-            (below_six (λ (j : ℕ). IsOnlyAt 2 (codes "nodes") j) never never (λ _. refl) never never never)) refl (omega arith) d;
-        terms = number_at 3 (rule_at 3) 1 1000000 (rule_of_one (omega arith) refl refl refl refl refl refl refl
-            (below_six (λ (j : ℕ). IsOnlyAt 3 (codes "terms") j) never never never (λ _. refl) never never)) refl (omega arith) d;
-        seed = number_at 4 (rule_at 4) 0 18446744073709551615 (rule_of_one (omega arith) refl refl refl refl refl refl refl
-            (below_six (λ (j : ℕ). IsOnlyAt 4 (codes "seed") j) never never never never (λ _. refl) never)) refl (omega arith) d;
+        workers = number_at 1 (rule_at 1) 1 16 (grind arith) refl (omega arith) d;
+        nodes = number_at 2 (rule_at 2) MIN_BITS MAX_BITS (grind arith) refl (omega arith) d;
+        terms = number_at 3 (rule_at 3) 1 1000000 (grind arith) refl (omega arith) d;
+        seed = number_at 4 (rule_at 4) 0 18446744073709551615 (grind arith) refl (omega arith) d;
       }
 
   pub each_found : IsModeNames list → HasEach (found_of m)

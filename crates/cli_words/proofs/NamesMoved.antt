@@ -53,29 +53,14 @@ module _ (g : Option ValueParser → Option ValueParser)
       go None = none
       go (Some a) = some a
 
-  values_same : (ic : Bool) (p : Option ValueParser) (vs : List Text)
-      → values_kinds ic (parser_of_value (g p)) vs ≡ values_kinds ic (parser_of_value p) vs
-  values_same ic p [] = refl
-  values_same ic p (v ∷ vs) = ap₂ or_else (faults ic p v) (values_same ic p vs)
-
   missing_same : (a : Rule) (vs : List Text) → values_or_missing (other a) vs ≡ values_or_missing a vs
   missing_same a vs = grind arith
 
   used_same : (a : Rule) (vs : List Text) (rows : List Row) → used (other a) vs rows ≡ used a vs rows
   used_same a vs rows = ap₂ (λ how xs. used_as (action_of a) a.id how xs rows) (reads a.parser) (missing_same a vs)
 
-  count_same : (a : Rule) (vs : List Text) (rows : List Row) → count_fault (other a) vs rows ≡ count_fault a vs rows
-  count_same a [] rows = faults a.ignore_case a.parser _
-  count_same a (v ∷ vs) rows = values_same a.ignore_case a.parser (v ∷ vs)
-
-  action_same : (x : ArgAction) (again : Bool) (a : Rule) (vs : List Text) (rows : List Row)
-      → action_fault x again (other a) vs rows ≡ action_fault x again a vs rows
-  action_same x again a vs rows = grind (arith, values_same a.ignore_case a.parser vs, count_same a vs rows)
-
   use_same : (again : Bool) (a : Rule) (vs : List Text) (rows : List Row) → use_fault again (other a) vs rows ≡ use_fault again a vs rows
-  use_same again a vs rows = ap (or_else (range_kinds (unwrap_or_range a.range).start_inclusive (most_values a) (length vs)))
-      (ap (λ xs. action_fault (action_of a) again (other a) xs rows) (missing_same a vs)
-      ∙ action_same (action_of a) again a (values_or_missing a vs) rows)
+  use_same again a vs rows = ap (or_else (range_kinds (unwrap_or_range a.range).start_inclusive (most_values a) (length vs))) (grind arith)
 
   settled_found : (c : List Rule) (p : Option (Text × List Text)) (rows : List Row) → settled_rows (others c) p rows ≡ settled_rows c p rows
   settled_found c None rows = refl
@@ -288,16 +273,10 @@ module _ (g : Option ValueParser → Option ValueParser)
       (walk_fault_same s names (walked (others s.rules) names w word) rest
       ∙ ap (λ x. walk_fault s names x rest) (walked_same s.rules names w word))
 
-  default_fault_same : (rows : List Row) (a : Rule) → default_fault rows (other a) ≡ default_fault rows a
-  default_fault_same rows a =
-      ap (λ x. if has_row a.id rows || is_empty a.defaults then [] else or_else (request_kinds (action_of a)) x)
-      (values_same a.ignore_case a.parser a.defaults)
-
   defaults_fault_same : (c : List Rule) (rows : List Row) → defaults_fault rows (others c) ≡ defaults_fault rows c
   unfolding defaults_fault
   defaults_fault_same [] rows = refl
-  defaults_fault_same (a ∷ c) rows = ap₂ or_else (default_fault_same rows a)
-      (defaults_fault_same c (with_default rows (other a)) ∙ ap (λ r. defaults_fault r c) (default_same rows a))
+  defaults_fault_same (a ∷ c) rows = grind (arith, defaults_fault_same c (with_default rows (other a)))
 
   check_same : (s : Shape) (rows : List Row) (sub : Bool) → check_fault (with_others s) rows sub ≡ check_fault s rows sub
   check_same s rows sub = ap

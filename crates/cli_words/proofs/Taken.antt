@@ -19,21 +19,12 @@ pub number_is : (E : Type 0) (G : List ℕ → Result ℕ E → Type 0) (f : Fou
     → ((t : List ℕ) → one_text f id ≡ Some t → ReadsOne G t r) → ((u : List ℕ) (x : Result ℕ E) → G u x → ParsesUnsigned 64 10 u x)
     → r ≡ Some n → number_of id (rows_of f) ≡ Some n
 number_is E G f id low high n r has reads parses is =
-    let got = parses has.0 (Ok n) (subst (ReadsOne G has.0) is (reads has.0 has.1)) in
-    let read = sym (one_text-rows f id) ∙ has.1 in
-    rw read (ap Some (sym got.1))
+    let got = parses has.0 (Ok n) (subst (ReadsOne G has.0) is (reads has.0 has.1)) in cc (one_text-rows f id)
 
 -- that number lies in the range
 pub number_in : (f : Found) (id : List ℕ) (low high n : ℕ) → HasNumber f id low high → number_of id (rows_of f) ≡ Some n → (low ≤ n)
     × (n ≤ high)
-number_in f id low high n has is =
-    let read : one_of id (rows_of f) ≡ Some has.0 = sym (one_text-rows f id) ∙ has.1 in
-    let same : Some (digits_value 10 (without_leading_plus has.0)) ≡ Some n = sym
-    (ap (option_map (λ text. digits_value 10 (without_leading_plus text))) read) ∙ is in
-    let n_is : digits_value 10 (without_leading_plus has.0) ≡ n = cc in
-    let at_least = has.2.2 in
-    let at_most = has.2.3 in
-    (omega arith, omega arith)
+number_in f id low high n has is = grind (arith, one_text-rows)
 
 -- the text that `get_str` shows is the first of the rows
 pub first_is : (f : Found) (id : List ℕ) → first_of id (rows_of f) ≡ first_value f id
@@ -46,18 +37,10 @@ is_free list = refl
 pub is_refused : (list : NameList) (a : App) (words texts : List Text) (e : Error) → IsModeNames list → a ≡ interp_command_at list
     → texts ≡ words
     → (is_simple_and_free a ≡ true → HasKind (fault_of a texts) e) → (kind_of e ≡ OutOfMemory → ⊥) → fault_of interp_command words ≡ [] → ⊥
-is_refused list a words texts e four is same has other none =
-    let fault : fault_of a texts ≡ [] = ap₂ fault_of is same ∙ fault_is list words four ∙ none in
-    let kind : HasKind [] e = subst (λ kinds. HasKind kinds e) fault (has (ap is_simple_and_free is ∙ is_free list)) in
-    elim kind [ inl out ↦ other out | inr no_kind ↦ no_kind ]
+is_refused list a words texts e four is same has other none = grind (arith, fault_is list words four, is_free list)
 
 -- where it takes them, the matches are those of the definition
 pub is_taken : (list : NameList) (a : App) (words texts : List Text) (m : ArgMatches) → IsModeNames list → a ≡ interp_command_at list
-    → texts ≡ words
-    → (is_simple_and_free a ≡ true → fault_of a texts ≡ []) → HasMatchesOf a texts m
+    → texts ≡ words → (is_simple_and_free a ≡ true → fault_of a texts ≡ []) → HasMatchesOf a texts m
     → (fault_of interp_command words ≡ []) × (rows_of (found_of m) ≡ matches_of interp_command words)
-is_taken list a words texts m four is same free has =
-    let simple : is_simple (interp_command_at list) ≡ true = refl in (
-      sym (ap₂ fault_of is same ∙ fault_is list words four) ∙ free (ap is_simple_and_free is ∙ is_free list),
-      (has (ap is_simple is ∙ simple)).0 ∙ ap₂ matches_of is same ∙ matches_is list words four,
-    )
+is_taken list a words texts m four is same free has = grind (arith, fault_is list words four, is_free list, matches_is list words four)

@@ -1,7 +1,6 @@
 -- Calls one after the other that find the families of a list: what is planned for those to come, and what is held at the end.
-use Rattle.std.proofs.Common.{ℕ, Bool, List, [], ◌∷◌, ◌++◌, Ok, subst}
-use Rattle.lattice.specs.Family.{Family, Covers, combine, power, minus_of}
-use Rattle.lattice.specs.WorkingLists.{working_set}
+use Rattle.std.proofs.Common.{ℕ, Bool, List, [], ◌∷◌, ◌++◌, Ok, subst, arith, rules}
+use Rattle.lattice.specs.Words.{Family, Covers, combine, power, minus_of, working_set}
 use Rattle.lattice.proofs.Diagrams.{covers_append, covers_head, covers_left, covers_nil, covers_right}
 use Rattle.node_store.specs.Stores.{State, family, Denotes, IsPlanned, Grows, Reads, Gives, Builds}
 use Rattle.node_store.specs.declared.store.Handle.{Handle}
@@ -75,11 +74,4 @@ module _ {s t : State} {all : List Family} (A : Family) (a : Handle) (here : Und
 
 pub points_end : {s t : State} {all : List Family} {zeros ones : Handle} {Z O : Family} → Underway s t all [] → Denotes t zeros Z
     → Denotes t ones O → GivesPoints s t (Ok (record { zeros = zeros; ones = ones })) Z O (working_set s.vars all)
-points_end {s} {t} here z o = record {
-  grows = here.reads.grows;
-  zeros = z;
-  ones = o;
-  held = here.whole t (Grows-refl t) (covers_nil s.vars t.held);
-  quiet = here.reads.quiet;
-  full = tt;
-}
+points_end {s} {t} here z o = search (rules, arith, Grows-refl, covers_nil)

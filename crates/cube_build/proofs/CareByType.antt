@@ -1,7 +1,6 @@
 -- What is planned beside the covers of an output in each type, and what is given from them.
 use Rattle.std.proofs.Common.{ℕ, Result, Ok, List, get_or, refl, arith}
-use Rattle.lattice.specs.Family.{Covers, minus_of, power, union_of}
-use Rattle.lattice.specs.WorkingLists.{working_set}
+use Rattle.lattice.specs.Words.{Covers, minus_of, power, union_of, working_set}
 use Rattle.lattice.specs.declared.kind.Kind.TheVariants.{F, Fd, Fr, Fdr}
 use Rattle.lattice.proofs.Diagrams.{covers_nil}
 use Rattle.node_store.specs.Stores.{State, family}

@@ -1,9 +1,7 @@
 -- The care points of an output, by the type of the description.
-use Rattle.std.proofs.Common.{◌≡◌, ℕ, Bool, true, false, not, ◌&&◌, ◌||◌, List, [], ◌∷◌, ◌++◌, refl, ◌∙◌}
-use Rattle.std.proofs.Common.{ap, ap₂, append-nil, append_assoc}
-use Rattle.lattice.specs.Family.{Family, IsFamily, has, family_where, combine, power, first_only, union_of, minus_of}
-use Rattle.lattice.specs.Rows.{cover, in_cube, on_rows, off_rows, dc_rows, on_set, off_set, dc_set, points_where, care_zeros, care_ones}
-use Rattle.lattice.specs.WorkingLists.{cover_list, care_list}
+use Rattle.std.proofs.Common.{◌≡◌, ℕ, List, [], ◌∷◌, ◌++◌, refl, ◌∙◌, arith, ap, ap₂, append-nil, append_assoc}
+use Rattle.lattice.specs.Words.{Family, IsFamily, combine, power, union_of, minus_of, cover, in_cube, on_rows, off_rows, dc_rows, on_set}
+use Rattle.lattice.specs.Words.{off_set, dc_set, points_where, care_zeros, care_ones, cover_list, care_list}
 use Rattle.std.specs.List.{flat_map, list_any}
 use Rattle.lattice.specs.declared.row.Row.{Row}
 use Rattle.lattice.specs.declared.kind.Kind.{Kind}
@@ -36,22 +34,11 @@ module _ (n : ℕ) (rows : List Row) (output : ℕ) where
 
   pub zeros_f : minus_of n (power n) (on_set n rows output) ≡ care_zeros n F rows output
   unfolding points_where combine
-  zeros_f =
-      family_where-agree n (λ a. first_only (has (power n) a) (has (on_set n rows output) a)) (λ a. not (has (on_set n rows output) a))
-      (λ a b. ap (λ x. first_only x (has (on_set n rows output) a)) (has-power n a b))
+  zeros_f = grind (arith, family_where-agree, has-power)
 
   pub zeros_fd : minus_of n (power n) (union_of n (on_set n rows output) (dc_set n rows output)) ≡ care_zeros n Fd rows output
   unfolding points_where combine
-  zeros_fd =
-      let o : Family = on_set n rows output in
-      let d : Family = dc_set n rows output in
-      family_where-agree n (λ a. first_only (has (power n) a) (has (family_where n (λ a. has o a || has d a)) a))
-      (λ a. not (has o a) && not (has d a))
-      (λ a b. ap₂ first_only (has-power n a b) (has-family_where_below n (λ a. has o a || has d a) a b) ∙ neither (has o a) (has d a))
-    where
-      neither : (x y : Bool) → first_only true (x || y) ≡ (not x && not y)
-      neither true y = refl
-      neither false y = refl
+  zeros_fd = grind (arith, family_where-agree, has-power, has-family_where_below)
 
   pub zeros_fr : off_set n rows output ≡ care_zeros n Fr rows output
   unfolding points_where
@@ -93,6 +80,4 @@ module _ (n : ℕ) (rows : List Row) (output : ℕ) where
       ∙ ap₂ (λ ds f. ons ++ (ds ++ (minus_of n (on_set n rows output) (dc_set n rows output)
       ∷ union_of n (on_set n rows output) (dc_set n rows output) ∷ power n ∷ f ∷ []))) (append-nil dcs) (zeros_fd n rows output)
   care_list_parts Fr = append-nil (ons ++ (offs ++ [])) ∙ ap (λ fs. ons ++ fs) (append-nil offs)
-  care_list_parts Fdr =
-      append_assoc ons (offs ++ (dcs ++ [])) (rest_in Fdr)
-      ∙ ap (λ fs. ons ++ fs) (append_assoc offs (dcs ++ []) (rest_in Fdr) ∙ ap (λ fs. offs ++ (fs ++ rest_in Fdr)) (append-nil dcs))
+  care_list_parts Fdr = simp (append_assoc, append-nil)

@@ -2,8 +2,7 @@
 -- planned, and lists that are made place by place.
 use Rattle.std.proofs.Common.{◌≡◌, ℕ, ◌+◌, ◌-◌, ◌≤◌, List, subst, arith}
 use Rattle.std.specs.List.{flat_map}
-use Rattle.lattice.specs.Family.{Family, Covers}
-use Rattle.lattice.specs.WorkingLists.{working_set, care_list, output_numbers}
+use Rattle.lattice.specs.Words.{Family, Covers, working_set, care_list, output_numbers}
 use Rattle.lattice.specs.declared.row.Row.{Row}
 use Rattle.lattice.specs.declared.kind.Kind.{Kind}
 use Rattle.lattice.proofs.Diagrams.{covers_part}

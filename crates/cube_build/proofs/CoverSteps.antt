@@ -1,34 +1,25 @@
 -- One more row of a union of cubes, and the end of the rows.
-use Rattle.std.proofs.Common.{◌≡◌, ℕ, ◌+◌, ◌-◌, ◌^◌, ◌<◌, ◌≤◌, Bool, true, false, Ok, Some, List, [], ◌∷◌, ◌++◌}
-use Rattle.std.proofs.Common.{length, take, drop, get_or, min, refl, sym, ◌∙◌, ap, ap₂, subst, ⊎_elim, arith}
+use Rattle.std.proofs.Common.{◌≡◌, ℕ, ◌+◌, ◌-◌, ◌^◌, ◌<◌, Bool, true, false, Ok, Some, List, [], ◌∷◌, ◌++◌, rules, length, take, drop}
+use Rattle.std.proofs.Common.{get_or, min, refl, sym, ◌∙◌, ap, subst, ⊎_elim, arith}
 use Rattle.std.proofs.lemmas.List.{take_all}
 use Rattle.std.proofs.lemmas.Slice.Zip.{AllZip-long}
-use Rattle.lattice.specs.Family.{union_of, Has, Covers, divides}
-use Rattle.lattice.specs.Cofactors.{sub}
-use Rattle.lattice.specs.Rows.{cube, cover, rows_with}
-use Rattle.lattice.specs.WorkingLists.{working_set, cover_list}
+use Rattle.lattice.specs.Words.{union_of, Has, Covers, divides, sub, cube, cover, rows_with, working_set, cover_list}
 use Rattle.lattice.specs.declared.row.Row.{Row}
 use Rattle.node_store.specs.Stores.{State, family, Knows, Denotes, IsSound, IsPlanned, Gives, Builds}
 use Rattle.node_store.specs.declared.store.Handle.{Handle}
 use Rattle.node_store.proofs.StoreLaws.{Denotes-family, Denotes-knows, Grows-refl, Grows-trans}
 use Rattle.lattice.proofs.Diagrams.{covers_each, covers_family, covers_nil}
 use Rattle.cube_build.specs.PointSets.{mask_of}
-use Rattle.cube_build.specs.UsedCubes.{used_cube, AreCubes}
+use Rattle.cube_build.specs.UsedCubes.{AreCubes}
 use Rattle.cube_build.specs.declared.covers.PointSet.{PointSet}
-use Rattle.cube_build.proofs.CoverLemmas.{no_row, cover-nil, cover-push, cover_list-push, cover_list-cover}
-use Rattle.cube_build.proofs.CoverLemmas.{rows_with-more, rows_with-same, rows_with-rest}
+use Rattle.cube_build.proofs.CoverLemmas.{no_row, cover-nil, cover-push, cover_list-push, cover_list-cover, rows_with-more, rows_with-same}
+use Rattle.cube_build.proofs.CoverLemmas.{rows_with-rest}
 use Rattle.cube_build.proofs.UsedCubeLemmas.{used_cube-some, names_where, cube_at}
 
 -- the union of no cubes
 pub cover_start : (s : State) → IsSound s → Gives s s (Ok (record { 0 = 0 })) (cover s.vars []) (working_set s.vars (cover_list s.vars []))
 unfolding cover_list
-cover_start s ok = record {
-  grows = Grows-refl s;
-  ok = ok.empty ∙ ap Some (sym (cover-nil s.vars));
-  held = covers_nil s.vars s.held;
-  quiet = refl;
-  full = tt;
-}
+cover_start s ok = search (rules, arith, Grows-refl, cover-nil, covers_nil)
 
 -- s is the state before, t the one after the rows so far, r the row, whose cube is known, and `after` what comes after it
 module _ (s t : State) (n : ℕ) (rows after : List Row) (r : Row) (all here : Handle) (n_is : n ≡ s.vars) (ok : IsSound t)
@@ -37,10 +28,7 @@ module _ (s t : State) (n : ℕ) (rows after : List Row) (r : Row) (all here : H
   t_vars = before.grows.vars ∙ sym n_is
 
   united : union_of t.vars (family t all) (family t here) ≡ cover n (rows ++ r ∷ [])
-  united =
-      ap (λ (v : ℕ). union_of v (family t all) (family t here)) t_vars
-      ∙ (ap₂ (union_of n) (Denotes-family t all (cover n rows) before.ok) (Denotes-family t here (cube n r) here_is)
-      ∙ sym (cover-push n rows r))
+  united = grind (arith, Denotes-family, cover-push)
 
   pub union_planned : Covers s.plan (working_set n (cover_list n ((rows ++ r ∷ []) ++ after)))
       → IsPlanned t (union_of t.vars (family t all) (family t here))
@@ -58,9 +46,7 @@ module _ (s t : State) (n : ℕ) (rows after : List Row) (r : Row) (all here : H
         (λ f listed g has. ⊎_elim
         (λ old. is.grows.held g (covers_family n t.held (cover_list n rows) f before.held old g has))
         (λ added. ⊎_elim
-        (λ e. is.grows.held g
-        (ok.subs here.0 (cube n r) here_is g
-        (subst (λ x. Has (sub t.vars x) g) (sym e) (subst (λ (k : ℕ). Has (sub k f) g) (sym t_vars) has))))
+        (λ e. grind arith)
         (λ e. is.held g (subst (λ x. Has (sub t.vars x) g) (sym (united ∙ e)) (subst (λ (k : ℕ). Has (sub k f) g) (sym t_vars) has)))
         added)
         (cover_list-push n rows r f listed));
@@ -89,9 +75,7 @@ module _ (s t : State) (rows : List Row) (cubes : List Handle) (set : PointSet) 
       known : Denotes t here (cube s.vars (get_or rows i no_row))
       known =
           let used = used_cube-some s.vars (get_or rows i no_row) (names_where set (get_or rows i no_row) (output - 1) bit_is) in
-          before.grows.known here.0 (cube s.vars (get_or rows i no_row))
-          (subst (λ h. Denotes s h (cube s.vars (get_or rows i no_row))) (sym here_is)
-          (subst (λ f. Denotes s (get_or cubes i here) f) used (cube_at s rows cubes i here less are)))
+          grind (arith, cube_at s rows cubes i here less are)
 
       pub turn_known : Knows t here
       turn_known = Denotes-knows t here (cube s.vars (get_or rows i no_row)) known
@@ -116,6 +100,4 @@ module _ (s t : State) (rows : List Row) (cubes : List Handle) (set : PointSet) 
 
   -- after the last row
   pub turn_end : i ≡ min (length rows) (length cubes) → GivesRows s t points (rows_with (mask_of set) output rows)
-  turn_end e =
-      let all : length rows ≤ i = omega (arith, AllZip-long (λ r h. Denotes s h (used_cube s.vars r)) rows cubes are) in
-      subst (λ rs. GivesRows s t points (rows_with (mask_of set) output rs)) (take_all i rows all) before
+  turn_end e = grind (arith, AllZip-long, take_all)

@@ -1,14 +1,13 @@
 -- A cube cut at its first variable, by the row's bits at this variable.
-use Rattle.std.proofs.Common.{◌≡◌, ◌≢◌, ℕ, zero, suc, ◌+◌, ◌*◌, ◌/◌, ◌%◌, ◌^◌, ◌<◌, ◌≤◌, ◌==◌, true, cond, [], ◌∷◌, bit_and, min, refl, sym}
-use Rattle.std.proofs.Common.{◌∙◌, ap, ap₂, subst, arith, add-one, eqb-true, eq-eqb, ne_eqb, mod-eq_of_lt, ⊎_elim}
+use Rattle.std.proofs.Common.{◌≡◌, ◌≢◌, ℕ, zero, suc, ◌+◌, ◌*◌, ◌%◌, ◌^◌, ◌<◌, ◌≤◌, ◌==◌, true, cond, [], ◌∷◌, bit_and, sym, ◌∙◌, ap, subst}
+use Rattle.std.proofs.Common.{arith, add-one, eqb-true, eq-eqb, ne_eqb, mod-eq_of_lt, ⊎_elim}
 use Rattle.std.specs.Int.{bit_at}
 use Rattle.std.proofs.lemmas.Nat.{and_block, and_le_l, and_le_r, and_comm, shr_split, mod_below, mod-pow-add, pow_pos, one_shl}
 use Rattle.std.proofs.lemmas.Nat.Bits.{and_pow, bit_at_and, bit_at-lt, shr_and_one}
 use Rattle.std.proofs.lemmas.Grind.{pow_more}
 use Rattle.std.proofs.lemmas.Bool.{cases_eq}
-use Rattle.lattice.specs.Family.{Family, IsFamily, has, family_where, numbers_below, divides, Has, Covers}
-use Rattle.lattice.specs.Cofactors.{join, low_cofactor, high_cofactor, sub}
-use Rattle.lattice.specs.Rows.{cube, in_cube}
+use Rattle.lattice.specs.Words.{Family, IsFamily, has, family_where, numbers_below, divides, Has, Covers, join, low_cofactor, high_cofactor}
+use Rattle.lattice.specs.Words.{sub, cube, in_cube}
 use Rattle.lattice.specs.declared.row.Row.{Row}
 use Rattle.lattice.proofs.Diagrams.{join_cofactors_suc, sub-narrow, sub-low_cofactor, sub-high_cofactor}
 use Rattle.lattice.proofs.Polynomials.{IsFamily-family_where, has-family_where_below, family_where-agree, family_where-none}
@@ -25,53 +24,24 @@ rest_and_bit k n = let e : k + 1 ≡ 1 + k = omega arith in ap (λ (i : ℕ). n 
 -- the bits of 2 ^ k + a under a mask
 and_with_bit : (k a m : ℕ) → a < 2 ^ k → bit_and (2 ^ k + a) m ≡ bit_at m k * 2 ^ k + bit_and a m
 and_with_bit k a m b =
-    let high : 2 ^ k + a ≡ 1 * 2 ^ k + a = omega arith in
-    let low : a ≡ 0 * 2 ^ k + a = omega arith in
-    let r : m % 2 ^ k < 2 ^ k = rest_below k m in
-    let parts : m ≡ m / 2 ^ k * 2 ^ k + m % 2 ^ k = sym (shr_split m k) in
-    let one : bit_and (2 ^ k + a) m ≡ bit_and 1 (m / 2 ^ k) * 2 ^ k + bit_and a (m % 2 ^ k) = ap₂ bit_and high parts
-    ∙ and_block k 1 (m / 2 ^ k) a (m % 2 ^ k) b r in
-    let none : 0 * 2 ^ k + bit_and a (m % 2 ^ k) ≡ bit_and a (m % 2 ^ k) = omega arith in
-    let two : bit_and a m ≡ bit_and a (m % 2 ^ k) = ap₂ bit_and low parts ∙ (and_block k 0 (m / 2 ^ k) a (m % 2 ^ k) b r ∙ none) in
-    let bit : bit_and 1 (m / 2 ^ k) ≡ bit_at m k = and_comm 1 (m / 2 ^ k) ∙ shr_and_one m k in
-    one ∙ ap₂ (λ (x y : ℕ). x * 2 ^ k + y) bit (sym two)
+    let high : 2 ^ k + a ≡ 1 * 2 ^ k + a = omega arith in let low : a ≡ 0 * 2 ^ k + a = omega arith in
+    grind (arith, rest_below, shr_split, and_block, and_comm, shr_and_one)
 
 -- `m & (1 << k)` is 0 where bit k is
 pub bit_absent : (k m : ℕ) → k < 64 → bit_and m (1 * 2 ^ k % 2 ^ 64) ≡ 0 → bit_at m k ≡ 0
-bit_absent k m small none =
-    let p : 0 < 2 ^ k = pow_pos k in
-    let e : bit_at m k * 2 ^ k ≡ 0 = sym (and_pow m k) ∙ (ap (bit_and m) (sym (one_shl k 64 small)) ∙ none) in
-    let l : bit_at m k < 2 = bit_at-lt m k in
-    zero_or_more (bit_at m k) (2 ^ k) p e l
-  where
-    zero_or_more : (b w : ℕ) → 0 < w → b * w ≡ 0 → b < 2 → b ≡ 0
-    zero_or_more zero w p e l = refl
-    zero_or_more (suc zero) w p e l = let x : w ≡ 0 = omega arith in absurd (omega arith)
-    zero_or_more (suc (suc b)) w p e l = absurd (omega arith)
+bit_absent k m small none = grind (arith, pow_pos k, and_pow m k, one_shl k 64 small, bit_at-lt m k)
 
 pub bit_present : (k m : ℕ) → k < 64 → (bit_and m (1 * 2 ^ k % 2 ^ 64) ≡ 0 → ⊥) → bit_at m k ≡ 1
-bit_present k m small some =
-    let l : bit_at m k < 2 = bit_at-lt m k in
-    let ne : bit_at m k ≢ 0 = λ e. some (ap (bit_and m) (one_shl k 64 small) ∙ (and_pow m k ∙ (ap (λ (b : ℕ). b * 2 ^ k) e ∙ omega arith)))
-    in
-    omega arith
+bit_present k m small some = grind (arith, bit_at-lt m k, one_shl k 64 small, and_pow m k)
 
 -- a value within care has no bit that care has not
 pub value_absent : (k : ℕ) (r : Row) → divides r.value r.care ≡ true → bit_at r.care k ≡ 0 → bit_at r.value k ≡ 0
 unfolding divides
-value_absent k r within none =
-    let e : bit_at r.value k ≡ min (bit_at r.value k) (bit_at r.care k) = ap (λ (v : ℕ). bit_at v k)
-    (sym (eqb-true (bit_and r.value r.care) r.value within)) ∙ bit_at_and r.value r.care k in
-    omega arith
+value_absent k r within none = grind (arith, eqb-true, bit_at_and)
 
 value_present : (k : ℕ) (r : Row) → divides r.value r.care ≡ true → bit_at r.value k ≢ 0 → bit_at r.care k ≡ bit_at r.value k
 unfolding divides
-value_present k r within some =
-    let e : bit_at r.value k ≡ min (bit_at r.value k) (bit_at r.care k) = ap (λ (v : ℕ). bit_at v k)
-    (sym (eqb-true (bit_and r.value r.care) r.value within)) ∙ bit_at_and r.value r.care k in
-    let one : bit_at r.value k < 2 = bit_at-lt r.value k in
-    let two : bit_at r.care k < 2 = bit_at-lt r.care k in
-    omega arith
+value_present k r within some = grind (arith, eqb-true, bit_at_and, bit_at-lt)
 
 -- ---- the cofactors of a cube
 
@@ -79,9 +49,7 @@ twice : (k : ℕ) → 2 ^ (k + 1) ≡ 2 ^ k + 2 ^ k
 twice k = omega (arith, pow_more 2 k)
 
 eqb-add : (c x y : ℕ) → (c + x == c + y) ≡ (x == y)
-eqb-add c x y =
-    ⊎_elim (λ e. eq-eqb (c + x) (c + y) (omega arith) ∙ sym (eq-eqb x y e)) (λ ne. ne_eqb (c + x) (c + y) (λ e. ne (omega arith))
-    ∙ sym (ne_eqb x y ne)) (cases_eq x y)
+eqb-add c x y = grind (arith, eq-eqb, ne_eqb, cases_eq)
 
 module _ (k : ℕ) (r : Row) where
   whole : Family
@@ -93,9 +61,7 @@ module _ (k : ℕ) (r : Row) where
 
   in_whole : (a : ℕ) → a < 2 ^ (k + 1) → has whole a ≡ (bit_and a r.care == bit_at r.value k * 2 ^ k + r.value % 2 ^ k)
   unfolding cube_behind whole
-  in_whole a b =
-      has-family_where_below (k + 1) (λ a. bit_and a r.care == r.value % 2 ^ (k + 1)) a b
-      ∙ ap (λ (v : ℕ). bit_and a r.care == v) (rest_and_bit k r.value)
+  in_whole a b = simp (has-family_where_below, rest_and_bit)
 
   in_low : (a : ℕ) → a < 2 ^ k → has whole a ≡ (bit_and a r.care == bit_at r.value k * 2 ^ k + r.value % 2 ^ k)
   in_low a b = in_whole a (omega (arith, twice k))
@@ -162,10 +128,7 @@ cube_behind-zero r = ap (λ b. cond b (0 ∷ []) []) (eq-eqb 0 (r.value % 1) (om
 
 pub cube_behind-all : (n : ℕ) (r : Row) → r.care < 2 ^ n → divides r.value r.care ≡ true → cube_behind n r ≡ cube n r
 unfolding cube_behind cube in_cube divides
-cube_behind-all n r small within =
-    let e : bit_and r.value r.care ≡ r.value = eqb-true (bit_and r.value r.care) r.value within in
-    let l : bit_and r.value r.care ≤ r.care = and_le_r r.value r.care in
-    ap (λ (v : ℕ). family_where n (λ a. bit_and a r.care == v)) (mod-eq_of_lt (omega arith))
+cube_behind-all n r small within = grind (arith, eqb-true, and_le_r, mod-eq_of_lt)
 
 -- a cube over one variable fewer is a part of it
 sub-next : (k n : ℕ) (r : Row) → divides r.value r.care ≡ true → k < n → Covers (sub n (cube_behind (k + 1) r)) (sub n (cube_behind k r))

@@ -1,12 +1,9 @@
 -- The covers of an output: what they are of, what is planned beside them, and the care sets that are found from them.
-use Rattle.std.proofs.Common.{◌≡◌, ℕ, zero, suc, ◌+◌, ◌<◌, ◌⊎◌, Result, Ok, Err, List, [], ◌∷◌, ◌++◌, get_or, length, slice_set, sym}
-use Rattle.std.proofs.Common.{◌≤◌, take}
-use Rattle.std.proofs.Common.{ap, refl, ◌∙◌, ⊎_elim, subst, arith}
-use Rattle.std.proofs.lemmas.List.{get_or-set_other, get_or-set_same, get_or-take, get_or_default, length-take-le}
+use Rattle.std.proofs.Common.{◌≡◌, ℕ, zero, suc, ◌+◌, ◌<◌, Result, Ok, Err, List, [], ◌∷◌, ◌++◌, get_or, length, slice_set, sym, rules, ◌≤◌}
+use Rattle.std.proofs.Common.{take, refl, subst, arith}
+use Rattle.std.proofs.lemmas.List.{get_or-set_other, get_or-set_same, get_or_default}
 use Rattle.std.specs.List.{AllZip, flat_map}
-use Rattle.lattice.specs.Family.{Family, Covers}
-use Rattle.lattice.specs.Rows.{care_ones, care_zeros, cover}
-use Rattle.lattice.specs.WorkingLists.{cover_list, working_set}
+use Rattle.lattice.specs.Words.{Family, Covers, care_ones, care_zeros, cover, cover_list, working_set}
 use Rattle.lattice.specs.declared.row.Row.{Row}
 use Rattle.lattice.specs.declared.kind.Kind.{Kind}
 use Rattle.lattice.specs.declared.kind.Kind.TheVariants.{F, Fd, Fr, Fdr}
@@ -77,8 +74,7 @@ rest_planned fs n kind rows output planned =
 pub later_planned : (s t : State) (n : ℕ) (kind : Kind) (rows : List Row) (output k : ℕ) (d : PointSet) → Reads s t → s.vars ≡ n
     → k < length (sets_of kind) → Covers s.plan (care_needs n kind rows output)
     → Covers t.plan (working_set t.vars (cover_list t.vars (set_rows (get_or (sets_of kind) k d) output rows)))
-later_planned s t n kind rows output k d reads vars less planned =
-    rw (reads.grows.plan, reads.grows.vars, vars) (cover_planned s.plan n kind rows output k d less planned)
+later_planned s t n kind rows output k d reads vars less planned = grind (arith, cover_planned)
 
 -- ---- what is given
 
@@ -87,22 +83,13 @@ all_held : (s : State) (rows : List Row) (output : ℕ) (sets : List PointSet) (
     → Covers s.held (working_set s.vars (flat_map (λ set. cover_list s.vars (set_rows set output rows)) sets))
 all_held s rows output [] covers are = covers_nil s.vars s.held
 all_held s rows output (set ∷ sets) [] are = absurd are
-all_held s rows output (set ∷ sets) (h ∷ covers) are =
-    covers_append s.vars s.held (cover_list s.vars (set_rows set output rows))
-    (flat_map (λ set. cover_list s.vars (set_rows set output rows)) sets) are.0.held (all_held s rows output sets covers are.1)
+all_held s rows output (set ∷ sets) (h ∷ covers) are = grind (arith, covers_append, all_held s rows output sets covers are.1)
 
 -- points that are given under other names, with more that is held
 points_as : {s t : State} {r : Result ValuedPoints Full} {zeros ones zeros' ones' : Family} {needed more : List Family} → zeros ≡ zeros'
     → ones ≡ ones' → (Grows s t → Covers t.held needed → Covers t.held more) → GivesPoints s t r zeros ones needed
     → GivesPoints s t r zeros' ones' more
-points_as {r = Ok p} z o held is = record {
-  grows = is.grows;
-  zeros = rw (← z) is.zeros;
-  ones = rw (← o) is.ones;
-  held = held is.grows is.held;
-  quiet = is.quiet;
-  full = tt;
-}
+points_as {r = Ok p} z o held is = grind arith
 points_as {r = Err e} z o held is = record { grows = is.grows; zeros = tt; ones = tt; held = tt; quiet = tt; full = is.full }
 
 module _ (s : State) (kind : Kind) (rows : List Row) (output : ℕ) (covers : List Handle) (are : AreCovers s kind rows output covers) where
@@ -126,10 +113,7 @@ module _ (s : State) (kind : Kind) (rows : List Row) (output : ℕ) (covers : Li
 -- they stay so
 pub cover_later : (s t : State) (rows : List Row) (output : ℕ) (set : PointSet) (h : Handle) → Grows s t → IsCover s rows output set h
     → IsCover t rows output set h
-cover_later s t rows output set h grows is = record {
-  denotes = rw grows.vars (grows.known h.0 (cover s.vars (set_rows set output rows)) is.denotes);
-  held = rw grows.vars (λ f i. grows.held f (is.held f i));
-}
+cover_later s t rows output set h grows is = grind arith
 
 -- the handles at the first places are covers
 abbrev pub FirstCovers : State → Kind → List Row → ℕ → ℕ → List Handle → Type 0
@@ -149,41 +133,18 @@ pub covers_more : (s t : State) (kind : Kind) (rows : List Row) (output count : 
     (working_set s.vars (cover_list s.vars (set_rows (get_or (sets_of kind) count d) output rows)))
     → FirstCovers t kind rows output (count + 1) (slice_set covers count h)
 covers_more s t kind rows output count d covers h less room before is k e within =
-    let here : IsCover t rows output (get_or (sets_of kind) count d) h = record {
-      denotes = rw is.grows.vars is.ok;
-      held = rw is.grows.vars is.held;
-    } in
-    let cases : (k < count) ⊎ (k ≡ count) = grind arith in
-    let within_array : count < length covers = omega (arith, sets_few kind) in
-    ⊎_elim
-    (λ l. subst (IsCover t rows output (get_or (sets_of kind) k On)) (sym (get_or-set_other covers count k h e (omega (arith, l))))
-    (cover_later s t rows output (get_or (sets_of kind) k On) (get_or covers k e) is.grows (before k e l)))
-    (λ same. subst (λ j. IsCover t rows output (get_or (sets_of kind) j On) (get_or (slice_set covers count h) j e)) (sym same)
-    (rw (get_or-set_same covers count h e within_array, get_or_default (sets_of kind) count On d less) here))
-    cases
+    grind (arith, sets_few, get_or-set_other, cover_later, get_or-set_same, get_or_default)
 
 -- all of them, at the front of an array
 pub all_covers : (s : State) (kind : Kind) (rows : List Row) (output : ℕ) (sets : List PointSet) (count : ℕ) (covers : List Handle)
     → sets ≡ sets_of kind → count ≡ length sets → length covers ≡ 3 → FirstCovers s kind rows output count covers
     → AreCovers s kind rows output (take (length sets) covers)
-all_covers s kind rows output sets count covers all end room first =
-    let n : ℕ = length (sets_of kind) in
-    let within : n ≤ length covers = omega (arith, sets_few kind) in
-    let ends : count ≡ n = end ∙ ap length all in
-    rw all (zip_from (IsCover s rows output) (sets_of kind) (take n covers) On none (sym (length-take-le n covers within))
-    (λ k less. rw (get_or-take n covers k none less) (first k none (omega (arith, less)))))
+all_covers s kind rows output sets count covers all end room first = grind (arith, sets_few kind)
 
 -- points that are given after reads
 pub points_after : {s t u : State} {r : Result ValuedPoints Full} {zeros ones : Family} {needed : List Family} → Reads s t
     → GivesPoints t u r zeros ones needed → GivesPoints s u r zeros ones needed
-points_after {s = s} {t = t} {u = u} {r = Ok p} reads is = record {
-  grows = Grows-trans s t u reads.grows is.grows;
-  zeros = is.zeros;
-  ones = is.ones;
-  held = is.held;
-  quiet = is.quiet ∙ reads.quiet;
-  full = tt;
-}
+points_after {s = s} {t = t} {u = u} {r = Ok p} reads is = search (rules, arith, Grows-trans)
 points_after {s = s} {t = t} {u = u} {r = Err e} reads is =
     let failed : Gives t u (Err e) [] [] = record { grows = is.grows; ok = tt; held = tt; quiet = tt; full = is.full } in
     points_failed refl reads failed

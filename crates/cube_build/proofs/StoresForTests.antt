@@ -1,6 +1,6 @@
 -- Stores as the tests make them.
 use Rattle.std.proofs.Common.{◌≡◌, ℕ, List, [], Result, Ok, Err, IfOk, ap}
-use Rattle.lattice.specs.Family.{Family}
+use Rattle.lattice.specs.Words.{Family}
 use Rattle.lattice.specs.declared.memory.Memory.{Memory}
 use Rattle.node_store.specs.Plain.{plain_state}
 use Rattle.node_store.specs.PlainOf.{state_of}

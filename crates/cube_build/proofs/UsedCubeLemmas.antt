@@ -1,7 +1,7 @@
 -- The cubes of the rows that say something of an output: which rows these are, where the lists of the care sets have their cubes, and
 -- the handles of the cubes as they become more.
-use Rattle.std.proofs.Common.{◌≡◌, ℕ, zero, suc, ◌+◌, ◌-◌, ◌^◌, ◌<◌, ◌≤◌, true, false, ◌⊎◌, inl, inr, List, [], ◌∷◌, ◌++◌}
-use Rattle.std.proofs.Common.{length, get_or, take, drop, Ok, refl, sym, ◌∙◌, ap, subst, ⊎_elim, arith}
+use Rattle.std.proofs.Common.{◌≡◌, ℕ, zero, suc, ◌+◌, ◌-◌, ◌^◌, ◌<◌, ◌≤◌, true, false, ◌⊎◌, inl, inr, List, [], ◌∷◌, ◌++◌, length, get_or}
+use Rattle.std.proofs.Common.{take, drop, Ok, refl, sym, ◌∙◌, ap, subst, ⊎_elim, arith}
 use Rattle.std.specs.Int.{w64, trailing_zeros}
 use Rattle.std.specs.List.{flat_map}
 use Rattle.std.proofs.Math.Pow.{pow_mono}
@@ -11,10 +11,8 @@ use Rattle.std.proofs.lemmas.Grind.{flat_map-append}
 use Rattle.std.proofs.lemmas.List.{map-append, take_more}
 use Rattle.std.proofs.lemmas.Slice.Zip.{all_zipped_more}
 use Rattle.std.proofs.lemmas.Nat.Bits.{bit_at-zero, bit_at-pow_same, bit_at-pow_other, bit_at-trailing_zeros, bit_at_above}
-use Rattle.lattice.specs.Family.{Family, Has, Covers, divides, numbers_below}
-use Rattle.lattice.specs.Cofactors.{sub}
-use Rattle.lattice.specs.Rows.{cube, rows_with}
-use Rattle.lattice.specs.WorkingLists.{working_set, cover_list, care_list, output_numbers}
+use Rattle.lattice.specs.Words.{Family, Has, Covers, divides, numbers_below, sub, cube, rows_with, working_set, cover_list, care_list}
+use Rattle.lattice.specs.Words.{output_numbers}
 use Rattle.lattice.specs.declared.row.Row.{Row}
 use Rattle.lattice.specs.declared.kind.Kind.{Kind}
 use Rattle.lattice.specs.declared.kind.Kind.TheVariants.{F, Fd, Fr, Fdr}
@@ -42,32 +40,14 @@ none_or_some m = grind arith
 
 -- and any other is in one
 loud : (r : Row) → names_output r ≡ true → (set : PointSet) × (0 < mask_of set r)
-loud r h =
-    elim (none_or_some r.on) [
-      | inr some ↦ (On, some)
-      | inl no_on ↦ elim (none_or_some r.off) [
-        | inr some ↦ (Off, some)
-        | inl no_off ↦ elim (none_or_some r.dc) [
-          | inr some ↦ (Dc, some)
-          | inl no_dc ↦ absurd (grind (arith, nat_tests))
-        ]
-      ]
-    ]
+loud r h = grind (arith, none_or_some, nat_tests)
 
 no_bit : (k m : ℕ) → m ≡ 0 → divides (2 ^ k) m ≡ false
-no_bit k m none =
-    elim (cases_Bool (divides (2 ^ k) m)) [
-      | inl e ↦ absurd (grind (arith, none, (divides_by_bits (2 ^ k) m).0 e k (bit_at-pow_same k), bit_at-zero k))
-      | inr e ↦ e
-    ]
+no_bit k m none = grind (arith, cases_Bool, divides_by_bits, bit_at-pow_same, bit_at-zero)
 
 -- a row in a set of an output says something
 pub names_where : (set : PointSet) (r : Row) (k : ℕ) → divides (2 ^ k) (mask_of set r) ≡ true → names_output r ≡ true
-names_where set r k h =
-    elim (cases_Bool (names_output r)) [
-      | inl e ↦ e
-      | inr e ↦ absurd (let none = no_bit k (mask_of set r) (silent set r e) in cc)
-    ]
+names_where set r k h = grind (arith, cases_Bool, no_bit, silent)
 
 pub used_cube-some : (n : ℕ) (r : Row) → names_output r ≡ true → used_cube n r ≡ cube n r
 unfolding used_cube
@@ -81,8 +61,7 @@ used_cube-none n r h = rw h refl
 some_output : (outputs m : ℕ) → outputs ≤ 64 → m < 2 ^ outputs → 0 < m → (k : ℕ) × (k < outputs) × (divides (2 ^ k) m ≡ true)
 some_output outputs m few below some =
     let most : 2 ^ outputs ≤ 2 ^ 64 = pow_mono few in
-    let lowest = bit_at-trailing_zeros w64 m some (omega (arith, most)) in
-    let k : ℕ = trailing_zeros w64 m in
+    let lowest = bit_at-trailing_zeros w64 m some (omega (arith, most)) in let k : ℕ = trailing_zeros w64 m in
     let within : k < outputs =
     elim (cases_lt k outputs) [ inl l ↦ l | inr l ↦ omega (arith, bit_at_above m outputs k below l, lowest.1) ] in (
       k,
@@ -125,14 +104,12 @@ module _ (n : ℕ) (rows : List Row) (i : ℕ) (less : i < length rows) where
   in_care_list outputs F Dc output fits bit = let none = no_bit (output - 1) _ (fits.no_dc refl) in cc
   in_care_list outputs Fd On output fits bit = Has-append_left _ _ _ (listed (mask_of On) output bit)
   in_care_list outputs Fd Off output fits bit = let none = no_bit (output - 1) _ (fits.no_off refl) in cc
-  in_care_list outputs Fd Dc output fits bit =
-      Has-append_right _ _ _ (Has-append_left _ _ _ (listed (mask_of Dc) output bit))
+  in_care_list outputs Fd Dc output fits bit = Has-append_right _ _ _ (Has-append_left _ _ _ (listed (mask_of Dc) output bit))
   in_care_list outputs Fr On output fits bit = Has-append_left _ _ _ (listed (mask_of On) output bit)
   in_care_list outputs Fr Off output fits bit = Has-append_right _ _ _ (listed (mask_of Off) output bit)
   in_care_list outputs Fr Dc output fits bit = let none = no_bit (output - 1) _ (fits.no_dc refl) in cc
   in_care_list outputs Fdr On output fits bit = Has-append_left _ _ _ (listed (mask_of On) output bit)
-  in_care_list outputs Fdr Off output fits bit =
-      Has-append_right _ _ _ (Has-append_left _ _ _ (listed (mask_of Off) output bit))
+  in_care_list outputs Fdr Off output fits bit = Has-append_right _ _ _ (Has-append_left _ _ _ (listed (mask_of Off) output bit))
   in_care_list outputs Fdr Dc output fits bit =
       Has-append_right _ _ _ (Has-append_right _ _ _ (Has-append_left _ _ _ (listed (mask_of Dc) output bit)))
 

@@ -1,10 +1,9 @@
 -- The clashes of a description's rows, and that it is consistent where it has none.
 use Rattle.std.proofs.Common.{◌≡◌, ℕ, suc, zero, ◌-◌, ◌^◌, ◌≤◌, ◌↔◌, Bool, true, false, cond, Option, Some, None, IsNone, IfSome, List, []}
-use Rattle.std.proofs.Common.{◌∷◌, refl, sym, subst, arith}
+use Rattle.std.proofs.Common.{◌∷◌, refl, arith}
 use Rattle.std.specs.List.{All, Contains, filter}
 use Rattle.std.proofs.lemmas.List.Elements.{All-filter, All-contains, All-contains_itself, filter_passes}
-use Rattle.lattice.specs.Family.{divides}
-use Rattle.lattice.specs.Rows.{IsConsistent, rows_with}
+use Rattle.lattice.specs.Words.{divides, IsConsistent, rows_with}
 use Rattle.lattice.specs.declared.row.Row.{Row}
 use Rattle.lattice.specs.declared.kind.Kind.{Kind}
 use Rattle.lattice.proofs.Polynomials.{consistent_by_rows}
@@ -18,17 +17,14 @@ use Rattle.cube_sets.proofs.Pairs.{no_mask}
 from_rows_with : (mask : Row → ℕ) (output : ℕ) (rows : List Row) (r : Row) → Contains (rows_with mask output rows) r
     → Contains rows r × (divides (2 ^ (output - 1)) (mask r) ≡ true)
 unfolding rows_with
-from_rows_with mask output rows r h =
-    let test : Row → Bool = λ r. divides (2 ^ (output - 1)) (mask r) in (
-      All-contains (Contains rows) (filter test rows) r (All-filter test (Contains rows) rows (All-contains_itself rows)) h,
-      All-contains (λ r. test r ≡ true) (filter test rows) r (filter_passes test rows) h,
-    )
+from_rows_with mask output rows r h = (
+  All-contains (Contains rows) _ r (All-filter _ (Contains rows) rows (All-contains_itself rows)) h,
+  All-contains (λ r. divides (2 ^ (output - 1)) (mask r) ≡ true) _ r (filter_passes _ rows) h,
+)
 
 contains_filter : {X : Type 0} (test : X → Bool) (xs : List X) (x : X) → Contains xs x → test x ≡ true → Contains (filter test xs) x
 contains_filter test [] x (k, less, is) h = absurd (omega arith)
-contains_filter test (y ∷ xs) x (zero, less, is) h =
-    subst (λ z. Contains (cond (test z) (z ∷ filter test xs) (filter test xs)) x) (sym is)
-    (subst (λ b. Contains (cond b (x ∷ filter test xs) (filter test xs)) x) (sym h) (0, omega arith, refl))
+contains_filter test (y ∷ xs) x (zero, less, is) h = grind arith
 contains_filter test (y ∷ xs) x (suc k, less, is) h =
     let rest = contains_filter test xs x (k, omega arith, is) h in
     elim (test y) as (λ b. Contains (cond b (y ∷ filter test xs) (filter test xs)) x) [
@@ -48,40 +44,12 @@ module _ (n outputs : ℕ) (rows : List Row) where
   OfTwoRows c = (c.output ≤ outputs) × IsAmong (λ a. IsAmong (IsClashOf n a) rows) rows c
 
   from_two : (c : Clash) → OfTwoRows c → IsClash n outputs rows rows c
-  from_two c (last, (a, a_in, (b, b_in, clash))) = record {
-    on_row = a;
-    off_row = b;
-    first = clash.first;
-    last = last;
-    on = to_rows_with (λ r. r.on) c.output rows a a_in clash.on;
-    off = to_rows_with (λ r. r.off) c.output rows b b_in clash.off;
-    on_line = clash.on_line;
-    off_line = clash.off_line;
-    shared = clash.shared;
-  }
+  from_two c (last, (a, a_in, (b, b_in, clash))) = grind (arith, to_rows_with)
 
   to_two : (c : Clash) → IsClash n outputs rows rows c → OfTwoRows c
   to_two c clash =
       let on = from_rows_with (λ r. r.on) c.output rows clash.on_row clash.on in
-      let off = from_rows_with (λ r. r.off) c.output rows clash.off_row clash.off in (
-        clash.last,
-        (
-          clash.on_row,
-          on.0,
-          (
-            clash.off_row,
-            off.0,
-            record {
-              first = clash.first;
-              on = on.1;
-              off = off.1;
-              on_line = clash.on_line;
-              off_line = clash.off_line;
-              shared = clash.shared;
-            },
-          ),
-        ),
-      )
+      let off = from_rows_with (λ r. r.off) c.output rows clash.off_row clash.off in grind arith
 
   pub clash_from_two : (answer : Option Clash) → Answers OfTwoRows answer → Answers (IsClash n outputs rows rows) answer
   clash_from_two None none = λ c clash. none c (to_two c clash)
@@ -96,17 +64,8 @@ module _ (n outputs : ℕ) (rows : List Row) where
 
   consistent_from_none : ((c : Clash) → IsClash n outputs rows rows c → ⊥) → IsConsistent n outputs rows
   consistent_from_none none = (consistent_by_rows n outputs rows).1
-      (λ output a r s first last below on off in_r in_s. none (record { output = output; on_line = r.line; off_line = s.line }) (record {
-        on_row = r;
-        off_row = s;
-        first = first;
-        last = last;
-        on = on;
-        off = off;
-        on_line = refl;
-        off_line = refl;
-        shared = (a, below, in_r, in_s);
-      }))
+      (λ output a r s first last below on off in_r in_s.
+      none (record { output = output; on_line = r.line; off_line = s.line }) (grind arith))
 
   pub none_where_consistent : (answer : Option Clash) → Answers (IsClash n outputs rows rows) answer
       → IsNone answer ↔ IsConsistent n outputs rows
@@ -118,8 +77,7 @@ module _ (n outputs : ℕ) (rows : List Row) where
       → IsClash n outputs rows rows c → ⊥
   none_without_offs kind without fit c clash =
       let off = from_rows_with (λ r. r.off) c.output rows clash.off_row clash.off in
-      let fits : FitsSizes n outputs kind clash.off_row = All-contains (FitsSizes n outputs kind) rows clash.off_row fit off.0 in
-      no_mask (c.output - 1) clash.off_row.off (fits.no_off without) off.1
+      no_mask (c.output - 1) clash.off_row.off ((All-contains (FitsSizes n outputs kind) rows clash.off_row fit off.0).no_off without) off.1
 
 pub least_if_some : (holds : Clash → Type 0) (answer : Option Clash) → Answers holds answer → IfSome answer (IsLeastOf holds)
 least_if_some holds None none = tt

@@ -1,8 +1,8 @@
 -- The clashes of two rows, by the bits of their masks.
-use Rattle.std.proofs.Common.{◌≡◌, ℕ, ◌+◌, ◌-◌, ◌^◌, ◌<◌, ◌≤◌, true, bit_and, refl, subst, arith}
+use Rattle.std.proofs.Common.{◌≡◌, ℕ, ◌+◌, ◌-◌, ◌^◌, ◌<◌, ◌≤◌, true, bit_and, arith}
 use Rattle.std.specs.Int.{bit_at}
 use Rattle.std.proofs.lemmas.Nat.Bits.{bit_at_and, bit_at-lt, bit_at-zero, bit_at-pow_same, bit_at-pow_other}
-use Rattle.lattice.specs.Family.{divides}
+use Rattle.lattice.specs.Words.{divides}
 use Rattle.lattice.specs.declared.row.Row.{Row}
 use Rattle.lattice.proofs.Polynomials.{divides_by_bits}
 use Rattle.cube_sets.specs.declared.clash.Clash.{Clash}
@@ -25,13 +25,7 @@ no_mask d m none h = grind (arith, none, bit_from_divides d m h, bit_at-zero d)
 module _ (n : ℕ) (a b : Row) where
   -- a clash is at an output of which both masks have the bit
   both_bits : (c : Clash) → IsClashOf n a b c → bit_at (bit_and a.on b.off) (c.output - 1) ≡ 1
-  both_bits c clash =
-      omega (
-        arith,
-        bit_at_and a.on b.off (c.output - 1),
-        bit_from_divides (c.output - 1) a.on clash.on,
-        bit_from_divides (c.output - 1) b.off clash.off,
-      )
+  both_bits c clash = grind (arith, bit_at_and, bit_from_divides)
 
   pub none_without_output : bit_and a.on b.off ≡ 0 → (c : Clash) → IsClashOf n a b c → ⊥
   none_without_output none c clash = grind (arith, none, both_bits c clash, bit_at-zero (c.output - 1))
@@ -40,31 +34,11 @@ module _ (n : ℕ) (a b : Row) where
   module _ (low : ℕ) (none : (i : ℕ) → i < low → bit_at (bit_and a.on b.off) i ≡ 0) where
     pub none_up_to : (outputs : ℕ) → outputs < low + 1 → (c : Clash) → c.output ≤ outputs → IsClashOf n a b c → ⊥
     none_up_to outputs above c last clash =
-        let first = clash.first in
-        omega (arith, none (c.output - 1) (omega arith), both_bits c clash)
+        let first = clash.first in omega (arith, none (c.output - 1) (omega arith), both_bits c clash)
 
     pub least_of_pair : (outputs : ℕ) → bit_at (bit_and a.on b.off) low ≡ 1 → low + 1 ≤ outputs → SharePoint n a b
         → IsLeastOf (λ c. (c.output ≤ outputs) × IsClashOf n a b c) (record { output = low + 1; on_line = a.line; off_line = b.line })
     least_of_pair outputs bit within shared = record {
-      clash = (
-        within,
-        record {
-          first = omega arith;
-          on = subst (λ i. divides (2 ^ i) a.on ≡ true) place (divides_from_bit low a.on on_bit);
-          off = subst (λ i. divides (2 ^ i) b.off ≡ true) place (divides_from_bit low b.off off_bit);
-          on_line = refl;
-          off_line = refl;
-          shared = shared;
-        },
-      );
+      clash = grind (arith, divides_from_bit, bit_at_and, bit_at-lt);
       least = λ d h. grind (arith, none (d.output - 1), both_bits d h.1, h.1.on_line, h.1.off_line, h.1.first);
     }
-      where
-        place : low ≡ low + 1 - 1
-        place = omega arith
-
-        on_bit : bit_at a.on low ≡ 1
-        on_bit = omega (arith, bit_at_and a.on b.off low, bit_at-lt a.on low)
-
-        off_bit : bit_at b.off low ≡ 1
-        off_bit = omega (arith, bit_at_and a.on b.off low, bit_at-lt b.off low)

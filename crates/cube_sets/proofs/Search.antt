@@ -1,8 +1,8 @@
 -- The search for the least clash, a row at a time.
-use Rattle.std.proofs.Common.{◌≡◌, ℕ, zero, suc, ◌+◌, ◌-◌, ◌<◌, ◌≤◌, ◌⊎◌, Option, Some, None, List, [], ◌∷◌, ◌++◌, map, length, take}
-use Rattle.std.proofs.Common.{get_or, refl, sym, ap, ◌∙◌, subst, arith, ⊎_elim, inl, inr}
+use Rattle.std.proofs.Common.{◌≡◌, ℕ, ◌+◌, ◌-◌, ◌<◌, ◌≤◌, ◌⊎◌, Option, Some, None, List, [], ◌∷◌, ◌++◌, map, length, take, get_or, refl}
+use Rattle.std.proofs.Common.{sym, ap, ◌∙◌, subst, arith, ⊎_elim}
 use Rattle.std.specs.Option.{MatchOption}
-use Rattle.std.specs.List.{Contains, All}
+use Rattle.std.specs.List.{All}
 use Rattle.std.specs.List.Sorted.{IsStrictlyIncreasing}
 use Rattle.std.proofs.lemmas.List.{take_more, take_all, get_or_default, get_or-map, get_or-take, length-map, length-take}
 use Rattle.std.proofs.lemmas.List.Elements.{All-contains, Contains-append_left, Contains-append_right, Contains-append_cases}
@@ -22,23 +22,13 @@ pub record IsSearched (holds : Row → Clash → Type 0) : Type 0 where
   pub later : (r s : Row) (c d : Clash) → r.line < s.line → holds r c → holds s d → c.output ≡ d.output → IsNotAfter c d
 
 pub with_on_row : (n : ℕ) (a : Row) → IsSearched (IsClashOf n a)
-with_on_row n a = record {
-  first = λ r c h. h.first;
-  later = λ r s c d less h i same. inr (same, inr (h.on_line ∙ sym i.on_line, let x = h.off_line in let y = i.off_line in omega arith));
-}
+with_on_row n a = grind arith
 
 pub with_all_rows : (n : ℕ) (rows : List Row) → IsSearched (λ a. IsAmong (IsClashOf n a) rows)
-with_all_rows n rows = record {
-  first = λ r c h. h.2.first;
-  later = λ r s c d less h i same. inr (same, inl (let x = h.2.on_line in let y = i.2.on_line in omega arith));
-}
+with_all_rows n rows = grind arith
 
 output_not_after : (c d : Clash) → IsNotAfter c d → c.output ≤ d.output
 output_not_after c d h = grind (arith, h)
-
-contains_only : (y x : Row) → Contains (y ∷ []) x → y ≡ x
-contains_only y x (zero, less, is) = is
-contains_only y x (suc k, less, is) = absurd (omega arith)
 
 -- ---- one row more
 
@@ -48,10 +38,7 @@ module _ (holds : Row → Clash → Type 0) (is : IsSearched holds) (outputs lim
   more = rows ++ r ∷ []
 
   old_or_new : (c : Clash) → IsAmong holds more c → IsAmong holds rows c ⊎ holds r c
-  old_or_new c (s, among, h) = ⊎_elim
-      (λ i. inl (s, i, h))
-      (λ i. inr (subst (λ x. holds x c) (sym (contains_only r s i)) h))
-      (Contains-append_cases rows (r ∷ []) s among)
+  old_or_new c (s, among, h) = grind (arith, Contains-append_cases rows (r ∷ []) s among)
 
   old : (c : Clash) → IsAmong holds rows c → IsAmong holds more c
   old c (s, among, h) = (s, Contains-append_left rows (r ∷ []) s among, h)
@@ -67,10 +54,8 @@ module _ (holds : Row → Clash → Type 0) (is : IsSearched holds) (outputs lim
       → MatchOption answer (Best outputs limit (IsAmong holds more) best) (λ c. Best outputs (c.output - 1) (IsAmong holds more) (Some c))
   turn None None so_far none = record {
     limit_is = so_far.limit_is;
-    answers = λ c h. ⊎_elim
-        (λ i. so_far.answers c (h.0, i))
-        (λ i. none c (let e = so_far.limit_is in let l = h.0 in omega arith, i))
-        (old_or_new c h.1);
+    answers = λ c h. ⊎_elim (λ i. so_far.answers c (h.0, i))
+        (λ i. none c (let e = so_far.limit_is in let l = h.0 in omega arith, i)) (old_or_new c h.1);
   }
   turn (Some b) None so_far none = record {
     limit_is = so_far.limit_is;
@@ -96,43 +81,29 @@ module _ (holds : Row → Clash → Type 0) (is : IsSearched holds) (outputs lim
           → c.output < d.output
       earlier None so_far d i = absurd (so_far.answers d i)
       earlier (Some b) so_far d i =
-          let e = so_far.limit_is in
-          let l = output_not_after b d (so_far.answers.least d i) in
-          let m = found.clash.0 in
-          omega arith
+          let e = so_far.limit_is in let l = output_not_after b d (so_far.answers.least d i) in
+          let m = found.clash.0 in omega arith
 
 lines_before : (rows : List Row) (j : ℕ) (b : Row) → IsStrictlyIncreasing (map (λ r. r.line) rows) → j < length rows → b ≡ get_or rows j b
     → All (λ r. r.line < b.line) (take j rows)
 lines_before rows j b ascend less is k d k_less =
-    let before : k < j = (let e = length-take j rows in omega arith) in
-    let pair = AllPairs-from_increasing (map (λ r. r.line) rows) ascend k j d.line before (rw length-map less) in
-    let at_k : get_or (map (λ r. r.line) rows) k d.line ≡ (get_or rows k d).line = get_or-map (λ r. r.line) rows k d d.line (omega arith) in
-    let at_j : get_or (map (λ r. r.line) rows) j d.line ≡ (get_or rows j b).line = get_or-map (λ r. r.line) rows j b d.line less in
-    let line_k : (get_or (take j rows) k d).line ≡ (get_or rows k d).line = ap (λ r. r.line) (get_or-take j rows k d before) in
-    let line_j : b.line ≡ (get_or rows j b).line = ap (λ r. r.line) is in
-    omega arith
+    let pair = AllPairs-from_increasing (map (λ r. r.line) rows) ascend k j d.line in
+    grind (arith, get_or-map, get_or-take, length-map, length-take)
 
 -- ---- the loop over the rows
 
 module _ (holds : Row → Clash → Type 0) (outputs : ℕ) (rows : List Row) where
-  pub search_start : Best outputs outputs (IsAmong holds []) None
-  search_start = record { limit_is = refl; answers = λ c h. let less = h.1.1.1 in omega arith }
-
   -- the loop reads its row from the same list
   pub search_next : IsSearched holds → (limit : ℕ) (items : List Row) (j : ℕ) (d : Row) (best answer : Option Clash)
       → IsStrictlyIncreasing (map (λ r. r.line) rows) → items ≡ rows → j < length items
-      → Best outputs limit (IsAmong holds (take j rows)) best
-      → AnswersUpTo limit (holds (get_or items j d)) answer
+      → Best outputs limit (IsAmong holds (take j rows)) best → AnswersUpTo limit (holds (get_or items j d)) answer
       → MatchOption answer (Best outputs limit (IsAmong holds (take (j + 1) rows)) best)
       (λ c. Best outputs (c.output - 1) (IsAmong holds (take (j + 1) rows)) (Some c))
   search_next searched limit items j d best answer ascend same in_items so_far answers =
-      let r = get_or items j d in
-      let less : j < length rows = subst (λ rs. j < length rs) same in_items in
+      let r = get_or items j d in let less : j < length rows = rw (← same) in_items in
       let is : r ≡ get_or rows j r = ap (λ rs. get_or rs j d) same ∙ get_or_default rows j d r less in
-      let next : take j rows ++ r ∷ [] ≡ take (j + 1) rows = ap (λ x. take j rows ++ x ∷ []) is ∙ sym (take_more rows j r less) in
-      subst (λ rs. MatchOption answer (Best outputs limit (IsAmong holds rs) best)
-      (λ c. Best outputs (c.output - 1) (IsAmong holds rs) (Some c)))
-      next (turn holds searched outputs limit (take j rows) r (lines_before rows j r ascend less is) best answer so_far answers)
+      let next : take (j + 1) rows ≡ take j rows ++ r ∷ [] = take_more rows j r less ∙ ap (λ x. take j rows ++ x ∷ []) (sym is) in
+      rw next (turn holds searched outputs limit (take j rows) r (lines_before rows j r ascend less is) best answer so_far answers)
 
   pub search_end : (limit j : ℕ) (best : Option Clash) → length rows ≤ j → Best outputs limit (IsAmong holds (take j rows)) best
       → AnswersUpTo outputs (IsAmong holds rows) best

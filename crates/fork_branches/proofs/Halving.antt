@@ -1,5 +1,5 @@
 -- How a crew is halved: what each half gets of a counter's parts is enough for it.
-use Rattle.std.proofs.Common.{◌≡◌, ℕ, ◌+◌, ◌-◌, ◌*◌, ◌/◌, ◌^◌, ◌≤◌, ◌⊎◌, inl, inr, sym, ap, subst, arith}
+use Rattle.std.proofs.Common.{◌≡◌, ℕ, ◌+◌, ◌-◌, ◌*◌, ◌/◌, ◌^◌, ◌≤◌, ◌⊎◌, inl, inr, ap, arith}
 use Rattle.std.proofs.Math.Nat.{add-mul, mul-add, mul-le-mul, mul-le-mul_left}
 
 -- the square of a number, by its halves l and h
@@ -18,29 +18,17 @@ pub record Halved (k parts : ℕ) : Type 0 where
   pub back : k / 2 * (k / 2) * 2 ^ 30 ≤ (parts - parts / 2) / 2
 
 -- the halves h and l have enough
-abbrev HaveEnough : ℕ → ℕ → ℕ → Type 0
-HaveEnough l h parts = (h * h * 2 ^ 30 ≤ parts / 2) × (l * l * 2 ^ 30 ≤ (parts - parts / 2) / 2)
-
-halved_by : (l h parts : ℕ) → 1 ≤ l → (h ≡ l) ⊎ (h ≡ l + 1) → (l + h) * (l + h) * 2 ^ 30 ≤ parts → HaveEnough l h parts
-halved_by l h parts some (inl e) enough = subst (λ n. (l + n) * (l + n) * 2 ^ 30 ≤ parts → HaveEnough l n parts) (sym e)
-    (λ all. (omega (arith, square_of l l, all), omega (arith, square_of l l, all))) enough
-halved_by l h parts some (inr e) enough = subst (λ n. (l + n) * (l + n) * 2 ^ 30 ≤ parts → HaveEnough l n parts) (sym e)
-    (λ all.
-    let sq = square_of l (l + 1) in
-    let n = next_square l in
-    let lh = mul-add l l 1 in
-    let hl = add-mul l 1 l in
-    let b = below_square l some in
-    (omega (arith, sq, n, lh, hl, b, all), omega (arith, sq, n, lh, hl, b, all)))
-    enough
+halved_by : (l h parts : ℕ) → 1 ≤ l → (h ≡ l) ⊎ (h ≡ l + 1) → (l + h) * (l + h) * 2 ^ 30 ≤ parts
+    → (h * h * 2 ^ 30 ≤ parts / 2) × (l * l * 2 ^ 30 ≤ (parts - parts / 2) / 2)
+halved_by l h parts some (inl e) enough = let all = rw e at enough in rw e (omega (arith, square_of l l))
+halved_by l h parts some (inr e) enough =
+    let all = rw e at enough in
+    rw e (omega (arith, square_of l (l + 1), next_square l, mul-add l l 1, add-mul l 1 l, below_square l some))
 
 pub halved : (k parts : ℕ) → 2 ≤ k → k * k * 2 ^ 30 ≤ parts → Halved k parts
 halved k parts two enough =
-    let l = k / 2 in
-    let h = k - k / 2 in
-    let whole : l + h ≡ k = omega arith in
-    let cases : (h ≡ l) ⊎ (h ≡ l + 1) = grind arith in
-    let both = halved_by l h parts (omega arith) cases (subst (λ n. n * n * 2 ^ 30 ≤ parts) (sym whole) enough) in
+    let l = k / 2 in let h = k - k / 2 in let whole : l + h ≡ k = omega arith in
+    let both = halved_by l h parts (omega arith) (grind arith) (rw whole enough) in
     record { front = both.0; back = both.1 }
 
 -- the workers of two halves

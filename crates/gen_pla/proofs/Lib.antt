@@ -1,2 +1,1 @@
 mod Progression
-mod Consistency

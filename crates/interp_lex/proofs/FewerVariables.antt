@@ -1,7 +1,6 @@
 -- Families that have variables among the last d alone: the points of a step are the same over n variables as over d.
 use Rattle.std.proofs.Common.{◌≡◌, ℕ, ◌≤◌, ◌&&◌, ◌||◌, refl, ◌∙◌, ap₂}
-use Rattle.lattice.specs.Family.{Family, IsFamily, union_of, inter_of, minus_of, first_only}
-use Rattle.lattice.specs.Polynomial.{ones_of}
+use Rattle.lattice.specs.Words.{Family, IsFamily, union_of, inter_of, minus_of, first_only, ones_of}
 use Rattle.lattice.proofs.Diagrams.{combine-narrow}
 use Rattle.lattice.proofs.Polynomials.{IsFamily-combine, IsFamily-ones_of}
 use Rattle.bool_poly.proofs.OnesLemmas.{ones_of-narrow, ones_list-narrow}

@@ -1,9 +1,7 @@
 -- What finding the least polynomial needs, and that plans with every family have it.
 use Rattle.std.proofs.Common.{◌≢◌, ◌⊎◌, inl, inr, ◌++◌, ℕ, zero, suc, ◌≤◌, Bool, ◌&&◌, ◌||◌, List, [], ◌∷◌, sym, subst, arith, ⊎_elim}
-use Rattle.lattice.specs.Family.{Family, IsFamily, Covers, combine, first_only}
-use Rattle.lattice.specs.Polynomial.{ones_of}
-use Rattle.lattice.specs.Cofactors.{high_cofactor, join, sub}
-use Rattle.lattice.specs.WorkingLists.{working_set, ones_list, interpolation_list}
+use Rattle.lattice.specs.Words.{Family, IsFamily, Covers, combine, first_only, ones_of, high_cofactor, join, sub, working_set, ones_list}
+use Rattle.lattice.specs.Words.{interpolation_list}
 use Rattle.lattice.specs.declared.op.Op.TheVariants.{Least}
 use Rattle.lattice.proofs.Diagrams.{cases_empty, IsFamily-join_suc, covers_append, covers_cons, covers_nil, covers_one}
 use Rattle.lattice.proofs.Polynomials.{IsFamily-combine, IsFamily_wider, IsFamily-high_cofactor, IsFamily-ones_of, no_ones, no_zeros}
@@ -24,9 +22,7 @@ module _ (plan : List Family) (n : ℕ) (any : (f : Family) → IsFamily n f →
   pub any_interpolation : (d : ℕ) → d ≤ n → (zeros ones : Family) → AnyList (interpolation_list d zeros ones)
   any_interpolation zero le zeros ones = subst AnyList (sym (none_left zeros ones)) (covers_nil n plan)
   any_interpolation (suc d) le Z O =
-      let less : d ≤ n = omega arith in
-      let z1 = high_cofactor d Z in
-      let o1 = high_cofactor d O in
+      let less : d ≤ n = omega arith in let z1 = high_cofactor d Z in let o1 = high_cofactor d O in
       let step : Z ≢ [] → O ≢ [] → (z1 ≢ []) ⊎ (o1 ≢ []) → AnyList (interpolation_list (suc d) Z O) = λ some_zero some_one high.
       let hf : IsFamily d (h d d Z O) = IsFamily-interpolate d (hz d d Z O) (ho d d Z O) in
       let gf : IsFamily d (g d d Z O) = IsFamily-interpolate d (gz d d Z O) (go d d Z O) in
@@ -34,10 +30,8 @@ module _ (plan : List Family) (n : ℕ) (any : (f : Family) → IsFamily n f →
       let pair : (k : Bool → Bool → Bool) (a b : Family)
       → Covers plan (sub n (combine k d a b)) = λ k a b. each _ (IsFamily-combine k d a b) in
       let ones : (f : Family) → Covers plan (sub n (ones_of d (h d d Z O) f)) = λ f. each _ (IsFamily-ones_of d (h d d Z O) f) in
-      let both = λ (a b : Bool). a && b in
-      let either = λ (a b : Bool). a || b in
-      let more = covers_cons n plan in
-      let last = covers_one n plan in
+      let both = λ (a b : Bool). a && b in let either = λ (a b : Bool). a || b in
+      let more = covers_cons n plan in let last = covers_one n plan in
       let join_is : Covers plan (sub n (join d (g d d Z O) (h d d Z O))) = any _
       (IsFamily_wider (suc d) n _ (IsFamily-join_suc d _ _ gf hf) le) in
       rw (list_step d Z O some_zero some_one high)

@@ -1,11 +1,8 @@
 -- The steps of finding the least polynomial in a store.
 use Rattle.std.proofs.Common.{◌≡◌, ◌≢◌, ℕ, zero, suc, ◌-◌, ◌<◌, ◌≤◌, max, Result, Ok, Err, IfOk, Some, List, [], ◌∷◌, ◌++◌, refl, sym, ◌∙◌}
-use Rattle.std.proofs.Common.{ap, subst, arith, unwrap_or, ◌⊎◌, inl, inr, ⊎_elim}
-use Rattle.lattice.specs.Family.{Family, IsFamily, AreDisjoint, Covers}
-use Rattle.lattice.specs.Cofactors.{low_cofactor, high_cofactor, join, level}
-use Rattle.lattice.specs.Interpolation.{IsLeast, interpolate}
-use Rattle.lattice.specs.Operations.{answer}
-use Rattle.lattice.specs.WorkingLists.{needs, operation_list, working_set, interpolation_list}
+use Rattle.std.proofs.Common.{ap, subst, arith, ◌⊎◌, inl, inr, ⊎_elim, rules}
+use Rattle.lattice.specs.Words.{Family, IsFamily, AreDisjoint, Covers, low_cofactor, high_cofactor, join, level, IsLeast, interpolate}
+use Rattle.lattice.specs.Words.{answer, needs, operation_list, working_set, interpolation_list}
 use Rattle.lattice.specs.declared.op.Op.TheVariants.{Least}
 use Rattle.lattice.proofs.Diagrams.{Has-head, Has-append_left, Has-append_right, cases_empty, low_cofactor_whole, level-below}
 use Rattle.lattice.proofs.Diagrams.{covers_family, covers_part, covers_nil}
@@ -47,13 +44,7 @@ pub call_of : {s : State} {R : Type 0} (z o : Handle) → IsSound s → record {
   planned : Covers s.plan (needs_of s Least z o.0);
   ready : R;
 } → Call s z o
-call_of z o sound asked = record {
-  sound = sound;
-  zeros_known = asked.zeros;
-  ones_known = asked.ones;
-  apart = asked.disjoint;
-  planned = asked.planned;
-}
+call_of z o sound asked = assumption
 
 -- what it does
 abbrev pub Does : State → Handle → Handle → State → Result Handle Full → Type 0
@@ -76,28 +67,10 @@ module _ {s : State} {zeros ones : Handle} (call : Call s zeros ones) where
   -- ---- with no look at the nodes
 
   pub no_ones_gives : ones.0 ≡ 0 → Does s zeros ones s (Ok (record { 0 = 0 }))
-  no_ones_gives e =
-      let none : one_points ≡ [] = zero_family s ones call.sound e in
-      record {
-        grows = Grows-refl s;
-        ok = call.sound.empty ∙ ap Some (sym (ap (interpolate s.vars zero_points) none ∙ zero_is_least s.vars zero_points));
-        held = rw (needs_least s zeros ones, none, no_ones s.vars zero_points) (covers_nil s.vars s.held);
-        quiet = refl;
-        full = tt;
-      }
+  no_ones_gives e = search (rules, arith, zero_family, Grows-refl, zero_is_least, needs_least, no_ones, covers_nil)
 
   pub no_zeros_gives : zeros.0 ≡ 0 → ones.0 ≢ 0 → Does s zeros ones s (Ok (record { 0 = 1 }))
-  no_zeros_gives e some =
-      let none : zero_points ≡ [] = zero_family s zeros call.sound e in
-      record {
-        grows = Grows-refl s;
-        ok = call.sound.unit
-            ∙ ap Some (sym (ap (λ f. interpolate s.vars f one_points) none
-            ∙ one_is_least s.vars one_points (filled s ones call.sound call.ones_known some)));
-        held = rw (needs_least s zeros ones, none, no_zeros s.vars one_points) (covers_nil s.vars s.held);
-        quiet = refl;
-        full = tt;
-      }
+  no_zeros_gives e some = search (rules, arith, zero_family, Grows-refl, one_is_least, filled, needs_least, no_zeros, covers_nil)
 
   -- ---- the kept results
 
@@ -107,27 +80,14 @@ module _ {s : State} {zeros ones : Handle} (call : Call s zeros ones) where
 
   pub kept_result : {t : State} {r : Handle} → Does s zeros ones t (Ok r) → IsResult t Least zeros ones.0 r
   unfolding answer
-  kept_result does = given_kept (handles Least refl refl call.zeros_known call.ones_known) (record {
-    disjoint = λ e. call.apart;
-    closed = λ e. absurd cc;
-    after = λ e. absurd cc;
-    first = λ e. absurd cc;
-    last = λ e. absurd cc;
-    inside = λ e. absurd cc;
-  }) does
+  kept_result does = grind (arith, given_kept, handles)
 
   -- two families that are both {0} have a common member
   not_both_unit : zeros.0 ≡ 1 → ones.0 ≡ 1 → ⊥
-  not_both_unit ez eo =
-      let z : zero_points ≡ 0 ∷ [] = ap (λ i. unwrap_or (s.known i) []) ez ∙ ap (λ o. unwrap_or o []) call.sound.unit in
-      let o : one_points ≡ 0 ∷ [] = ap (λ i. unwrap_or (s.known i) []) eo ∙ ap (λ o. unwrap_or o []) call.sound.unit in
-      call.apart 0 (rw z (has_head 0 [])) (rw o (has_head 0 []))
+  not_both_unit ez eo = grind (arith, has_head 0)
 
   pub some_node : zeros.0 ≢ 0 → ones.0 ≢ 0 → (2 ≤ zeros.0) ⊎ (2 ≤ ones.0)
-  some_node nz nn = ⊎_elim
-      (λ e. ⊎_elim (λ k. absurd (not_both_unit e k)) (λ k. inr k) (above ones.0 nn))
-      (λ e. inl e)
-      (above zeros.0 nz)
+  some_node nz nn = ⊎_elim (λ e. ⊎_elim (λ k. absurd (not_both_unit e k)) (λ k. inr k) (above ones.0 nn)) (λ e. inl e) (above zeros.0 nz)
     where
       above : (k : ℕ) → k ≢ 0 → (k ≡ 1) ⊎ (2 ≤ k)
       above zero ne = absurd (ne refl)
@@ -146,8 +106,7 @@ pub record Cut (s t : State) (zeros ones : Handle) (c : Cofactors) : Type 0 wher
 pub cut_at : {s a t : State} {zeros ones : Handle} {c : Cofactors} → Call s zeros ones → zeros.0 ≢ 0 → ones.0 ≢ 0 → Reads s a → Reads a t
     → AreCofactors a t zeros ones c → Cut s t zeros ones c
 cut_at {s = s} {a = a} {t = t} {zeros = zeros} {ones = ones} {c = c} call nz nn one two found =
-    let n = s.vars in
-    let d = s.vars - c.var in
+    let n = s.vars in let d = s.vars - c.var in
     let fz : family a zeros ≡ family s zeros = Grows-family s a zeros one.grows call.zeros_known in
     let fo : family a ones ≡ family s ones = Grows-family s a ones one.grows call.ones_known in
     let last : c.var ≤ n = rw (← one.grows.vars) found.last in
@@ -167,13 +126,7 @@ cut_at {s = s} {a = a} {t = t} {zeros = zeros} {ones = ones} {c = c} call nz nn 
         apart = call.apart;
         some_zero = filled s zeros call.sound call.zeros_known nz;
         some_one = filled s ones call.sound call.ones_known nn;
-        high = ⊎_elim
-            (λ ez. ⊎_elim
-            (λ eo. absurd (omega (arith, top, no_high (family s zeros) after.0 ez, no_high (family s ones) after.1 eo)))
-            (λ ne. inr ne)
-            (cases_empty (high_cofactor d (family s ones))))
-            (λ ne. inl ne)
-            (cases_empty (high_cofactor d (family s zeros)));
+        high = ⊎_elim (λ ez. grind (arith, cases_empty)) (λ ne. inl ne) (cases_empty (high_cofactor d (family s zeros)));
       };
       reads = Reads-trans s a t one two;
       are = record {
@@ -227,12 +180,7 @@ module _ {s t : State} {zeros ones : Handle} {c : Cofactors} (k : Cut s t zeros 
     o1_is = Denotes-family u c.b_high _ (grows.known c.b_high.0 _ k.are.b_high)
 
     pub cut_known : AreKnown u c
-    cut_known = AreKnown-later (record {
-      a_low = Denotes-knows t c.a_low _ k.are.a_low;
-      a_high = Denotes-knows t c.a_high _ k.are.a_high;
-      b_low = Denotes-knows t c.b_low _ k.are.b_low;
-      b_high = Denotes-knows t c.b_high _ k.are.b_high;
-    }) grows
+    cut_known = grind (arith, AreKnown-later, Denotes-knows)
 
   -- the call for the points p of one of the two parts, with the zeros A and the ones B
   module _ {u : State} {p : ValuedPoints} {A B : Family} (reads : Reads s u) (za : Denotes u p.zeros A) (ob : Denotes u p.ones B) where
@@ -301,8 +249,7 @@ module _ {s t : State} {zeros ones : Handle} {c : Cofactors} (k : Cut s t zeros 
       high_falls = next_falls at_u hz_at ho_at (upper_fits k.split)
 
       pub high_call : IsSound u → Call u p.zeros p.ones
-      high_call sound = next_call at_u hz_at ho_at sound (upper_apart k.split)
-          (λ f i. search (Has-append_left, Has-append_right) depth 8)
+      high_call sound = next_call at_u hz_at ho_at sound (upper_apart k.split) (λ f i. search (Has-append_left, Has-append_right) depth 8)
 
       -- v is the state after the polynomial r of the upper part was found
       module _ {v : State} {r : Handle} (sound_v : IsSound v) (three : Does u p.zeros p.ones v (Ok r)) where
@@ -340,8 +287,7 @@ module _ {s t : State} {zeros ones : Handle} {c : Cofactors} (k : Cut s t zeros 
             (lower_of v.vars (family v r) (family v c.b_low) (family v c.b_high) (family v c.a_high)) (working_set v.vars LowerList))
           where
             to_w : Found s w
-                ((upper_needs n d Z O ++ (interpolation_list n (hz n d Z O) (ho n d Z O) ++ h n d Z O ∷ [])) ++ lower_needs n d Z
-                O)
+                ((upper_needs n d Z O ++ (interpolation_list n (hz n d Z O) (ho n d Z O) ++ h n d Z O ∷ [])) ++ lower_needs n d Z O)
             to_w = points_found_after (lower_needs n d Z O) to_v (rw (lower_list_is, at_v.grows.vars) refl) four
 
             pub at_w : Reads s w

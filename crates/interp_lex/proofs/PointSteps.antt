@@ -1,16 +1,14 @@
 -- The steps of finding points: the union of two results, and the points of the upper and the lower part.
-use Rattle.std.proofs.Common.{◌≡◌, ℕ, Bool, Result, Ok, Some, List, [], ◌∷◌, ◌++◌, refl, sym, ◌∙◌, ap, subst}
-use Rattle.lattice.specs.Family.{Family, Covers, combine, union_of, minus_of}
-use Rattle.lattice.specs.Polynomial.{ones_of}
-use Rattle.lattice.specs.WorkingLists.{working_set, ones_list}
+use Rattle.std.proofs.Common.{◌≡◌, ℕ, Bool, Result, Ok, Some, List, [], ◌∷◌, ◌++◌, refl, sym, ◌∙◌, ap, subst, arith}
+use Rattle.lattice.specs.Words.{Family, Covers, combine, union_of, minus_of, ones_of, working_set, ones_list}
 use Rattle.lattice.specs.declared.op.Op.TheVariants.{Ones}
 use Rattle.lattice.proofs.Diagrams.{Has-head, Has-tail, Has-append_left, Has-append_right, covers_family, covers_part, covers_head}
 use Rattle.lattice.proofs.Diagrams.{covers_left, covers_right, covers_nothing, covers_more, covers_lists}
 use Rattle.node_store.specs.Stores.{State, Knows, Denotes, family, IsSound, IsPlanned, Grows, Reads, Gives, Builds, needs_of}
 use Rattle.node_store.specs.declared.store.Handle.{Handle}
 use Rattle.node_store.specs.declared.store.Full.{Full}
-use Rattle.node_store.proofs.StoreLaws.{Found, builds_gives, found_after, found_gives, found_part, found_result, found_start}
-use Rattle.node_store.proofs.StoreLaws.{found_built, found_call, Denotes-family, Denotes-knows, Grows-family, Grows-knows}
+use Rattle.node_store.proofs.StoreLaws.{Found, builds_gives, found_after, found_gives, found_part, found_result, found_start, found_built}
+use Rattle.node_store.proofs.StoreLaws.{found_call, Denotes-family, Denotes-knows, Grows-family, Grows-knows}
 use Rattle.set_algebra.proofs.Levels.{combine_later}
 use Rattle.set_algebra.specs.GivenPoints.{GivesPoints}
 use Rattle.set_algebra.specs.declared.points.ValuedPoints.{ValuedPoints}
@@ -74,11 +72,7 @@ module _ {k l : Bool → Bool → Bool} {s : State} {a b c d : Handle} (both : B
       to_u = found_built G to_t second_is two
 
       last_is : union_of u.vars (family u x) (family u y) ≡ R
-      last_is = rw (
-        to_u.reads.grows.vars,
-        Denotes-family u x F (two.grows.known x.0 F one.ok),
-        Denotes-family u y G (two.ok ∙ ap Some second_is),
-      ) refl
+      last_is = grind (arith, Denotes-family)
 
       pub last_planned : IsPlanned u (union_of u.vars (family u x) (family u y))
       last_planned = rw (to_u.reads.grows.plan, last_is, to_u.reads.grows.vars)
@@ -93,18 +87,7 @@ module _ {k l : Bool → Bool → Bool} {s : State} {a b c d : Handle} (both : B
 
 module _ {s t : State} {c : Cofactors} (known : AreKnown s c) (grows : Grows s t) where
   pub AreKnown-later : AreKnown t c
-  AreKnown-later = record {
-    a_low = Grows-knows s t c.a_low grows known.a_low;
-    a_high = Grows-knows s t c.a_high grows known.a_high;
-    b_low = Grows-knows s t c.b_low grows known.b_low;
-    b_high = Grows-knows s t c.b_high grows known.b_high;
-  }
-
-  z0_same : family t c.a_low ≡ family s c.a_low
-  z0_same = Grows-family s t c.a_low grows known.a_low
-
-  z1_same : family t c.a_high ≡ family s c.a_high
-  z1_same = Grows-family s t c.a_high grows known.a_high
+  AreKnown-later = grind (arith, Grows-knows)
 
   o0_same : family t c.b_low ≡ family s c.b_low
   o0_same = Grows-family s t c.b_low grows known.b_low
@@ -165,14 +148,7 @@ module _ {s : State} {c : Cofactors} (k : Upper s c) where
     list_at = common_list t.vars (family t c.a_low) (family t c.b_high) (family t c.b_low) (family t c.a_high)
 
     list_is : list_at ≡ common_list n z0 o1 o0 z1
-    list_is = rw (
-      one.grows.vars,
-      z0_same k.known one.grows,
-      z1_same k.known one.grows,
-      o0_same k.known one.grows,
-      o1_same k.known
-          one.grows,
-    ) refl
+    list_is = grind arith
 
     pub upper_ones_planned : Covers t.plan (working_set t.vars list_at)
     upper_ones_planned = rw (one.grows.plan, list_is, one.grows.vars)
@@ -186,10 +162,7 @@ module _ {s : State} {c : Cofactors} (k : Upper s c) where
     upper_gives {u = u} two = points_found
         (found_part s u (common_list n z0 z1 o0 o1 ++ common_list n z0 o1 o0 z1) (upper_list n z0 z1 o0 o1)
         (found_call (common_list n z0 o1 o0 z1) to_zeros (rw (list_is, one.grows.vars) refl) two) (upper_both _ _ _ _ _ _))
-        (two.grows.known z.0 (common_of n z0 z1 o0 o1) one.ok)
-        (two.ok ∙ ap Some (rw
-        (one.grows.vars, z0_same k.known one.grows, z1_same k.known one.grows, o0_same k.known one.grows, o1_same k.known one.grows)
-        refl))
+        (two.grows.known z.0 (common_of n z0 z1 o0 o1) one.ok) (grind arith)
 
 -- ---- the points of the lower part
 
@@ -302,8 +275,7 @@ module _ {s : State} {c : Cofactors} {h : Handle} (k : Lower s c h) where
       both_reads = to_f.reads
 
       pub zeros_known : Knows u c.a_low × Knows u f × Knows u c.a_high × Knows u e
-      zeros_known = let later = AreKnown-later k.known both_reads.grows in
-          (later.a_low, Denotes-knows u f B f_at, later.a_high, Denotes-knows u e E e_at)
+      zeros_known = grind (arith, Denotes-knows)
 
       abbrev zeros_list_at : List Family
       zeros_list_at = replaced_list u.vars (family u c.a_low) (family u f) (family u c.a_high) (family u e)
@@ -312,12 +284,10 @@ module _ {s : State} {c : Cofactors} {h : Handle} (k : Lower s c h) where
       zeros_at = replaced_of u.vars (family u c.a_low) (family u f) (family u c.a_high) (family u e)
 
       zeros_list_is : zeros_list_at ≡ replaced_list m low0 B high0 E
-      zeros_list_is = let grows = both_reads.grows in
-          rw (grows.vars, z0_same k.known grows, Denotes-family u f B f_at, z1_same k.known grows, Denotes-family u e E e_at) refl
+      zeros_list_is = grind (arith, Denotes-family)
 
       zeros_is : zeros_at ≡ replaced_of m low0 B high0 E
-      zeros_is = let grows = both_reads.grows in
-          rw (grows.vars, z0_same k.known grows, Denotes-family u f B f_at, z1_same k.known grows, Denotes-family u e E e_at) refl
+      zeros_is = grind (arith, Denotes-family)
 
       pub lower_zeros_planned : Covers u.plan (working_set u.vars zeros_list_at)
       lower_zeros_planned = rw (both_reads.grows.plan, zeros_list_is, both_reads.grows.vars)

@@ -1,10 +1,8 @@
 -- The recursion at the first variable of the zeros and the ones, which d variables follow.
 use Rattle.std.proofs.Common.{◌≡◌, ◌≢◌, ℕ, suc, ◌<◌, ◌≤◌, false, ◌&&◌, ◌||◌, List, [], ◌∷◌, ◌++◌, refl, sym, ◌∙◌, ap₂, arith, ◌⊎◌, inl, inr}
 use Rattle.std.proofs.Common.{append_assoc}
-use Rattle.lattice.specs.Family.{Family, IsFamily, AreDisjoint, inter_of}
-use Rattle.lattice.specs.Cofactors.{low_cofactor, high_cofactor, join, is_empty}
-use Rattle.lattice.specs.Interpolation.{IsLeast, IsUpperPart, IsLowerPart, interpolate, upper_zeros, upper_ones, lower_points}
-use Rattle.lattice.specs.WorkingLists.{interpolation_list}
+use Rattle.lattice.specs.Words.{Family, IsFamily, AreDisjoint, inter_of, low_cofactor, high_cofactor, join, is_empty, IsLeast, IsUpperPart}
+use Rattle.lattice.specs.Words.{IsLowerPart, interpolate, upper_zeros, upper_ones, lower_points, interpolation_list}
 use Rattle.lattice.proofs.Diagrams.{not_empty}
 use Rattle.lattice.proofs.Polynomials.{IsFamily-combine, IsFamily-low_cofactor, IsFamily-high_cofactor, upper_disjoint, lower_disjoint}
 use Rattle.lattice.proofs.Polynomials.{upper, lower, IsLeast-interpolate, interpolate-narrow, interpolation_list-narrow}
@@ -56,8 +54,7 @@ interpolate_step d (z ∷ Z) (o ∷ O) nz nn = refl
 pub list_step : (d : ℕ) (Z O : Family) → Z ≢ [] → O ≢ [] → (high_cofactor d Z ≢ []) ⊎ (high_cofactor d O ≢ [])
     → interpolation_list (suc d) Z O ≡ part_needs d d Z O ++ join d (g d d Z O) (h d d Z O) ∷ []
 unfolding interpolation_list upper_zeros upper_ones lower_points
-list_step d Z O some_zero some_one high =
-    rw (not_empty Z some_zero, not_empty O some_one, some_high (high_cofactor d Z) (high_cofactor d O) high) (simp append_assoc)
+list_step d Z O some_zero some_one high = simp (not_empty, some_high, append_assoc)
 
 same_parts : {us us' hs hs' ls ls' gs gs' : List Family} {x x' y y' r r' : Family} → us ≡ us' → hs ≡ hs' → x ≡ x' → ls ≡ ls' → gs ≡ gs'
     → y ≡ y' → r ≡ r' → (((us ++ (hs ++ x ∷ [])) ++ ls) ++ (gs ++ y ∷ [])) ++ r ∷ [] ≡

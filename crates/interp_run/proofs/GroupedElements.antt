@@ -1,41 +1,35 @@
 -- The elements of each output beside its polynomial.
 use Rattle.std.specs.List.{All, flat_map, sum_by}
-use Rattle.std.proofs.Common.{◌≡◌, ℕ, ◌+◌, ◌<◌, ◌≤◌, List, [], ◌∷◌, ◌++◌, length, map, reverse, take, drop, get_or}
-use Rattle.std.proofs.Common.{append_assoc, refl, sym, ap, ap₂, arith, subst, ◌∙◌}
+use Rattle.std.proofs.Common.{◌≡◌, ℕ, ◌+◌, ◌<◌, ◌≤◌, List, [], ◌∷◌, ◌++◌, length, map, reverse, take, drop, get_or, append_assoc, refl, sym}
+use Rattle.std.proofs.Common.{ap, ap₂, arith, ◌∙◌}
 use Rattle.std.proofs.Math.Seq.{drop-append_seam, take-append_seam}
 use Rattle.std.proofs.lemmas.List.{append-nil, drop-map, drop_all, drop_more, length-append, length-map, length-reverse, map-append}
 use Rattle.std.proofs.lemmas.List.{take-map}
+use Rattle.std.proofs.lemmas.List.Concat.{length-flat_map}
 use Rattle.std.proofs.lemmas.List.Elements.{All-cons, All-drop, All-head, All-nil, All-tail, All-take}
-use Rattle.std.proofs.lemmas.List.Sums.{sum_by-cons, sum_by-take-drop}
+use Rattle.std.proofs.lemmas.List.Sums.{sum_by-take-drop}
 use Rattle.std.proofs.lemmas.Simd.{map-map}
-use Rattle.lattice.specs.Family.{Family}
-use Rattle.lattice.specs.Basis.{basis_element_of}
-use Rattle.lattice.specs.WorkingLists.{output_numbers}
+use Rattle.lattice.specs.Words.{Family, basis_element_of, output_numbers}
 use Rattle.lattice.specs.declared.kind.Mode.{Mode}
 use Rattle.lattice.specs.declared.kind.Mode.TheVariants.{Basis}
+use Rattle.lattice.proofs.Polynomials.{length-numbers_below}
 use Rattle.node_store.specs.Stores.{State, Grows, Knows, family}
 use Rattle.node_store.specs.declared.store.Handle.{Handle}
 use Rattle.pla_reader.specs.Reading.{Description}
 use Rattle.anf_printer.specs.Text.{Answer}
+use Rattle.run_parts.proofs.FoundTerms.{terms_of-later}
 use Rattle.interp_run.specs.Phases.{AreGrouped, AreHandles, AreLeads, AreOf, KnowsSolved, answer_for, answer_in, element_task, first_tasks}
 use Rattle.interp_run.specs.Phases.{leads_in, points_in, second_tasks, task, task_family, terms_of}
 use Rattle.interp_run.specs.declared.phases.Solved.{Solved}
 use Rattle.interp_run.specs.declared.tasks.Task.{Task}
 use Rattle.interp_run.specs.declared.tasks.Part.TheVariants.{Leads, Polynomial}
-use Rattle.interp_run.proofs.CountedTerms.{handles_long, terms_of-later}
-use Rattle.interp_run.proofs.OutputLists.{length-output_numbers}
+use Rattle.interp_run.proofs.SolvedAnswers.{sum_by-map}
+use Rattle.interp_run.proofs.Written.{handles_long}
 
-module _ (d : Description) where
+module _ (t : State) (d : Description) (mode : Mode) where
   abbrev polynomial : ℕ → Family
   polynomial o = task_family d (task Polynomial o)
 
-  -- what phase 1 finds begins with the polynomials
-  polynomials_first : (os : List ℕ) (rest : List Task)
-      → map (task_family d) (map (task Polynomial) os ++ rest) ≡ map polynomial os ++ map (task_family d) rest
-  polynomials_first os rest = map-append (task_family d) (map (task Polynomial) os) rest
-      ∙ ap (λ fs. fs ++ map (task_family d) rest) (map-map (task_family d) (task Polynomial) os)
-
-module _ (t : State) (d : Description) (mode : Mode) where
   abbrev elements : ℕ → List Task
   elements o = map (element_task o) (leads_in d mode o)
 
@@ -48,7 +42,7 @@ module _ (t : State) (d : Description) (mode : Mode) where
       ∙ ap₂ (λ (xs ys : List Family). xs ++ ys) (map-map (task_family d) (element_task o) (leads_in d mode o)) (elements_are os)
 
   all_answered : (os : List ℕ) (ps : List Handle) (lists : List Family) (es : List Handle) (solved : List Solved) (rest : List Family)
-      → AreHandles t ps (map (polynomial d) os ++ rest) → map reverse lists ≡ map (leads_in d mode) os
+      → AreHandles t ps (map polynomial os ++ rest) → map reverse lists ≡ map (leads_in d mode) os
       → AreHandles t es (flat_map basis os) → AreGrouped ps lists es solved
       → All (KnowsSolved t) solved × (map (answer_in t) solved ≡ map (answer_for d mode) os)
   unfolding AreGrouped
@@ -59,105 +53,70 @@ module _ (t : State) (d : Description) (mode : Mode) where
   all_answered (o ∷ os) [] (l ∷ lists) es solved rest front same all grouped = absurd grouped
   all_answered (o ∷ os) (p ∷ ps) (l ∷ lists) es [] rest front same all grouped = absurd grouped
   all_answered (o ∷ os) (p ∷ ps) (l ∷ lists) es (x ∷ xs) rest front same all grouped =
-      let n = length l in
-      let first : reverse l ≡ leads_in d mode o = cc in
-      let others : map reverse lists ≡ map (leads_in d mode) os = cc in
-      let head : family t p ≡ polynomial d o = cc in
-      let tail : map (family t) ps ≡ map (polynomial d) os ++ rest = cc in
-      let long : n ≡ length (basis o) = sym (length-reverse l) ∙ (ap length first
-      ∙ sym (length-map (leads_in d mode o) (λ m. basis_element_of d.inputs m (points_in d o)))) in
-      let taken : map (family t) (take n es) ≡ basis o = sym (take-map (family t) n es)
-      ∙ (ap₂ (λ (k : ℕ) (fs : List Family). take k fs) long all.1 ∙ take-append_seam (basis o) (flat_map basis os)) in
-      let dropped : map (family t) (drop n es) ≡ flat_map basis os = sym (drop-map (family t) n es)
-      ∙ (ap₂ (λ (k : ℕ) (fs : List Family). drop k fs) long all.1 ∙ drop-append_seam (basis o) (flat_map basis os)) in
+      let n = length l in let first : reverse l ≡ leads_in d mode o = cc in
+      let others : map reverse lists ≡ map (leads_in d mode) os = cc in let head : family t p ≡ polynomial o = cc in
+      let tail : map (family t) ps ≡ map polynomial os ++ rest = cc in
+      let long : n ≡ length (basis o) = simp (length-map, ← first, length-reverse) in
+      let taken : map (family t) (take n es) ≡ basis o =
+      rw (← take-map (family t) n es, all.1, long) (take-append_seam (basis o) (flat_map basis os)) in
+      let dropped : map (family t) (drop n es) ≡ flat_map basis os =
+      rw (← drop-map (family t) n es, all.1, long) (drop-append_seam (basis o) (flat_map basis os)) in
       let more = all_answered os ps lists (drop n es) xs rest (All-tail (Knows t) p ps front.0, tail) others
       (All-drop (Knows t) n es all.0, dropped) grouped.2 in (
-        All-cons (KnowsSolved t) x xs (
-          subst (Knows t) (sym grouped.0) (All-head (Knows t) p ps front.0),
-          subst (All (Knows t)) (sym grouped.1) (All-take (Knows t) n es all.0),
-        ) more.0,
+        All-cons (KnowsSolved t) x xs (rw grouped.0 (All-head (Knows t) p ps front.0), rw grouped.1 (All-take (Knows t) n es all.0)) more.0,
         ap₂ (λ (a : Answer) (others : List Answer). a ∷ others)
             (ap₂ (λ (f : Family) (b : List Family). record { polynomial = f; basis = b })
             (ap (family t) grouped.0 ∙ head) (ap (map (family t)) grouped.1 ∙ taken)) more.1,
       )
 
+  polynomials_first : (os : List ℕ) (rest : List Task)
+      → map (task_family d) (map (task Polynomial) os ++ rest) ≡ map polynomial os ++ map (task_family d) rest
+  polynomials_first os rest = simp (map-append, map-map)
+
   pub outputs_answered : (ps : List Handle) (rest : List Task) (lists : List Family) (es : List Handle) (solved : List Solved)
       → AreOf t d ps (map (task Polynomial) (output_numbers d.outputs) ++ rest) → AreLeads d mode lists
       → AreOf t d es (second_tasks d mode) → AreGrouped ps lists es solved
       → All (KnowsSolved t) solved × (map (answer_in t) solved ≡ map (answer_for d mode) (output_numbers d.outputs))
-  outputs_answered ps rest lists es solved found leads all grouped =
-      let numbers = output_numbers d.outputs in
-      all_answered numbers ps lists es solved (map (task_family d) rest) (found.0, found.1 ∙ polynomials_first d numbers rest) leads
-      (all.0, all.1 ∙ elements_are numbers) grouped
+  outputs_answered ps rest lists es solved found leads all grouped = let os = output_numbers d.outputs in
+      all_answered os ps lists es solved (map (task_family d) rest) (found.0, found.1 ∙ polynomials_first os rest) leads
+      (all.0, all.1 ∙ elements_are os) grouped
 
   -- ---- how many there are
-
-  elements_counted : (os : List ℕ) (lists : List Family) → map reverse lists ≡ map (leads_in d mode) os
-      → length (flat_map elements os) ≡ sum_by length lists
-  elements_counted [] [] same = refl
-  elements_counted [] (l ∷ lists) same = cc
-  elements_counted (o ∷ os) [] same = cc
-  elements_counted (o ∷ os) (l ∷ lists) same =
-      let first : reverse l ≡ leads_in d mode o = cc in
-      let rest : map reverse lists ≡ map (leads_in d mode) os = cc in
-      omega (
-        arith,
-        length-append (elements o) (flat_map elements os),
-        length-map (leads_in d mode o) (element_task o),
-        ap length first,
-        length-reverse l,
-        sum_by-cons length l lists,
-        elements_counted os lists rest,
-      )
 
   pub elements_enough : (es : List Handle) (lists : List Family) → AreOf t d es (second_tasks d mode) → AreLeads d mode lists
       → length es ≡ sum_by length lists
   elements_enough es lists all are = handles_long t es (map (task_family d) (second_tasks d mode)) all
-      ∙ (length-map (second_tasks d mode) (task_family d) ∙ elements_counted (output_numbers d.outputs) lists are)
+      ∙ (length-map (second_tasks d mode) (task_family d) ∙ counted (output_numbers d.outputs) are)
+    where
+      counted : (os : List ℕ) → map reverse lists ≡ map (leads_in d mode) os → length (flat_map elements os) ≡ sum_by length lists
+      counted os same = simp (length-flat_map, length-map) (sym (simp (sum_by-map, length-reverse) at (ap (sum_by length) same)))
 
 -- a list of leads for each output
 pub leads_counted : (d : Description) (mode : Mode) (lists : List Family) → AreLeads d mode lists → length lists ≡ d.outputs
-leads_counted d mode lists are =
-    let numbers = output_numbers d.outputs in
-    omega (arith, length-map lists reverse, ap length are, length-map numbers (leads_in d mode), length-output_numbers d.outputs)
+leads_counted d mode lists are = simp (length-map, length-numbers_below) at (ap length are)
 
 -- ---- the leads behind the polynomials
 
 module _ (t : State) (d : Description) (hs : List Handle) where
-  abbrev numbers : List ℕ
-  numbers = output_numbers d.outputs
-
   -- a polynomial for each output
-  pub polynomials_enough : (rest : List Task) → AreOf t d hs (map (task Polynomial) numbers ++ rest) → d.outputs ≤ length hs
-  polynomials_enough rest all =
-      let tasks = map (task Polynomial) numbers ++ rest in
-      omega (
-        arith,
-        handles_long t hs (map (task_family d) tasks) all,
-        length-map tasks (task_family d),
-        length-append (map (task Polynomial) numbers) rest,
-        length-map numbers (task Polynomial),
-        length-output_numbers d.outputs,
-      )
+  pub polynomials_enough : (rest : List Task) → AreOf t d hs (map (task Polynomial) (output_numbers d.outputs) ++ rest)
+      → d.outputs ≤ length hs
+  polynomials_enough rest all = let long = simp (length-map, length-append, length-numbers_below) at (ap length all.1) in omega arith
 
   pub leads_listed : (lists : List Family) → AreOf t d hs (first_tasks d Basis) → map reverse lists ≡ map (family t) (drop d.outputs hs)
       → AreLeads d Basis lists
   leads_listed lists all are =
-      let polynomials = map (polynomial d) numbers in
-      let leads = map (task_family d) (map (task Leads) numbers) in
-      let long : d.outputs ≡ length polynomials = sym (length-map numbers (polynomial d) ∙ length-output_numbers d.outputs) in
+      let numbers = output_numbers d.outputs in
+      let long : d.outputs ≡ length (map (polynomial t d Basis) numbers) = simp (length-map, length-numbers_below) in
       are ∙ (sym (drop-map (family t) d.outputs hs) ∙ (ap₂ (λ (k : ℕ) (fs : List Family). drop k fs) long
-      (all.1 ∙ polynomials_first d numbers (map (task Leads) numbers))
-      ∙ (drop-append_seam polynomials leads ∙ map-map (task_family d) (task Leads) numbers)))
+      (all.1 ∙ polynomials_first t d Basis numbers (map (task Leads) numbers))
+      ∙ (drop-append_seam (map (polynomial t d Basis) numbers) _ ∙ map-map (task_family d) (task Leads) numbers)))
 
 -- the terms of what was found: of the first, and of the others in a later state
-pub terms_parted : (s t : State) (hs : List Handle) (k : ℕ) → Grows s t → All (Knows s) hs
-    → terms_of s (take k hs) + terms_of t (drop k hs) ≡ terms_of s hs
-terms_parted s t hs k grows known = omega (
-  arith,
-  sum_by-take-drop (λ h. length (family s h)) hs k,
-  terms_of-later s t (drop k hs) grows (All-drop (Knows s) k hs known),
-)
+pub terms_parted : (s t : State) (hs first rest : List Handle) (k : ℕ) → Grows s t → All (Knows s) hs → first ≡ take k hs
+    → rest ≡ drop k hs → terms_of s first + terms_of t rest ≡ terms_of s hs
+terms_parted s t hs first rest k grows known one two = rw (one, two)
+    (omega (arith, sum_by-take-drop (λ h. length (family s h)) hs k, terms_of-later s t (drop k hs) grows (All-drop (Knows s) k hs known)))
 
 -- ---- one output after the other
 
@@ -169,28 +128,16 @@ pub group_step : (ps : List Handle) (lists : List Family) (es rest first back : 
     → (more : List Solved) → AreGrouped (drop (i + 1) ps) (drop (i + 1) lists) back more → AreGrouped ps lists es (after ++ more)
 unfolding AreGrouped
 group_step ps lists es rest first back before after i x d l in_ps in_lists at polynomial basis is_first is_back pushed so_far more are =
-    let ps_are : drop i ps ≡ get_or ps i d ∷ drop (i + 1) ps = drop_more ps i d in_ps in
-    let lists_are : drop i lists ≡ l ∷ drop (i + 1) lists = drop_more lists i l in_lists ∙ ap (λ f. f ∷ drop (i + 1) lists) (sym at) in
-    let here : AreGrouped (drop i ps) (drop i lists) rest (x ∷ more) =
-    subst (λ hs. AreGrouped hs (drop i lists) rest (x ∷ more)) (sym ps_are)
-    (subst (λ fs. AreGrouped (get_or ps i d ∷ drop (i + 1) ps) fs rest (x ∷ more)) (sym lists_are) ((
-      polynomial,
-      basis ∙ is_first,
-      subst (λ hs. AreGrouped (drop (i + 1) ps) (drop (i + 1) lists) hs more) is_back are,
-    ))) in
-    let items : before ++ (x ∷ more) ≡ after ++ more = sym (append_assoc before (x ∷ []) more) ∙ ap (λ xs. xs ++ more) (sym pushed) in
-    subst (AreGrouped ps lists es) items (so_far (x ∷ more) here)
+    rw (pushed, append_assoc) (so_far (x ∷ more)
+    (rw (drop_more ps i d in_ps, drop_more lists i l in_lists, ← at) (polynomial, basis ∙ is_first, rw is_back at are)))
 
 -- and behind the last one there is none
-group_none : (ps es : List Handle) → AreGrouped ps [] es []
-unfolding AreGrouped
-group_none [] es = tt
-group_none (p ∷ ps) es = tt
-
 pub group_all : (ps : List Handle) (lists : List Family) (es rest : List Handle) (solved : List Solved) (i : ℕ) → length lists ≤ i
     → ((more : List Solved) → AreGrouped (drop i ps) (drop i lists) rest more → AreGrouped ps lists es (solved ++ more))
     → AreGrouped ps lists es solved
-group_all ps lists es rest solved i past so_far =
-    let here : AreGrouped (drop i ps) (drop i lists) rest [] = subst (λ fs. AreGrouped (drop i ps) fs rest []) (sym (drop_all i lists past))
-    (group_none (drop i ps) rest) in
-    subst (AreGrouped ps lists es) (append-nil solved) (so_far [] here)
+unfolding AreGrouped
+group_all ps lists es rest solved i past so_far = rw append-nil at (so_far [] (rw (drop_all i lists past) (none (drop i ps))))
+  where
+    none : (ps : List Handle) → AreGrouped ps [] rest []
+    none [] = tt
+    none (p ∷ ps) = tt

@@ -1,212 +1,211 @@
--- The answers of a consistent description, and what a store holds that found them.
-use Rattle.std.proofs.Common.{◌≡◌, ℕ, ◌+◌, ◌<◌, ◌≤◌, Bool, true, false, cond, List, [], ◌∷◌, ◌++◌, length, map, Option, Some}
-use Rattle.std.proofs.Common.{None, is_some, IfNone, IfSome, refl, sym, ap, ap₂, subst, ◌∙◌}
-use Rattle.std.proofs.Common.{append-nil, arith}
-use Rattle.std.specs.List.{All, sum_by, flat_map}
+-- The answers of a consistent description, what a store holds that found them, how many jobs find them, and what is due by the limits
+-- that are passed.
+use Rattle.std.proofs.Common.{◌≡◌, ℕ, ◌+◌, ◌^◌, ◌<◌, ◌≤◌, true, false, cond, List, [], ◌∷◌, length, map, refl, sym, ap, subst, ◌∙◌, ⊎_elim}
+use Rattle.std.proofs.Common.{inl, inr, append-nil, arith}
+use Rattle.std.specs.List.{sum_by, flat_map}
+use Rattle.std.proofs.lemmas.Bool.{cases_Bool, le-ltb, lt-ltb}
+use Rattle.std.proofs.lemmas.List.{length-append, length-map}
+use Rattle.std.proofs.lemmas.List.Concat.{length-flat_map}
 use Rattle.std.proofs.lemmas.List.Folds.{fold-map}
 use Rattle.std.proofs.lemmas.List.Sums.{sum_by-append, sum_by-cons}
-use Rattle.std.proofs.lemmas.Bool.{true≢false, false≢true}
-use Rattle.std.proofs.lemmas.List.{length-map}
-use Rattle.std.proofs.lemmas.List.Elements.{All-head, All-tail, All-weaker}
-use Rattle.std.proofs.lemmas.Option.{slice_get_within}
-use Rattle.lattice.specs.Family.{Family, IsFamily, Covers}
-use Rattle.lattice.specs.Basis.{basis_element_of, leads_of, standard_of, reduced_basis_of}
-use Rattle.lattice.specs.Rows.{IsConsistent, points_where, is_one, is_zero}
-use Rattle.lattice.specs.WorkingLists.{is_basis, first_phase, second_phase, output_basis_list}
-use Rattle.lattice.specs.WorkingLists.{output_numbers, working_set}
+use Rattle.std.proofs.lemmas.Option.{get_or_from_slice_get, slice_get_within}
+use Rattle.lattice.specs.Words.{Family, IsFamily, Covers, reduced_basis_of, IsConsistent, points_where, is_basis, first_phase, second_phase}
+use Rattle.lattice.specs.Words.{output_numbers, working_set}
 use Rattle.lattice.specs.declared.kind.Mode.{Mode}
-use Rattle.lattice.proofs.Diagrams.{covered_length, covers_left, get_map}
-use Rattle.lattice.proofs.Polynomials.{IsFamily-family_where, IsFamily-combine, IsLeast-interpolate}
-use Rattle.lattice.proofs.Polynomials.{reduced_basis_exists, care_points_disjoint}
-use Rattle.node_store.specs.Stores.{State, family, Grows}
-use Rattle.node_store.proofs.StoreLaws.{Grows-family, Grows-knows}
+use Rattle.lattice.proofs.Diagrams.{covered_length, covers_left}
+use Rattle.lattice.proofs.Polynomials.{IsFamily-family_where, IsFamily-combine, IsLeast-interpolate, reduced_basis_exists}
+use Rattle.lattice.proofs.Polynomials.{care_points_disjoint}
+use Rattle.node_store.specs.Stores.{State, family}
 use Rattle.node_store.specs.declared.store.Handle.{Handle}
+use Rattle.cli_words.specs.declared.job.Job.{Job}
 use Rattle.pla_reader.specs.Reading.{Description}
 use Rattle.anf_printer.specs.Text.{Answer}
 use Rattle.run_parts.proofs.FoundTerms.{working_set_is_distinct}
 use Rattle.interp_run.specs.Answers.{IsAnswerOf, AreAnswers, first_count, second_count, first_nodes, last_nodes}
-use Rattle.interp_run.specs.Phases.{AreOf, IsSecond, KnowsSolved, answer_for, answer_in, answers_for, first_tasks, leads_in, ones_in}
-use Rattle.interp_run.specs.Phases.{points_in, second_terms, task, task_family, terms_of, zeros_in}
-use Rattle.interp_run.specs.declared.tasks.Task.{Task}
+use Rattle.interp_run.specs.Due.{IsDueSolving, first_passed, has_answers, silent, solved}
+use Rattle.interp_run.specs.Parts.{EndsUnsolved, FirstFits, due_unsolved, jobs_for, no_memory_to_solve, stopped_outcome}
+use Rattle.interp_run.specs.Phases.{AreOf, IsSecond, answer_for, answer_in, answers_for, element_task, first_tasks, leads_in, ones_in}
+use Rattle.interp_run.specs.Phases.{points_in, second_tasks, second_terms, task, task_family, terms_of, zeros_in}
 use Rattle.interp_run.specs.declared.tasks.Part.TheVariants.{Leads, Polynomial}
 use Rattle.interp_run.specs.declared.phases.Solved.{Solved}
-use Rattle.interp_run.proofs.CountedTerms.{solved_terms, All_known-later, families_later}
-use Rattle.interp_run.proofs.OutputLists.{at_output, length-output_numbers}
+use Rattle.interp_run.specs.declared.phases.Stop.{Stop}
+use Rattle.interp_run.specs.declared.phases.Stop.TheVariants as stops
+use Rattle.interp_run.specs.declared.outcome.Outcome.TheVariants as ends
+use Rattle.interp_run.proofs.OutputLists.{length-output_numbers, output_at}
 
 -- ---- the answers
-
-where_family : (test : Bool → Bool → Bool → Bool) (d : Description) (output : ℕ)
-    → IsFamily d.inputs (points_where test d.inputs d.rows output)
-unfolding points_where
-where_family test d output = IsFamily-family_where d.inputs _
 
 pub points_family : (d : Description) (output : ℕ) → IsFamily d.inputs (points_in d output)
 points_family d output = IsFamily-combine _ d.inputs (zeros_in d output) (ones_in d output)
 
-basis_is : (d : Description) (output : ℕ)
-    → map (λ m. basis_element_of d.inputs m (points_in d output)) (leads_of d.inputs (standard_of d.inputs (points_in d output))) ≡
-    reduced_basis_of d.inputs (points_in d output)
-unfolding reduced_basis_of
-basis_is d output = refl
-
-answer_is : (d : Description) (mode : Mode) (output : ℕ) → IsConsistent d.inputs d.outputs d.rows → 1 ≤ output → output ≤ d.outputs
-    → IsAnswerOf d mode output (answer_for d mode output)
-answer_is d mode output ok first last =
-    let n = d.inputs in
-    record {
-      least = IsLeast-interpolate n (zeros_in d output) (ones_in d output) (where_family (is_zero d.kind) d output).below
-          (where_family (is_one d.kind) d output).below (care_points_disjoint n d.outputs d.kind d.rows output ok first last);
-      basis = λ e. rw (e, basis_is d output) (reduced_basis_exists n (points_in d output) (points_family d output));
-      bare = λ e. rw e refl;
-    }
-
 pub answers_are : (d : Description) (mode : Mode) → IsConsistent d.inputs d.outputs d.rows → AreAnswers d mode (answers_for d mode)
+unfolding points_where reduced_basis_of
 answers_are d mode ok = record {
   consistent = ok;
   count = length-map (output_numbers d.outputs) (answer_for d mode) ∙ length-output_numbers d.outputs;
   each = λ k a e.
-      let at = get_map (answer_for d mode) (output_numbers d.outputs) k a e in
-      let output : at.0 ≡ k + 1 = at_output d.outputs k at.0 at.1 in
-      let inside : k < length (output_numbers d.outputs) = slice_get_within (output_numbers d.outputs) k at.0 at.1 in
-      subst (IsAnswerOf d mode (k + 1)) (sym (at.2 ∙ ap (answer_for d mode) output))
-      (answer_is d mode (k + 1) ok (omega arith) (omega (arith, inside, length-output_numbers d.outputs)));
+      let inside : k < d.outputs = omega (
+        arith,
+        slice_get_within (answers_for d mode) k a e,
+        length-map (output_numbers d.outputs) (answer_for d mode),
+        length-output_numbers d.outputs,
+      ) in
+      subst (IsAnswerOf d mode (k + 1)) (sym (output_at (answer_for d mode) d.outputs k a inside)
+      ∙ get_or_from_slice_get (answers_for d mode) k a a e)
+      (record {
+        least = IsLeast-interpolate d.inputs (zeros_in d (k + 1)) (ones_in d (k + 1)) (IsFamily-family_where d.inputs _).below
+            (IsFamily-family_where d.inputs _).below
+            (care_points_disjoint d.inputs d.outputs d.kind d.rows (k + 1) ok (omega arith) (omega arith));
+        basis = λ e. rw e (reduced_basis_exists d.inputs (points_in d (k + 1)) (points_family d (k + 1)));
+        bare = λ e. rw e refl;
+      });
 }
 
 -- ---- working sets
 
-part_within : (n : ℕ) (part rest : List Family) → length (working_set n part) ≤ length (working_set n (part ++ rest))
-part_within n part rest = covered_length (working_set n part) (working_set n (part ++ rest)) (working_set_is_distinct n part)
-    (covers_left n (working_set n (part ++ rest)) part rest (λ f here. here))
+-- the plan of a run has what phase 1 needs
+pub first_planned : (d : Description) (mode : Mode) (plan : List Family)
+    → plan ≡ working_set d.inputs (second_phase d.inputs d.outputs d.kind d.rows mode)
+    → Covers plan (working_set d.inputs (first_phase d.inputs d.outputs d.kind d.rows mode))
+unfolding second_phase
+first_planned d mode plan is = rw is (covers_left d.inputs _ (first_phase d.inputs d.outputs d.kind d.rows mode) _ (λ f h. h))
 
 pub first_within_last : (d : Description) (mode : Mode) → first_nodes d mode ≤ last_nodes d mode
-unfolding second_phase
-first_within_last d mode = part_within d.inputs (first_phase d.inputs d.outputs d.kind d.rows mode) _
+first_within_last d mode = covered_length _ _ (working_set_is_distinct d.inputs (first_phase d.inputs d.outputs d.kind d.rows mode))
+    (first_planned d mode _ refl)
 
--- but in mode basis phase 1 is all
-pub first_is_last : (d : Description) (mode : Mode) → is_basis mode ≡ false → last_nodes d mode ≡ first_nodes d mode
-unfolding second_phase
-first_is_last d mode bare =
-    ap (λ list. length (working_set d.inputs list)) (rw (bare) (append-nil (first_phase d.inputs d.outputs d.kind d.rows mode)))
+-- ---- what is counted
 
-abbrev pub first_list : Description → Mode → List Family
-first_list d mode = first_phase d.inputs d.outputs d.kind d.rows mode
-
-abbrev pub last_list : Description → Mode → List Family
-last_list d mode = second_phase d.inputs d.outputs d.kind d.rows mode
-
--- all that phase 2 adds
-abbrev pub added_list : Description → Mode → List Family
-added_list d mode = cond (is_basis mode) (flat_map (output_basis_list d.inputs d.kind d.rows) (output_numbers d.outputs)) []
-
-pub last_list_is : (d : Description) (mode : Mode) → last_list d mode ≡ first_list d mode ++ added_list d mode
-unfolding second_phase
-last_list_is d mode = refl
-
--- the plan of a run has what phase 1 needs
-pub first_planned : (d : Description) (mode : Mode) (plan : List Family) → plan ≡ working_set d.inputs (last_list d mode)
-    → Covers plan (working_set d.inputs (first_list d mode))
-first_planned d mode plan is =
-    covers_left d.inputs plan (first_list d mode) (added_list d mode)
-    (subst (λ list. Covers plan (working_set d.inputs list)) (last_list_is d mode) (subst (λ fs. Covers plan fs) is (λ f h. h)))
-
--- sums over what is mapped
-sum_by_map : {X Y : Type 0} (f : Y → ℕ) (h : X → Y) (xs : List X) → sum_by f (map h xs) ≡ sum_by (λ x. f (h x)) xs
-sum_by_map f h xs = fold-map (λ (n : ℕ) y. n + f y) h 0 xs
-
--- ---- what phase 1 found
+pub sum_by-map : {X Y : Type 0} (f : Y → ℕ) (h : X → Y) (xs : List X) → sum_by f (map h xs) ≡ sum_by (λ x. f (h x)) xs
+sum_by-map f h xs = fold-map (λ (n : ℕ) y. n + f y) h 0 xs
 
 sum_of_both : {X : Type 0} (f g : X → ℕ) (xs : List X) → sum_by f xs + sum_by g xs ≡ sum_by (λ x. f x + g x) xs
 sum_of_both f g [] = refl
-sum_of_both f g (x ∷ xs) =
-    omega (arith, sum_by-cons f x xs, sum_by-cons g x xs, sum_by-cons (λ y. f y + g y) x xs, sum_of_both f g xs)
+sum_of_both f g (x ∷ xs) = omega (arith, sum_by-cons f x xs, sum_by-cons g x xs, sum_by-cons (λ y. f y + g y) x xs, sum_of_both f g xs)
+
+sum_of_none : {X : Type 0} (xs : List X) → sum_by (λ _. 0) xs ≡ 0
+sum_of_none [] = refl
+sum_of_none (x ∷ xs) = omega (arith, sum_by-cons (λ _. 0) x xs, sum_of_none xs)
+
+-- the terms that are counted of what phase 2 found are those of the answers
+pub answers_counted : (d : Description) (mode : Mode) (t : State) (found : List Solved) → IsSecond t d mode found
+    → second_terms t found ≡ second_count (answers_for d mode)
+answers_counted d mode t found are = counted found ∙ ap second_count are.answers
+  where
+    counted : (found : List Solved) → second_terms t found ≡ second_count (map (answer_in t) found)
+    counted found = simp sum_by-map
 
 module _ (d : Description) (mode : Mode) where
+  abbrev leads : ℕ → ℕ
+  leads o = length (leads_in d mode o)
+
+  -- of these outputs
+  module _ (os : List ℕ) where
+    tasks_counted : length (flat_map (λ o. map (element_task o) (leads_in d mode o)) os) ≡ sum_by leads os
+    tasks_counted = simp (length-flat_map, length-map)
+
+    elements_counted : sum_by (λ (a : Answer). length a.basis) (map (answer_for d mode) os) ≡ sum_by leads os
+    elements_counted = simp (sum_by-map, length-map)
+
+    leads_counted : sum_by (λ t. length (task_family d t)) (cond (is_basis mode) (map (task Leads) os) []) ≡ sum_by leads os
+    leads_counted = elim (cases_Bool (is_basis mode)) [
+      | inl basis ↦ simp (basis, sum_by-map)
+      | inr bare ↦ simp bare (sym (sum_of_none os))
+    ]
+
+    terms_counted : sum_by (λ t. length (task_family d t)) (map (task Polynomial) os) + sum_by leads os ≡
+        first_count (map (answer_for d mode) os)
+    terms_counted = simp (sum_by-map, sum_of_both, length-map)
+
+    same_counts : is_basis mode ≡ false → second_count (map (answer_for d mode) os) ≡ first_count (map (answer_for d mode) os)
+    same_counts bare = simp (sum_by-map, bare)
+
   abbrev numbers : List ℕ
   numbers = output_numbers d.outputs
 
-  abbrev task_terms : Task → ℕ
-  task_terms task = length (task_family d task)
-
-  abbrev basis_terms : ℕ → ℕ
-  basis_terms o = length (answer_for d mode o).basis
-
-  leads_counted : (b : Bool) → is_basis mode ≡ b → (os : List ℕ) → sum_by task_terms (cond b (map (task Leads) os) []) ≡
-      sum_by basis_terms os
-  leads_counted true basis [] = refl
-  leads_counted true basis (o ∷ os) =
-      let one : basis_terms o ≡ task_terms (task Leads o) =
-      length-map (leads_in d mode o) (λ m. basis_element_of d.inputs m (points_in d o)) ∙ rw basis refl in
-      omega (
-        arith,
-        one,
-        sum_by-cons task_terms (task Leads o) (map (task Leads) os),
-        sum_by-cons basis_terms o os,
-        leads_counted true basis os,
-      )
-  leads_counted false bare [] = refl
-  leads_counted false bare (o ∷ os) =
-      let none : basis_terms o ≡ 0 = rw bare refl in
-      omega (arith, none, sum_by-cons basis_terms o os, leads_counted false bare os)
-
-  tasks_counted : sum_by task_terms (first_tasks d mode) ≡ first_count (answers_for d mode)
-  tasks_counted =
-      let polynomials = map (task Polynomial) numbers in
-      let rest = cond (is_basis mode) (map (task Leads) numbers) [] in
-      let terms : Answer → ℕ = λ a. length a.polynomial + length a.basis in
-      sum_by-append task_terms polynomials rest
-      ∙ (ap₂ (λ (m n : ℕ). m + n) (sum_by_map task_terms (task Polynomial) numbers) (leads_counted (is_basis mode) refl numbers)
-      ∙ (sum_of_both (λ o. task_terms (task Polynomial o)) basis_terms numbers ∙ sym (sum_by_map terms (answer_for d mode) numbers)))
-
-  module _ (s : State) (found : List Handle) (are : AreOf s d found (first_tasks d mode)) where
-    pub first_counted : terms_of s found ≡ first_count (answers_for d mode)
-    first_counted =
-        sym (sum_by_map length (family s) found) ∙ (ap (sum_by length) are.1
-        ∙ (sum_by_map length (task_family d) (first_tasks d mode) ∙ tasks_counted))
-
--- ---- what phase 2 found
-
-second_counted : (t : State) (solved : List Solved) → second_terms t solved ≡ second_count (map (answer_in t) solved)
-second_counted t [] = refl
-second_counted t (o ∷ os) =
-    let terms : Answer → ℕ = λ a. length a.polynomial + sum_by length a.basis in
-    omega (
-      arith,
-      sum_by-cons (solved_terms t) o os,
-      sum_by-cons terms (answer_in t o) (map (answer_in t) os),
-      sum_by_map length (family t) o.basis.items,
-      second_counted t os,
-    )
-
-module _ (d : Description) (mode : Mode) (t : State) (solved : List Solved) (are : IsSecond t d mode solved) where
-  -- the terms that are counted are those of the answers
-  pub answers_counted : second_terms t solved ≡ second_count (answers_for d mode)
-  answers_counted = second_counted t solved ∙ ap second_count are.answers
-
--- ---- without bases
-
-module _ (d : Description) (mode : Mode) (bare : is_basis mode ≡ false) where
-  no_basis : (o : ℕ) → (answer_for d mode o).basis ≡ []
-  no_basis o = rw (bare) refl
-
-  pub no_elements : (os : List ℕ) → sum_by (λ (a : Answer). length a.basis) (map (answer_for d mode) os) ≡ 0
-  no_elements [] = refl
-  no_elements (o ∷ os) = omega (
+  pub first_counted : (s : State) (found : List Handle) → AreOf s d found (first_tasks d mode)
+      → terms_of s found ≡ first_count (answers_for d mode)
+  first_counted s found are = omega (
     arith,
-    sum_by-cons (λ (a : Answer). length a.basis) (answer_for d mode o) (map (answer_for d mode) os),
-    ap length (no_basis o),
-    no_elements os,
+    sum_by-map length (family s) found,
+    ap (sum_by length) are.1,
+    sum_by-map length (task_family d) (first_tasks d mode),
+    sum_by-append (λ t. length (task_family d t)) (map (task Polynomial) numbers) (cond (is_basis mode) (map (task Leads) numbers) []),
+    leads_counted numbers,
+    terms_counted numbers,
   )
 
-  same_counts : (os : List ℕ) → second_count (map (answer_for d mode) os) ≡ first_count (map (answer_for d mode) os)
-  same_counts [] = refl
-  same_counts (o ∷ os) = omega (
-    arith,
-    sum_by-cons (λ (a : Answer). length a.polynomial + sum_by length a.basis) (answer_for d mode o) (map (answer_for d mode) os),
-    sum_by-cons (λ (a : Answer). length a.polynomial + length a.basis) (answer_for d mode o) (map (answer_for d mode) os),
-    ap (sum_by length) (no_basis o),
-    ap length (no_basis o),
-    same_counts os,
-  )
+  -- there are no more tasks in phase 2 than terms are counted, and without bases none
+  pub second_few : length (second_tasks d mode) ≤ first_count (answers_for d mode)
+  second_few = omega (arith, tasks_counted numbers, terms_counted numbers)
 
-  pub second_is_first : second_count (answers_for d mode) ≡ first_count (answers_for d mode)
-  second_is_first = same_counts (output_numbers d.outputs)
+  pub second_none : is_basis mode ≡ false → length (second_tasks d mode) ≡ 0
+  second_none bare = tasks_counted numbers ∙ simp bare (sum_of_none numbers)
+
+  first_long : length (first_tasks d mode) ≡ d.outputs + cond (is_basis mode) d.outputs 0
+  first_long = grind (arith, length-append, length-map, length-output_numbers)
+
+  pub first_few : d.outputs ≤ 64 → length (first_tasks d mode) ≤ 128
+  first_few few = grind (arith, first_long)
+
+  pub jobs_counted : length (first_tasks d mode) + length (second_tasks d mode) ≡ jobs_for mode (answers_for d mode)
+  jobs_counted =
+      let long : length (answers_for d mode) ≡ d.outputs = length-map numbers (answer_for d mode) ∙ length-output_numbers d.outputs in
+      omega (arith, first_long, tasks_counted numbers, elements_counted numbers, long, ap (λ n. cond (is_basis mode) n 0) long)
+
+  -- without bases phase 1 is all
+  first_is_last : is_basis mode ≡ false → last_nodes d mode ≡ first_nodes d mode
+  unfolding second_phase
+  first_is_last bare =
+      ap (λ list. length (working_set d.inputs list)) (rw bare (append-nil (first_phase d.inputs d.outputs d.kind d.rows mode)))
+
+-- ---- what is due by the limits that are passed
+
+module _ (job : Job) (d : Description) (ok : IsConsistent d.inputs d.outputs d.rows) where
+  abbrev slots : ℕ
+  slots = 2 ^ job.nodes
+
+  due : IsDueSolving job d (first_passed job d (answers_for d job.mode))
+  due = has_answers (answers_for d job.mode) (answers_are d job.mode ok)
+
+  -- in phase 1
+  pub first_nodes_over : slots < first_nodes d job.mode → IsDueSolving job d (silent (ends.Exhausted slots))
+  first_nodes_over over = simp lt-ltb at due
+
+  pub first_terms_over : first_nodes d job.mode ≤ slots → job.terms < first_count (answers_for d job.mode)
+      → IsDueSolving job d (silent (ends.Terms job.terms))
+  first_terms_over first over = simp (le-ltb, lt-ltb) at due
+
+  -- in the last phase: phase 2 in mode basis, else phase 1
+  module _ (fits : is_basis job.mode ≡ true → FirstFits job d) where
+    pub last_nodes_over : slots < last_nodes d job.mode → IsDueSolving job d (silent (ends.Exhausted slots))
+    last_nodes_over over = elim (cases_Bool (is_basis job.mode)) [
+      | inl basis ↦ let a = (fits basis).nodes in let b = (fits basis).terms in simp (le-ltb, lt-ltb) at due
+      | inr bare ↦ first_nodes_over (omega (arith, first_is_last d job.mode bare))
+    ]
+
+    module _ (last : last_nodes d job.mode ≤ slots) where
+      first : first_nodes d job.mode ≤ slots
+      first = omega (arith, first_within_last d job.mode)
+
+      pub last_terms_over : job.terms < second_count (answers_for d job.mode) → IsDueSolving job d (silent (ends.Terms job.terms))
+      last_terms_over over = elim (cases_Bool (is_basis job.mode)) [
+        | inl basis ↦ let b = (fits basis).terms in let a = first in simp (le-ltb, lt-ltb) at due
+        | inr bare ↦ first_terms_over first (omega (arith, same_counts d job.mode (output_numbers d.outputs) bare))
+      ]
+
+      pub within_limits : second_count (answers_for d job.mode) ≤ job.terms → IsDueSolving job d (solved job d (answers_for d job.mode))
+      within_limits all =
+          let a = first in
+          let b : first_count (answers_for d job.mode) ≤ job.terms = ⊎_elim (λ basis. (fits basis).terms)
+          (λ bare. omega (arith, same_counts d job.mode (output_numbers d.outputs) bare)) (cases_Bool (is_basis job.mode)) in
+          simp (le-ltb, lt-ltb) at due
+
+-- how a run ends that stopped without its answers
+pub stopped_ends : (job : Job) (d : Description) (stop : Stop)
+    → (stop ≡ stops.Full → IsDueSolving job d (silent (ends.Exhausted (2 ^ job.nodes))))
+    → (stop ≡ stops.Terms → IsDueSolving job d (silent (ends.Terms job.terms))) → EndsUnsolved job d (stopped_outcome job stop)
+stopped_ends job d stop full terms = grind (arith, due_unsolved, no_memory_to_solve)
+
+pub stopped_unfinished : (job : Job) (stop : Stop) → stopped_outcome job stop ≡ ends.Done → ⊥
+stopped_unfinished job stop e = grind arith

@@ -1,207 +1,216 @@
--- Tasks as the jobs of a pool: what they use, what they need, and what they give.
-use Rattle.std.specs.List.{Contains, flat_map}
-use Rattle.std.proofs.Common.{◌≡◌, ℕ, zero, suc, ◌+◌, ◌-◌, ◌^◌, ◌<◌, ◌≤◌, List, [], ◌∷◌, get_or, length, map, cond, Bool, true}
-use Rattle.std.proofs.Common.{false}
-use Rattle.std.proofs.Common.{refl, sym, ap, subst, ◌∙◌, arith, ⊎_elim}
-use Rattle.std.specs.List.{sum_by}
-use Rattle.std.proofs.lemmas.List.Sums.{sum_by-cons}
-use Rattle.std.proofs.lemmas.List.{get_or-map, length-map, length-append, same_lists}
+-- Covers and tasks as the jobs of a pool: what they use, what they need, and what they give.
+use Rattle.std.specs.List.{Contains, flat_map, zip}
+use Rattle.std.proofs.Common.{◌≡◌, ℕ, zero, suc, ◌+◌, ◌*◌, ◌/◌, ◌%◌, ◌-◌, ◌^◌, ◌<◌, ◌≤◌, List, [], ◌∷◌, drop, get_or, length, map, take}
+use Rattle.std.proofs.Common.{Result, Ok, refl, sym, subst, ◌∙◌, arith, ⊎_elim, length-drop, mul_comm}
+use Rattle.std.proofs.Math.Nat.{div-lt_iff_lt-mul}
+use Rattle.std.proofs.lemmas.List.{get_or-drop, get_or-map, get_or-take, length-map, length-take-le, same_lists}
 use Rattle.std.proofs.lemmas.List.Elements.{All-from_get_or, Contains-append_left, Contains-append_right, Contains-append_cases}
-use Rattle.std.proofs.lemmas.Option.{get_or_from_slice_get}
-use Rattle.lattice.specs.Family.{Family, Covers}
-use Rattle.lattice.specs.WorkingLists.{is_basis, output_numbers, working_set}
-use Rattle.lattice.specs.declared.kind.Mode.{Mode}
-use Rattle.lattice.proofs.Diagrams.{covers_append, covers_nil}
-use Rattle.node_store.specs.Stores.{State, Denotes, Knows, family}
+use Rattle.std.proofs.lemmas.Nat.{div-mul-add, mod-mul-add, mod_below, mul-add-lt}
+use Rattle.lattice.specs.Words.{Family, AreDisjoint, Covers, union_of, IsLead, IsConsistent, output_numbers, working_set}
+use Rattle.lattice.specs.declared.kind.Kind.{Kind}
+use Rattle.lattice.specs.declared.row.Row.{Row}
+use Rattle.lattice.proofs.Diagrams.{covers_append, covers_nil, covers_part, covers_tail}
+use Rattle.lattice.proofs.Polynomials.{care_points_disjoint}
+use Rattle.node_store.specs.Stores.{State, Builds, Denotes, Gives, Grows, Knows, family}
+use Rattle.node_store.specs.declared.store.Full.{Full}
 use Rattle.node_store.specs.declared.store.Handle.{Handle}
-use Rattle.node_store.proofs.StoreLaws.{Denotes-family, Denotes-knows}
+use Rattle.node_store.proofs.StoreLaws.{Denotes-family, Denotes-knows, found_built, found_gives, found_start, gives_as}
 use Rattle.pla_reader.specs.Reading.{Description}
 use Rattle.set_algebra.specs.declared.points.ValuedPoints.{ValuedPoints}
-use Rattle.cube_build.proofs.CareNeeds.{zip_from}
+use Rattle.cube_build.specs.GivenCareSets.{AreCovers, IsCover}
+use Rattle.cube_build.specs.PointSets.{sets_of}
+use Rattle.cube_build.specs.UsedCubes.{AreCubes, used_cube}
+use Rattle.cube_build.specs.declared.covers.PointSet.{PointSet}
+use Rattle.cube_build.specs.declared.covers.PointSet.TheVariants.{On}
+use Rattle.cube_build.proofs.CareNeeds.{cover_later, cover_planned, part_at, zip_from}
 use Rattle.fork_branches.specs.Jobs.{KnowsUses}
-use Rattle.fork_branches.specs.Work.{MayWork}
 use Rattle.fork_branches.specs.Solves.{AreSolved}
-use Rattle.anf_printer.specs.Text.{Answer}
-use Rattle.interp_run.specs.Answers.{first_count}
-use Rattle.interp_run.specs.Parts.{jobs_for}
-use Rattle.lattice.specs.Basis.{basis_element_of}
-use Rattle.interp_run.specs.Phases.{points_in}
-use Rattle.interp_run.specs.Phases.{AreCares, AreDone, answer_for, answers_for, element_task, first_tasks, jobs_of, leads_in, no_cares}
-use Rattle.interp_run.specs.Phases.{no_task, ones_in}
-use Rattle.interp_run.specs.Phases.{ones_used, second_tasks, task, task_family, task_list, zeros_in, zeros_used}
+use Rattle.fork_branches.specs.Work.{MayWork}
+use Rattle.interp_run.specs.CoverJobs.{AreAllCovers, cover_count, cover_jobs, output_of}
+use Rattle.interp_run.specs.Phases.{AreCares, AreDone, IsPart, IsTask, jobs_of, no_cares, no_task, ones_in, ones_used, part_family}
+use Rattle.interp_run.specs.Phases.{part_list, task_family, task_list, zeros_in, zeros_used}
 use Rattle.interp_run.specs.declared.tasks.Task.{Task}
-use Rattle.interp_run.specs.declared.tasks.Part.TheVariants.{Polynomial, Leads}
-use Rattle.interp_run.proofs.DoneTasks.{task_planned}
-use Rattle.interp_run.proofs.OutputLists.{get_output, length-output_numbers, zip_at}
-use Rattle.interp_run.proofs.SolvedAnswers.{no_elements}
+use Rattle.interp_run.proofs.OutputLists.{length-output_numbers, number_at, uses_at, uses_from, zip_output}
+use Rattle.interp_run.proofs.PhaseLists.{IsCare, care_planned, cares_list}
 
--- ---- what they use
+-- ---- the cubes that covers use
 
-contains_map : {X Y : Type 0} (f : X → Y) (xs : List X) (x : X) → Contains xs x → Contains (map f xs) (f x)
-contains_map f xs x (k, less, is) = (
-  k,
-  omega (arith, length-map xs f, less),
-  get_or-map f xs k x (f x) less ∙ ap f is,
-)
+module _ (s : State) (n : ℕ) (vars : s.vars ≡ n) where
+  cubes_known : (rows : List Row) (cubes : List Handle) → AreCubes s rows cubes → (h : Handle) (f : Family)
+      → Contains (zip cubes (map (used_cube n) rows)) (h, f) → Denotes s h f
+  cubes_known [] [] are h f (k, less, is) = absurd (omega (arith, less))
+  cubes_known [] (c ∷ cubes) are h f among = absurd are
+  cubes_known (r ∷ rows) [] are h f among = absurd are
+  cubes_known (r ∷ rows) (c ∷ cubes) are h f (zero, less, is) = subst (λ (p : Handle × Family). Denotes s p.0 p.1) is (rw vars at are.0)
+  cubes_known (r ∷ rows) (c ∷ cubes) are h f (suc k, less, is) = cubes_known rows cubes are.1 h f (k, omega (arith, less), is)
 
-same_at : {X : Type 0} (xs : List X) (k : ℕ) (e : X) → k < length xs → get_or xs k (get_or xs k e) ≡ get_or xs k e
-same_at [] k e h = absurd (omega arith)
-same_at (x ∷ xs) zero e h = refl
-same_at (x ∷ xs) (suc k) e h = same_at xs k e (omega arith)
-
-from_map : {X Y : Type 0} (f : X → Y) (xs : List X) (y : Y) (d : X) → Contains (map f xs) y → (x : X) × Contains xs x × (f x ≡ y)
-from_map f xs y d (k, less, is) =
-    let inside : k < length xs = omega (arith, length-map xs f, less) in
-    (get_or xs k d, (k, inside, same_at xs k d inside), sym (get_or-map f xs k d y inside) ∙ is)
-
-module _ (s : State) (d : Description) (cares : List ValuedPoints) (list : List Task) where
-  abbrev numbers : List ℕ
-  numbers = output_numbers d.outputs
-
-  number_in : (k : ℕ) → k < d.outputs → Contains numbers (k + 1)
-  number_in k less = (
-    k,
-    omega (arith, length-output_numbers d.outputs, less),
-    get_or_from_slice_get numbers k (k + 1) (k + 1) (get_output d.outputs k less),
+  pub cubes_from_uses : (rows : List Row) (cubes : List Handle) → length cubes ≡ length rows
+      → ((h : Handle) (f : Family) → Contains (zip cubes (map (used_cube n) rows)) (h, f) → Denotes s h f) → AreCubes s rows cubes
+  cubes_from_uses [] [] long knows = tt
+  cubes_from_uses [] (c ∷ cubes) long knows = absurd (omega (arith, long))
+  cubes_from_uses (r ∷ rows) [] long knows = absurd (omega (arith, long))
+  cubes_from_uses (r ∷ rows) (c ∷ cubes) long knows = (
+    rw vars (knows c (used_cube n r) (0, omega arith, refl)),
+    cubes_from_uses rows cubes (omega (arith, long)) (λ h f i. knows h f (suc i.0, omega (arith, i.1), i.2)),
   )
 
-  abbrev InState : ValuedPoints → ℕ → Type 0
-  InState p output = Denotes s p.zeros (zeros_in d output) × Denotes s p.ones (ones_in d output)
+-- ---- covers
 
-  -- where the store knows what the jobs use, it knows the care sets of each output
-  care_known : KnowsUses (jobs_of d cares list) s → (k : ℕ) → k < d.outputs → InState (get_or cares k no_cares) (k + 1)
-  care_known knows k less =
-      let at : k + 1 - 1 ≡ k = omega arith in
-      subst (λ j. InState (get_or cares j no_cares) (k + 1)) at (
-        knows _ _ (Contains-append_left (map (zeros_used d cares) numbers) (map (ones_used d cares) numbers) _
-            (contains_map (zeros_used d cares) numbers (k + 1) (number_in k less))),
-        knows _ _ (Contains-append_right (map (zeros_used d cares) numbers) (map (ones_used d cares) numbers) _
-            (contains_map (ones_used d cares) numbers (k + 1) (number_in k less))),
-      )
+sets_some : (kind : Kind) → (1 ≤ length (sets_of kind)) × (length (sets_of kind) ≤ 3)
+sets_some kind = grind arith
 
-  number_at : (k x : ℕ) → k < d.outputs → get_or numbers k x ≡ k + 1
-  number_at k x less = get_or_from_slice_get numbers k (k + 1) x (get_output d.outputs k less)
+module _ (d : Description) where
+  abbrev n : ℕ
+  n = length (sets_of d.kind)
 
-  below : (k : ℕ) → k < length numbers → k < d.outputs
-  below k less = omega (arith, length-output_numbers d.outputs, less)
+  pub covers_few : d.outputs ≤ 64 → cover_count d ≤ 192
+  covers_few few = let some = sets_some d.kind in grind arith
 
-  pub cares_from_uses : length cares ≡ d.outputs → KnowsUses (jobs_of d cares list) s → AreCares s d d.outputs cares
-  cares_from_uses many knows = zip_from InState cares numbers no_cares 0 (many ∙ sym (length-output_numbers d.outputs))
-      (λ k less. let within : k < d.outputs = omega (arith, less, many) in
-      subst (InState (get_or cares k no_cares)) (sym (number_at k 0 within)) (care_known knows k within))
+  pub output_below : (x : ℕ) → x < cover_count d → x / n < d.outputs
+  output_below x less = (div-lt_iff_lt-mul (sets_some d.kind).0).1 less
 
-  known_care : AreCares s d d.outputs cares → (x : ℕ) → Contains numbers x → InState (get_or cares (x - 1) no_cares) x
-  known_care are x (k, less, is) =
-      let inside = below k less in
-      let x_is : k + 1 ≡ x = sym (number_at k x inside) ∙ is in
-      subst (λ y. InState (get_or cares (y - 1) no_cares) y) x_is
-      (let at : k ≡ k + 1 - 1 = omega arith in subst (λ j. InState (get_or cares j no_cares) (k + 1)) at
-      (zip_at InState cares numbers k (k + 1) no_cares are (get_output d.outputs k inside)))
+  pub set_below : (x : ℕ) → x % n < n
+  set_below x = mod_below x n (sets_some d.kind).0
 
-  pub uses_from_cares : AreCares s d d.outputs cares → KnowsUses (jobs_of d cares list) s
-  uses_from_cares are h f among = ⊎_elim
-      (λ zero_in. let from = from_map (zeros_used d cares) numbers (h, f) 0 zero_in in
-      subst (λ (p : Handle × Family). Denotes s p.0 p.1) from.2 (known_care are from.0 from.1).0)
-      (λ one_in. let from = from_map (ones_used d cares) numbers (h, f) 0 one_in in
-      subst (λ (p : Handle × Family). Denotes s p.0 p.1) from.2 (known_care are from.0 from.1).1)
-      (Contains-append_cases (map (zeros_used d cares) numbers) (map (ones_used d cares) numbers) (h, f) among)
-
--- ---- what they need and give
-
-module _ (d : Description) (cares : List ValuedPoints) (list : List Task) where
-  pub may_work : (s : State) → length list < 2 ^ 30 → s.vars ≡ d.inputs → AreCares s d d.outputs cares
-      → Covers s.plan (working_set d.inputs (flat_map (task_list d) list)) → MayWork (jobs_of d cares list) s
-  may_work s few vars are planned = record {
-    few = few;
+  -- what they need and give
+  pub may_cover : (s : State) (cubes : List Handle) → d.outputs ≤ 64 → s.vars ≡ d.inputs → AreCubes s d.rows cubes
+      → Covers s.plan (working_set d.inputs (cares_list d d.outputs)) → MayWork (cover_jobs d cubes) s
+  may_cover s cubes few vars are planned = record {
+    few = omega (arith, covers_few few);
     vars = vars;
-    uses = uses_from_cares s d cares list are;
-    planned = λ x less. task_planned d s.plan list x less planned;
+    uses = cubes_known s d.inputs vars d.rows cubes are;
+    planned = λ x less. cover_planned s.plan d.inputs d.kind d.rows (output_of d x) (x % n) On (set_below x)
+        (care_planned d s.plan (x / n) (output_below x less) planned);
   }
 
-  held_all : (t : State) (ts : List Task) → ((x : ℕ) → x < length ts → Covers t.held (working_set d.inputs (task_list d (get_or ts x
-      no_task))))
-      → Covers t.held (working_set d.inputs (flat_map (task_list d) ts))
-  held_all t [] each = covers_nil d.inputs t.held
-  held_all t (x ∷ ts) each = covers_append d.inputs t.held (task_list d x) (flat_map (task_list d) ts) (each 0 (omega arith))
-      (held_all t ts (λ k less. each (suc k) (omega arith)))
+  -- the covers of one output, in a later state
+  pub output_covers : (s t : State) (sets : List PointSet) (covers : List Handle) (before : ℕ) → sets ≡ sets_of d.kind → before < d.outputs
+      → Grows s t → AreAllCovers s d covers → AreCovers t d.kind d.rows (before + 1)
+      (take (before * length sets + length sets - before * length sets) (drop (before * length sets) covers))
+  output_covers s t sets covers before all less grows are =
+      let size : before * length sets + length sets - before * length sets ≡ length sets = omega arith in
+      let none : Handle = record { 0 = 0 } in let first : ℕ = before * n in
+      let below : (k : ℕ) → k < n → first + k < cover_count d =
+      λ k within. omega (arith, mul-add-lt before n k d.outputs less within, mul_comm n d.outputs) in
+      let room : n ≤ length (drop first covers) =
+      omega (arith, length-drop first covers, are.count, below (n - 1) (omega (arith, (sets_some d.kind).0)), (sets_some d.kind).0) in
+      rw (size, all) (zip_from (IsCover t d.rows (before + 1)) (sets_of d.kind) (take n (drop first covers)) On none
+      (sym (length-take-le n (drop first covers) room))
+      (λ k within. rw (get_or-take n (drop first covers) k none within, get_or-drop first covers k none)
+      (cover_later s t d.rows (before + 1) _ _ grows
+      (rw (div-mul-add before n k within, mod-mul-add before n k within) at (are.each (first + k) none (below k within))))))
 
-  pub solved_done : (s t : State) (handles : List Handle) → AreSolved (jobs_of d cares list) s t handles → AreDone t d list handles
-  solved_done s t handles are =
+-- ---- what tasks use: the care sets of each output
+
+module _ (s : State) (d : Description) (cares : List ValuedPoints) (list : List Task) where
+  pub cares_from_uses : length cares ≡ d.outputs → KnowsUses (jobs_of d cares list) s → AreCares s d d.outputs cares
+  cares_from_uses many knows = zip_from (IsCare d s) cares (output_numbers d.outputs) no_cares 0
+      (many ∙ sym (length-output_numbers d.outputs))
+      (λ k less. let within : k < d.outputs = omega (arith, less, many) in
+      let at : k + 1 - 1 ≡ k = omega arith in
+      let here : IsCare d s (get_or cares (k + 1 - 1) no_cares) (k + 1) = (
+        knows _ _ (Contains-append_left _ _ _ (uses_at (zeros_used d cares) d.outputs k within)),
+        knows _ _ (Contains-append_right _ _ _ (uses_at (ones_used d cares) d.outputs k within)),
+      ) in
+      rw (number_at d.outputs k 0 within) (rw at at here))
+
+  uses_from_cares : AreCares s d d.outputs cares → KnowsUses (jobs_of d cares list) s
+  uses_from_cares are h f among = ⊎_elim
+      (λ i. let from = uses_from (zeros_used d cares) d.outputs (h, f) i in
+      subst (λ (p : Handle × Family). Denotes s p.0 p.1) from.2 (here from.0 from.1).0)
+      (λ i. let from = uses_from (ones_used d cares) d.outputs (h, f) i in
+      subst (λ (p : Handle × Family). Denotes s p.0 p.1) from.2 (here from.0 from.1).1)
+      (Contains-append_cases (map (zeros_used d cares) (output_numbers d.outputs)) _ (h, f) among)
+    where
+      here : (k : ℕ) → k < d.outputs → IsCare d s (get_or cares (k + 1 - 1) no_cares) (k + 1)
+      here k less = let at : k + 1 - 1 ≡ k = omega arith in rw at (zip_output (IsCare d s) cares d.outputs k no_cares are less)
+
+  -- what they need and give
+  pub may_work : length list < 2 ^ 30 → s.vars ≡ d.inputs → AreCares s d d.outputs cares
+      → Covers s.plan (working_set d.inputs (flat_map (task_list d) list)) → MayWork (jobs_of d cares list) s
+  may_work few vars are planned = record {
+    few = few;
+    vars = vars;
+    uses = uses_from_cares are;
+    planned = λ x less. covers_part d.inputs s.plan (flat_map (task_list d) list) (task_list d (get_or list x no_task)) planned
+        (part_at (task_list d) list x no_task less);
+  }
+
+module _ (d : Description) (t : State) where
+  held_all : (ts : List Task) → ((x : ℕ) → x < length ts → Covers t.held (working_set d.inputs (task_list d (get_or ts x no_task))))
+      → Covers t.held (working_set d.inputs (flat_map (task_list d) ts))
+  held_all [] each = covers_nil d.inputs t.held
+  held_all (x ∷ ts) each = covers_append d.inputs t.held (task_list d x) (flat_map (task_list d) ts) (each 0 (omega arith))
+      (held_all ts (λ k less. each (suc k) (omega arith)))
+
+  pub solved_done : (s : State) (cares : List ValuedPoints) (list : List Task) (handles : List Handle)
+      → AreSolved (jobs_of d cares list) s t handles → AreDone t d list handles
+  solved_done s cares list handles are =
       let none : Handle = record { 0 = 0 } in
       record {
         each = (
           All-from_get_or (Knows t) handles none (λ i less. Denotes-knows t (get_or handles i none) (task_family d (get_or list i no_task))
-              (are.each i none (omega (arith, less, are.count)))),
+              (are.each i none (omega (arith, are.count)))),
           same_lists (map (family t) handles) (map (task_family d) list)
               (length-map handles (family t) ∙ (are.count ∙ sym (length-map list (task_family d))))
-              (λ k e within.
-              let less : k < length list = omega (arith, within, length-map handles (family t), are.count) in
-              get_or-map (family t) handles k none e (omega (arith, less, are.count))
+              (λ k e within. let less : k < length list = omega (arith, length-map handles (family t), are.count) in
+              get_or-map (family t) handles k none e (omega (arith, are.count))
               ∙ (Denotes-family t (get_or handles k none) (task_family d (get_or list k no_task)) (are.each k none less)
               ∙ sym (get_or-map (task_family d) list k no_task e less))),
         );
-        held = held_all t list are.held;
+        held = held_all list are.held;
       }
 
--- ---- how many there are
+-- ---- what is found from a set of points that was found first; s is the state at the call, and t the one after the set
 
-module _ (d : Description) (mode : Mode) where
-  abbrev elements : ℕ → List Task
-  elements output = map (element_task output) (leads_in d mode output)
+pub more_lead : {s t : State} {p : Handle} {P : Family} {lead : ℕ} → Builds s t (Ok p) P → IsLead s.vars P lead
+    → IsLead t.vars (family t p) lead
+more_lead {t = t} {p = p} {P = P} one is = rw (one.grows.vars, Denotes-family t p P one.ok) is
 
-  elements_of : (os : List ℕ) → length (flat_map elements os) ≡ sum_by (λ (a : Answer). length a.basis) (map (answer_for d mode) os)
-  elements_of [] = refl
-  elements_of (o ∷ os) = omega (
-    arith,
-    length-append (elements o) (flat_map elements os),
-    length-map (leads_in d mode o) (element_task o),
-    length-map (leads_in d mode o) (λ m. basis_element_of d.inputs m (points_in d o)),
-    sum_by-cons (λ (a : Answer). length a.basis) (answer_for d mode o) (map (answer_for d mode) os),
-    elements_of os,
-  )
+module _ {s t : State} {p : Handle} {P : Family} (more : ℕ → Family → List Family) (one : Builds s t (Ok p) P) where
+  pub more_planned : Covers s.plan (working_set s.vars (P ∷ more s.vars P)) → Covers t.plan (working_set t.vars (more t.vars (family t p)))
+  more_planned planned =
+      rw (one.grows.vars, Denotes-family t p P one.ok, one.grows.plan) (covers_tail s.vars s.plan (more s.vars P) P planned)
 
-  within_count : (answers : List Answer) → sum_by (λ (a : Answer). length a.basis) answers ≤ first_count answers
-  within_count [] = omega arith
-  within_count (a ∷ answers) = omega (
-    arith,
-    sum_by-cons (λ (b : Answer). length b.basis) a answers,
-    sum_by-cons (λ (b : Answer). length b.polynomial + length b.basis) a answers,
-    within_count answers,
-  )
+  pub more_given : (found : ℕ → Family → Family) {u : State} {r : Result Handle Full}
+      → Gives t u r (found t.vars (family t p)) (working_set t.vars (more t.vars (family t p)))
+      → Gives s u r (found s.vars P) (working_set s.vars (P ∷ more s.vars P))
+  more_given found {u = u} {r = r} two =
+      let is = Denotes-family t p P one.ok in
+      found_gives s t u r (found s.vars P) (P ∷ []) (more s.vars P) (found_built P (found_start s) refl one)
+      (gives_as (rw (one.grows.vars, is)) (rw (one.grows.vars, is)) two)
 
-  pub second_few : length (second_tasks d mode) ≤ first_count (answers_for d mode)
-  second_few = let same = elements_of (output_numbers d.outputs) in let few = within_count (answers_for d mode) in omega arith
+-- ---- a task, from the care sets of its output; s is the state at the call
 
-  -- without bases there are none
-  pub second_none : is_basis mode ≡ false → length (second_tasks d mode) ≡ 0
-  second_none bare = elements_of (output_numbers d.outputs) ∙ no_elements d mode bare (output_numbers d.outputs)
+pub care_of_task : (s : State) (d : Description) (cares : List ValuedPoints) (task : Task) → AreCares s d d.outputs cares → IsTask d task
+    → IsCare d s (get_or cares (task.output - 1) no_cares) task.output
+care_of_task s d cares task are is = grind (arith, zip_output)
 
-  either : {X : Type 0} (b : Bool) (xs : List X) (n : ℕ) → length xs ≡ n → length (cond b xs []) ≡ cond b n 0
-  either true xs n long = long
-  either false xs n long = refl
+module _ (s : State) (d : Description) (task : Task) (p : ValuedPoints) (vars_are : s.vars ≡ d.inputs) (care : IsCare d s p task.output)
+  where
+    abbrev zeros : Family
+    zeros = family s p.zeros
 
-  either_few : (b : Bool) (n : ℕ) → cond b n 0 ≤ n
-  either_few true n = omega arith
-  either_few false n = omega arith
+    abbrev ones : Family
+    ones = family s p.ones
 
-  first_counted : length (first_tasks d mode) ≡ d.outputs + cond (is_basis mode) d.outputs 0
-  first_counted =
-      let numbers = output_numbers d.outputs in
-      let long = length-output_numbers d.outputs in
-      let leads = either (is_basis mode) (map (task Leads) numbers) d.outputs (length-map numbers (task Leads) ∙ long) in
-      omega (
-        arith,
-        length-append (map (task Polynomial) numbers) (cond (is_basis mode) (map (task Leads) numbers) []),
-        length-map numbers (task Polynomial),
-        long,
-        leads,
-      )
+    zeros_is : zeros ≡ zeros_in d task.output
+    zeros_is = Denotes-family s p.zeros (zeros_in d task.output) care.0
 
-  pub first_few : d.outputs ≤ 64 → length (first_tasks d mode) ≤ 128
-  first_few outputs = omega (arith, first_counted, either_few (is_basis mode) d.outputs, outputs)
+    ones_is : ones ≡ ones_in d task.output
+    ones_is = Denotes-family s p.ones (ones_in d task.output) care.1
 
-  pub jobs_counted : length (first_tasks d mode) + length (second_tasks d mode) ≡ jobs_for mode (answers_for d mode)
-  jobs_counted =
-      let numbers = output_numbers d.outputs in
-      let long : length (answers_for d mode) ≡ d.outputs = length-map numbers (answer_for d mode) ∙ length-output_numbers d.outputs in
-      omega (arith, first_counted, elements_of numbers, long, ap (λ n. cond (is_basis mode) n 0) long)
+    pub care_disjoint : IsConsistent d.inputs d.outputs d.rows → IsTask d task → AreDisjoint zeros ones
+    care_disjoint ok is = rw (zeros_is, ones_is) (care_points_disjoint d.inputs d.outputs d.kind d.rows task.output ok is.first is.last)
+
+    pub task_part : IsTask d task → IsPart s.vars (union_of s.vars zeros ones) task.part
+    task_part is = rw (vars_are, zeros_is, ones_is) is.part
+
+    pub part_planned : Covers s.plan (working_set d.inputs (task_list d task))
+        → Covers s.plan (working_set s.vars (part_list s.vars zeros ones task.part))
+    part_planned planned = rw (vars_are, zeros_is, ones_is) planned
+
+    pub task_given : {t : State} {r : Result Handle Full}
+        → Gives s t r (part_family s.vars zeros ones task.part) (working_set s.vars (part_list s.vars zeros ones task.part))
+        → Gives s t r (task_family d task) (working_set d.inputs (task_list d task))
+    task_given given = gives_as (rw (vars_are, zeros_is, ones_is)) (rw (vars_are, zeros_is, ones_is)) given

@@ -1,36 +1,27 @@
 -- Worked examples, by computation; the numbers of families were found by hand or by another program.
 use Rattle.std.proofs.Common.{◌≡◌, ◌^◌, ◌<◌, true, false, subst, lit<, ℕ, [], ◌∷◌, List, length, map, refl}
-use Rattle.lattice.specs.Family.{includes, combine, family_where, numbers_below, has, divides}
-use Rattle.lattice.specs.Polynomial.{value, ones_of}
-use Rattle.lattice.specs.Cofactors.{low_cofactor, high_cofactor, join, sub}
-use Rattle.lattice.specs.Interpolation.{IsLeast, interpolate, upper_zeros, upper_ones, lower_points}
-use Rattle.lattice.specs.Basis.{standard_of, has_divisors, leads_of, normal_form_of, basis_element_of}
-use Rattle.lattice.specs.Rows.{cube, cover, rows_with, points_where, in_cube}
-use Rattle.lattice.specs.WorkingLists.{working_set, distinct, ones_list, interpolation_list, standard_list, leads_list, normal_form_list}
-use Rattle.lattice.specs.WorkingLists.{basis_element_list, cover_list, care_list, output_list, output_basis_list}
-use Rattle.lattice.specs.WorkingLists.{first_phase, second_phase}
+use Rattle.lattice.specs.Words.{includes, combine, family_where, numbers_below, has, divides, value, ones_of, low_cofactor, high_cofactor}
+use Rattle.lattice.specs.Words.{join, sub, IsLeast, interpolate, upper_zeros, upper_ones, lower_points, standard_of, has_divisors, leads_of}
+use Rattle.lattice.specs.Words.{normal_form_of, basis_element_of, cube, cover, rows_with, points_where, in_cube, working_set, distinct}
+use Rattle.lattice.specs.Words.{ones_list, interpolation_list, standard_list, leads_list, normal_form_list, basis_element_list, cover_list}
+use Rattle.lattice.specs.Words.{care_list, output_list, output_basis_list, first_phase, second_phase}
 use Rattle.lattice.specs.declared.row.Row.{Row}
 use Rattle.lattice.specs.declared.kind.Kind.{Kind}
 use Rattle.lattice.specs.declared.kind.Kind.TheVariants.{F, Fd, Fr, Fdr}
 use Rattle.lattice.specs.declared.kind.Mode.TheVariants.{Anf, Basis}
 use Rattle.std.proofs.lemmas.List.Elements.{All-nil, All-cons}
-use Rattle.lattice.proofs.CutPoints.{disjoint_from_test}
-use Rattle.lattice.proofs.Existence.{IsLeast-interpolate}
+use Rattle.lattice.proofs.Least.{disjoint_from_test, IsLeast-interpolate}
 
 -- x1 divides x1*x2 and not x2
 divides_table : map (divides 2) (0 ∷ 1 ∷ 2 ∷ 3 ∷ []) ≡ false ∷ false ∷ true ∷ true ∷ []
 unfolding divides
 divides_table = refl
 
--- the values of x1*x2 + x1 + x2 at the points 0 to 3 are those of `or`
-or_table : map (value (1 ∷ 2 ∷ 3 ∷ [])) (0 ∷ 1 ∷ 2 ∷ 3 ∷ []) ≡ 0 ∷ 1 ∷ 1 ∷ 1 ∷ []
+-- the values of x1*x2 + x1 + x2 at the points 0 to 3 are those of `or`, and those of a*b + a*cin + b*cin those of the carry of a full adder
+value_tables : map (value (1 ∷ 2 ∷ 3 ∷ [])) (0 ∷ 1 ∷ 2 ∷ 3 ∷ []) ∷ map (value (3 ∷ 5 ∷ 6 ∷ [])) (0 ∷ 1 ∷ 2 ∷ 3 ∷ 4 ∷ 5 ∷ 6 ∷ 7 ∷ []) ∷ []
+    ≡ (0 ∷ 1 ∷ 1 ∷ 1 ∷ []) ∷ (0 ∷ 0 ∷ 0 ∷ 1 ∷ 0 ∷ 1 ∷ 1 ∷ 1 ∷ []) ∷ []
 unfolding value divides
-or_table = refl
-
--- the values of a*b + a*cin + b*cin are those of the carry of a full adder
-carry_table : map (value (3 ∷ 5 ∷ 6 ∷ [])) (0 ∷ 1 ∷ 2 ∷ 3 ∷ 4 ∷ 5 ∷ 6 ∷ 7 ∷ []) ≡ 0 ∷ 0 ∷ 0 ∷ 1 ∷ 0 ∷ 1 ∷ 1 ∷ 1 ∷ []
-unfolding value divides
-carry_table = refl
+value_tables = refl
 
 -- the least polynomials of the worked rows
 least : ℕ → List ℕ → List ℕ → List ℕ
@@ -76,32 +67,16 @@ abbrev row : ℕ → ℕ → ℕ → ℕ → ℕ → ℕ → Row
 row line care value on off dc = record { line = line; care = care; value = value; on = on; off = off; dc = dc }
 
 -- type fr with one row, of ones alone: n families, and 2n - 1 in mode basis before the basis
-counts_of_ones : ℕ → ℕ → List ℕ
+all_ones : map (λ (p : ℕ × ℕ). counts p.0 1 Fr (row 1 p.1 p.1 1 0 0 ∷ [])) ((2, 3) ∷ (3, 7) ∷ (4, 15) ∷ [])
+    ≡ (2 ∷ 3 ∷ 6 ∷ []) ∷ (3 ∷ 5 ∷ 10 ∷ []) ∷ (4 ∷ 7 ∷ 14 ∷ []) ∷ []
 unfolding counts
-counts_of_ones n bits = counts n 1 Fr (row 1 bits bits 1 0 0 ∷ [])
-
-all_ones : counts_of_ones 2 3 ∷ counts_of_ones 3 7 ∷ counts_of_ones 4 15 ∷ [] ≡ (2 ∷ 3 ∷ 6 ∷ []) ∷ (3 ∷ 5 ∷ 10 ∷ []) ∷ (4 ∷ 7 ∷ 14 ∷ []) ∷
-    []
-unfolding counts_of_ones
 all_ones = refl
 
 -- descriptions over three inputs, of each type; the numbers are those of an independent program
-carry_counts : counts 3 1 F (row 1 6 6 1 0 0 ∷ row 2 5 5 1 0 0 ∷ row 3 3 3 1 0 0 ∷ []) ≡ 18 ∷ 18 ∷ 18 ∷ []
+three_inputs : counts 3 1 F (row 1 6 6 1 0 0 ∷ row 2 5 5 1 0 0 ∷ row 3 3 3 1 0 0 ∷ [])
+    ∷ counts 3 1 Fr (row 1 7 0 0 1 0 ∷ row 2 6 6 1 0 0 ∷ [])
+    ∷ counts 3 2 Fdr (row 1 5 0 2 1 0 ∷ row 2 6 6 1 0 2 ∷ row 3 3 1 0 2 1 ∷ row 4 7 5 1 2 0 ∷ [])
+    ∷ counts 3 1 Fd (row 1 4 4 1 0 0 ∷ row 2 3 3 0 0 1 ∷ []) ∷ counts 3 1 Fr (row 1 5 0 1 0 0 ∷ row 2 6 6 0 1 0 ∷ row 3 7 5 1 0 0 ∷ []) ∷ []
+    ≡ (18 ∷ 18 ∷ 18 ∷ []) ∷ (4 ∷ 10 ∷ 16 ∷ []) ∷ (12 ∷ 19 ∷ 25 ∷ []) ∷ (11 ∷ 12 ∷ 12 ∷ []) ∷ (11 ∷ 17 ∷ 24 ∷ []) ∷ []
 unfolding counts
-carry_counts = refl
-
-two_points : counts 3 1 Fr (row 1 7 0 0 1 0 ∷ row 2 6 6 1 0 0 ∷ []) ≡ 4 ∷ 10 ∷ 16 ∷ []
-unfolding counts
-two_points = refl
-
-both_outputs : counts 3 2 Fdr (row 1 5 0 2 1 0 ∷ row 2 6 6 1 0 2 ∷ row 3 3 1 0 2 1 ∷ row 4 7 5 1 2 0 ∷ []) ≡ 12 ∷ 19 ∷ 25 ∷ []
-unfolding counts
-both_outputs = refl
-
-free_points : counts 3 1 Fd (row 1 4 4 1 0 0 ∷ row 2 3 3 0 0 1 ∷ []) ≡ 11 ∷ 12 ∷ 12 ∷ []
-unfolding counts
-free_points = refl
-
-three_rows : counts 3 1 Fr (row 1 5 0 1 0 0 ∷ row 2 6 6 0 1 0 ∷ row 3 7 5 1 0 0 ∷ []) ≡ 11 ∷ 17 ∷ 24 ∷ []
-unfolding counts
-three_rows = refl
+three_inputs = refl

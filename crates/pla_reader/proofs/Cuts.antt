@@ -1,21 +1,17 @@
 -- Where a line is cut: at its line feed, its comment, its first word.
-use Rattle.std.proofs.Common.{◌≡◌, ℕ, suc, ◌+◌, ◌<◌, ◌≤◌, Bool, not, cond, eqb, ltb, List, [], ◌∷◌, length, take, drop}
-use Rattle.std.proofs.Common.{Option, Some, None, refl, ap, ◌∙◌, arith, inl, inr}
+use Rattle.std.proofs.Common.{◌≡◌, ℕ, suc, ◌+◌, ◌<◌, ◌≤◌, Bool, cond, eqb, ltb, List, [], ◌∷◌, length, take, drop, Option, Some, None, refl}
+use Rattle.std.proofs.Common.{arith, inl, inr}
 use Rattle.std.specs.Prelude.{unwrap_or}
 use Rattle.std.specs.List.{position_or_len}
 use Rattle.std.proofs.lemmas.List.Sums.{prefix_len-le-length}
 use Rattle.std.proofs.lemmas.Bool.{cases_Bool, cases_lt, lt-ltb, le-ltb}
+use Rattle.std.proofs.lemmas.Grind.{common_steps}
 use Rattle.pla_reader.specs.Lines.{lines_of}
 
 -- the place that a search gives, or the length
 pub first_or_len : {X : Type 0} (p : X → Bool) (xs : List X) (r : Option ℕ)
     → r ≡ cond (ltb (position_or_len p xs) (length xs)) (Some (position_or_len p xs)) None → unwrap_or r (length xs) ≡ position_or_len p xs
-first_or_len p xs r e =
-    elim (cases_lt (position_or_len p xs) (length xs)) [
-      | inl lt ↦ ap (λ o. unwrap_or o (length xs)) e ∙ rw (lt-ltb _ _ lt) refl
-      | inr le ↦ let most : position_or_len p xs ≤ length xs = prefix_len-le-length (λ x. not (p x)) xs in
-          ap (λ o. unwrap_or o (length xs)) e ∙ rw (le-ltb _ _ le) (omega arith)
-    ]
+first_or_len p xs r e = grind (arith, cases_lt, lt-ltb, prefix_len-le-length, le-ltb)
 
 -- ---- the first line
 
@@ -27,28 +23,23 @@ feed_at bytes = position_or_len (λ b. eqb b 10) bytes
 pub line_cut : (bytes : List ℕ) → feed_at bytes < length bytes
     → lines_of bytes ≡ take (feed_at bytes + 1) bytes ∷ lines_of (drop (feed_at bytes + 1) bytes)
 line_cut [] lt = absurd (omega arith)
-line_cut (b ∷ bs) lt =
-    elim (cases_Bool (eqb b 10)) [
-      | inl e ↦ rw e refl
-      | inr e ↦
-          let shorter : 1 + feed_at bs < suc (length bs) = rw e at lt in
-          let later = line_cut bs (omega arith) in
-          let more : 1 + feed_at bs + 1 ≡ suc (feed_at bs + 1) = omega arith in
-          rw e (rw (more, later) refl)
-    ]
+line_cut (b ∷ bs) lt = elim (cases_Bool (eqb b 10)) [
+  | inl e ↦ rw e refl
+  | inr e ↦
+      let shorter : 1 + feed_at bs < suc (length bs) = rw e at lt in let later = line_cut bs (omega arith) in
+      let more : 1 + feed_at bs + 1 ≡ suc (feed_at bs + 1) = omega arith in rw e (rw (more, later) refl)
+]
 
 -- a text without a line feed is one line
 pub last_line : (bytes : List ℕ) → 0 < length bytes → length bytes ≤ feed_at bytes → lines_of bytes ≡ bytes ∷ []
 last_line [] some le = absurd (omega arith)
-last_line (b ∷ []) some le =
-    elim (cases_Bool (eqb b 10)) [
-      | inl e ↦ let wrong : 1 ≤ 0 = rw e at le in absurd (omega arith)
-      | inr e ↦ rw e refl
-    ]
-last_line (b ∷ c ∷ bs) some le =
-    elim (cases_Bool (eqb b 10)) [
-      | inl e ↦ let wrong : suc (length (c ∷ bs)) ≤ 0 = rw e at le in absurd (omega arith)
-      | inr e ↦
-          let longer : suc (length (c ∷ bs)) ≤ 1 + feed_at (c ∷ bs) = rw e at le in
-          rw e (rw (last_line (c ∷ bs) (omega arith) (omega arith)) refl)
-    ]
+last_line (b ∷ []) some le = grind (arith, cases_Bool, eqb)
+last_line (b ∷ c ∷ bs) some le = elim (cases_Bool (eqb b 10)) [
+  | inl e ↦ let wrong : suc (length (c ∷ bs)) ≤ 0 = rw e at le in absurd (omega arith)
+  | inr e ↦
+      let longer : suc (length (c ∷ bs)) ≤ 1 + feed_at (c ∷ bs) = rw e at le in
+      rw e (rw (last_line (c ∷ bs) (omega arith) (omega arith)) refl)
+]
+
+-- For `split_line`.
+pub ruleset line_steps = (common_steps, line_cut, last_line)

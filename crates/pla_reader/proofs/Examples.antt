@@ -4,8 +4,8 @@ use Rattle.std.specs.Prelude.{codes}
 use Rattle.lattice.specs.declared.kind.Kind.TheVariants.{Fd, Fr}
 use Rattle.pla_reader.specs.declared.refusal.Why.TheVariants.{RowLength, NoSize, NamesEarly, TypeLate}
 use Rattle.pla_reader.specs.Lines.{content, words_of}
-use Rattle.pla_reader.specs.Grammar.{kind_named, arguments_of, symbols, size_fault, kind_fault, names_fault, row_fault}
-use Rattle.pla_reader.specs.Grammar.{command_fault, fault_of}
+use Rattle.pla_reader.specs.Grammar.{kind_named, arguments_of, symbols, size_fault, kind_fault, names_fault, row_fault, command_fault}
+use Rattle.pla_reader.specs.Grammar.{fault_of}
 use Rattle.pla_reader.specs.Reading.{input_mask, output_mask, row_of, rows_of, up_to_end, first_fault, description_of, reading_of}
 use Rattle.pla_reader.specs.Reading.{bytes_taken}
 

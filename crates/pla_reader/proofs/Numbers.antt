@@ -1,5 +1,5 @@
 -- The number that digits write, read up to a limit.
-use Rattle.std.proofs.Common.{◌≡◌, ℕ, ◌+◌, ◌-◌, ◌*◌, ◌<◌, ◌≤◌, min, true, leb, List, length, get_or, take, refl, sym, ap, ◌∙◌, arith}
+use Rattle.std.proofs.Common.{◌≡◌, ℕ, ◌+◌, ◌-◌, ◌*◌, ◌<◌, ◌≤◌, min, true, leb, List, length, get_or, take, arith}
 use Rattle.std.specs.List.{list_all}
 use Rattle.std.specs.Char.{digit_value, is_ascii_digit}
 use Rattle.std.specs.Str.Parse.{digits_value}
@@ -8,10 +8,7 @@ use Rattle.std.proofs.lemmas.Int.Digits.{digits_value_more}
 use Rattle.std.proofs.lemmas.List.Sums.{AllPass-from_list_all}
 
 digit_is : (byte : ℕ) → is_ascii_digit byte ≡ true → (digit_value byte ≡ byte - 48) × (48 ≤ byte) × (byte ≤ 57)
-digit_is byte e =
-    let low = leb-true 48 byte (and_parts (leb 48 byte) (leb byte 57) e).0 in
-    let high = leb-true byte 57 (and_parts (leb 48 byte) (leb byte 57) e).1 in
-    (rw (le-ltb byte 48 low, lt-ltb byte 58 (omega arith)) refl, low, high)
+digit_is byte e = grind (arith, leb-true, and_parts, leb, le-ltb, lt-ltb)
 
 capped : (v d n : ℕ) → v ≡ min 1000 n → min (v * 10 + d) 1000 ≡ min 1000 (n * 10 + d)
 capped v d n e = omega arith
@@ -19,7 +16,4 @@ capped v d n e = omega arith
 pub number_more : (digits : List ℕ) (i v : ℕ) → i < length digits → list_all is_ascii_digit digits ≡ true
     → v ≡ min 1000 (digits_value 10 (take i digits))
     → min (v * 10 + (get_or digits i 0 - 48)) 1000 ≡ min 1000 (digits_value 10 (take (i + 1) digits))
-number_more digits i v lt all e =
-    let digit = digit_is (get_or digits i 0) (AllPass-from_list_all is_ascii_digit digits all i 0 lt) in
-    capped v (get_or digits i 0 - 48) (digits_value 10 (take i digits)) e
-    ∙ sym (ap (min 1000) (digits_value_more 10 digits i lt ∙ ap (λ (d : ℕ). digits_value 10 (take i digits) * 10 + d) digit.0))
+number_more digits i v lt all e = grind (arith, digit_is, AllPass-from_list_all, capped, min, digits_value_more)

@@ -1,12 +1,13 @@
 -- Where the words of a line begin and end.
-use Rattle.std.proofs.Common.{◌≡◌, ℕ, suc, ◌+◌, ◌<◌, ◌≤◌, true, not, ltb, List, [], ◌∷◌, length, take, drop, refl, sym, ap, ◌∙◌, arith, inl}
+use Rattle.std.proofs.Common.{◌≡◌, ℕ, suc, ◌+◌, ◌<◌, ◌≤◌, true, not, ltb, List, [], ◌∷◌, length, take, drop, refl, sym, ◌∙◌, arith, inl}
 use Rattle.std.proofs.Common.{inr}
 use Rattle.std.specs.List.{filter, position_or_len, slice_split}
-use Rattle.std.proofs.lemmas.Bool.{cases_Bool, lt-ltb}
-use Rattle.std.proofs.lemmas.List.{length-take, length-drop}
-use Rattle.std.proofs.lemmas.List.Sums.{prefix_len-le-length}
+use Rattle.std.proofs.lemmas.Bool.{cases_Bool}
+use Rattle.std.proofs.lemmas.List.{length-take}
+use Rattle.std.proofs.lemmas.List.Sums.{prefix_len-le-length, passes_at_first}
 use Rattle.pla_reader.specs.Lines.{is_blank, words_of}
-use Rattle.pla_reader.specs.Parts.{BeginsWithWord}
+use Rattle.std.proofs.Math.Seq.{drop-cons}
+use Rattle.std.proofs.lemmas.Bool.Decides.{nat_tests}
 
 abbrev pub word_at : List ℕ → ℕ
 word_at line = position_or_len (λ b. not (is_blank b)) line
@@ -24,13 +25,12 @@ words_of-blank b line e = rw e refl
 
 pub words_from : (line : List ℕ) → words_of (drop (word_at line) line) ≡ words_of line
 words_from [] = refl
-words_from (b ∷ line) =
-    elim (cases_Bool (is_blank b)) [
-      | inl e ↦
-          let one : 1 + word_at line ≡ suc (word_at line) = omega arith in
-          rw (words_of-blank b line e) (rw (e, one) (words_from line))
-      | inr e ↦ rw e refl
-    ]
+words_from (b ∷ line) = elim (cases_Bool (is_blank b)) [
+  | inl e ↦
+      let one : 1 + word_at line ≡ suc (word_at line) = omega arith in
+      rw (words_of-blank b line e) (rw (e, one) (words_from line))
+  | inr e ↦ rw e refl
+]
 
 nothing_left : (line : List ℕ) → words_of (drop (length line) line) ≡ []
 unfolding words_of
@@ -42,15 +42,7 @@ no_words line e = sym (words_from line) ∙ rw e (nothing_left line)
 
 -- the byte there is no blank
 pub word_begins : (line : List ℕ) → word_at line < length line → 0 < blank_at (drop (word_at line) line)
-word_begins [] lt = absurd (omega arith)
-word_begins (b ∷ line) lt =
-    elim (cases_Bool (is_blank b)) [
-      | inl e ↦
-          let one : 1 + word_at line ≡ suc (word_at line) = omega arith in
-          let shorter : 1 + word_at line < suc (length line) = rw e at lt in
-          rw (e, one) (word_begins line (omega arith))
-      | inr e ↦ rw (e, e) (omega arith)
-    ]
+word_begins line lt = grind (arith, passes_at_first (λ b. not (is_blank b)) line 0 lt, drop-cons line (word_at line) 0)
 
 -- the first of the parts between blanks, and the words of what follows it
 record Parts (line : List ℕ) : Type 0 where
@@ -61,31 +53,23 @@ record Parts (line : List ℕ) : Type 0 where
 parts_of : (line : List ℕ) → Parts line
 unfolding words_of
 parts_of [] = record { tail = []; parts = refl; rest = refl }
-parts_of (b ∷ line) =
-    elim (cases_Bool (is_blank b)) [
-      | inl e ↦ record { tail = slice_split is_blank line; parts = rw e refl; rest = rw e (rw e refl) }
-      | inr e ↦
-          let one : 1 + blank_at line ≡ suc (blank_at line) = omega arith in
-          let p = parts_of line in
-          record { tail = p.tail; parts = rw (e, one, p.parts) refl; rest = rw (e, one) p.rest }
-    ]
+parts_of (b ∷ line) = elim (cases_Bool (is_blank b)) [
+  | inl e ↦ record { tail = slice_split is_blank line; parts = rw e refl; rest = rw e (rw e refl) }
+  | inr e ↦
+      let one : 1 + blank_at line ≡ suc (blank_at line) = omega arith in let p = parts_of line in
+      record { tail = p.tail; parts = rw (e, one, p.parts) refl; rest = rw (e, one) p.rest }
+]
 
 pub begins : (line : List ℕ) → 0 < blank_at line → words_of line ≡ take (blank_at line) line ∷ words_of (drop (blank_at line) line)
 unfolding words_of
 begins line some =
-    let p = parts_of line in
-    let word : ltb 0 (length (take (blank_at line) line)) ≡ true = lt-ltb 0 (length (take (blank_at line) line))
-    (omega (arith, length-take (blank_at line) line, blank_at-le line)) in
-    ap (filter (λ word. ltb 0 (length word))) p.parts ∙ rw word (ap (λ (ws : List (List ℕ)). take (blank_at line) line ∷ ws) p.rest)
+    let p = parts_of line in let at = blank_at-le line in let long = length-take (blank_at line) line in
+    grind (arith, p.parts, p.rest, nat_tests)
 
 -- what a line with a word is cut into
-pub cut_word : (line : List ℕ) → word_at line < length line → (rest : List ℕ) → rest ≡ drop (word_at line) line
-    → BeginsWithWord line (take (blank_at rest) rest) (drop (blank_at rest) rest)
-cut_word line lt rest e =
-    let some : 0 < blank_at rest = rw e (word_begins line lt) in
-    let fits = blank_at-le rest in
-    record {
-      words = sym (words_from line) ∙ rw (← e) (begins rest some);
-      some = omega (arith, length-take (blank_at rest) rest);
-      less = omega (arith, length-drop (blank_at rest) rest, ap length e, length-drop (word_at line) line);
-    }
+pub word_facts : (line : List ℕ) → word_at line < length line
+    → (words_of line ≡ take (blank_at (drop (word_at line) line)) (drop (word_at line) line)
+    ∷ words_of (drop (blank_at (drop (word_at line) line)) (drop (word_at line) line)))
+    × ((0 < blank_at (drop (word_at line) line)) × (blank_at (drop (word_at line) line) ≤ length (drop (word_at line) line)))
+word_facts line lt = let rest = drop (word_at line) line in
+    (sym (words_from line) ∙ begins rest (word_begins line lt), (word_begins line lt, blank_at-le rest))

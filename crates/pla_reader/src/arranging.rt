@@ -10,6 +10,7 @@ use lattice::{Memory, Mono, Name, Names, Order, Row};
 use std::alloc::Global;
 
 /// The variables whose inputs have their bit in the mask. The last variable has weight 1.
+#[tactic(auto, using(crate::proofs::Orders::arranging_steps))]
 fn arranged_mask(inputs: u32, order: &[u32], mask: u64) -> u64
     requires few { inputs ≤ MAX_VARS }
     requires order { IsOrder inputs order.now }
@@ -61,6 +62,7 @@ fn copied(alloc: Global, names: &[Name]) -> Result<Names, Memory>
 }
 
 /// The names of the inputs, in the order.
+#[tactic(auto, using(crate::proofs::Orders::arranging_steps))]
 fn names_in_order(alloc: Global, order: &[u32], names: &[Name]) -> Result<Names, Memory>
     requires { IsOrder (length names.now) order.now }
     ensures { IfOk result (λ arranged. arranged ≡ names_in_order order.now names.now) }

@@ -54,6 +54,7 @@ impl Draft {
     ghost use Rattle.pla_reader.specs.Draft.{IsDraftOf, IsCommandLine, AddsLine};
 
     /// Where no line was read.
+    #[tactic(auto, unfolding(crate::specs::Grammar::arguments_of, crate::specs::Reading::rows_of))]
     pub fn new(alloc: Global) -> Draft
         ensures { IsDraftOf result [] }
     {

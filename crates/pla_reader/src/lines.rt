@@ -23,6 +23,7 @@ pub fn is_printable(line: &[u8]) -> bool
 }
 
 /// The first line, with its line feed, and what follows it. The last line may lack its line feed.
+#[tactic(auto, using(crate::proofs::Cuts::line_steps))]
 pub fn split_line(bytes: &[u8]) -> (&[u8], &[u8])
     requires { 0 < length bytes.now }
     ensures first { lines_of bytes.now ≡ result.0.now ∷ lines_of result.1.now }

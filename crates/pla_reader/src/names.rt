@@ -82,6 +82,7 @@ pub fn plain_names(names: &Names) -> bool
 }
 
 /// The letter with 1, 2 and so on.
+#[tactic(auto, using(crate::proofs::Orders::numbered_steps))]
 fn numbered(alloc: Global, letter: &str, count: u32) -> Result<Names, Memory>
     ensures { IfOk result (λ names. names ≡ numbered letter.now count) }
 {

@@ -34,6 +34,7 @@ impl From<lattice::Memory> for OrderRefusal {
 }
 
 /// The order of the file: the positions of its inputs, 1, 2 and so on.
+#[tactic(auto, using(crate::proofs::Orders::file_order_steps))]
 pub fn file_order(alloc: Global, p: &Pla) -> Result<Order, lattice::Memory>
     ensures order { IfOk result (λ order. order ≡ file_order p.now.inputs) }
     ensures good { OnOk result (IsOrder p.now.inputs (file_order p.now.inputs)) }

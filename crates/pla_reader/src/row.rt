@@ -20,6 +20,7 @@ fn is_symbol(byte: u8) -> bool
 }
 
 /// The number of symbols.
+#[tactic(auto, using(crate::proofs::Symbols::input_steps))]
 fn count_symbols(line: &[u8]) -> usize
     ensures { result ≡ length (symbols line.now) }
 {
@@ -27,6 +28,7 @@ fn count_symbols(line: &[u8]) -> usize
 }
 
 /// The part of a line that has its first `count` symbols, and the rest.
+#[tactic(auto, using(crate::proofs::Symbols::input_steps))]
 fn split_symbols(line: &[u8], count: usize) -> (&[u8], &[u8])
     ensures front { symbols result.0.now ≡ take count (symbols line.now) }
     ensures back { symbols result.1.now ≡ drop count (symbols line.now) }
@@ -79,6 +81,7 @@ fn fixes_to_one(symbol: u8) -> bool
 }
 
 /// The cube of the symbols of a line, one for each input.
+#[tactic(auto, using(crate::proofs::Symbols::input_steps))]
 fn cube_of(line: &[u8]) -> Option<Cube>
     requires { length (symbols line.now) ≤ MAX_VARS }
     ensures { result ≡ (if list_all (is_one_of (codes "01-2")) (symbols line.now) then Some (record {
@@ -131,6 +134,7 @@ fn is_dc(kind: Kind, symbol: u8) -> bool
 }
 
 /// The marks of the symbols of a line, one for each output.
+#[tactic(auto, using(crate::proofs::Symbols::output_steps))]
 fn marks_of(kind: Kind, line: &[u8]) -> Option<Marks>
     requires { length (symbols line.now) ≤ 64 }
     ensures { result ≡ (if list_all (is_one_of (codes "01-~24")) (symbols line.now) then Some (record {
@@ -162,7 +166,7 @@ fn marks_of(kind: Kind, line: &[u8]) -> Option<Marks>
 }
 
 /// The row on a line that follows so many rows, by the numbers of inputs and outputs where they are given.
-#[tactic(auto, unfolding(crate::specs::Grammar::row_fault))]
+#[tactic(auto, using(std::proofs::lemmas::Bool::Decides::nat_tests), unfolding(crate::specs::Grammar::row_fault, crate::specs::Reading::row_of))]
 pub fn row_in(
     sizes: Option<(u32, u32)>,
     kind: Kind,

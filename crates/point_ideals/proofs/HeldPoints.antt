@@ -8,5 +8,4 @@ use Rattle.point_ideals.specs.Cares.{HoldsPoints}
 -- what holds of care points holds later
 pub points_later : (s t : State) (d : Description) (output : ℕ) (h : Handle) → Grows s t → HoldsPoints s d output h
     → HoldsPoints t d output h
-points_later s t d output h grows is =
-    record { denotes = grows.known h.0 _ is.denotes; held = λ f i. grows.held f (is.held f i) }
+points_later s t d output h grows is = record { denotes = grows.known h.0 _ is.denotes; held = λ f i. grows.held f (is.held f i) }

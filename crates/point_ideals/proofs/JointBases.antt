@@ -1,7 +1,6 @@
 -- The reduced basis of the intersection and of the sum of the ideals of two outputs' care points.
 use Rattle.std.proofs.Common.{◌≡◌, ℕ, ◌↔◌, List, map, refl}
-use Rattle.lattice.specs.Basis.{IsReducedBasis, basis_element_of, reduced_basis_of}
-use Rattle.lattice.specs.Family.{Family, IsFamily}
+use Rattle.lattice.specs.Words.{IsReducedBasis, basis_element_of, reduced_basis_of, Family, IsFamily}
 use Rattle.lattice.proofs.Polynomials.{IsFamily-combine, IsReducedBasis-unique, reduced_basis_exists}
 use Rattle.pla_reader.specs.Reading.{Description}
 use Rattle.point_ideals.specs.Ideals.{Ideal}
@@ -35,8 +34,7 @@ joint_same d joining basis =
 
 -- there is a reduced basis
 pub joint_exists : (d : Description) (joining : Joining) → IsJointBasis d joining (joint_basis_of d joining)
-joint_exists d joining =
-    (joint_same d joining _).1 (reduced_basis_exists d.inputs (joint_points d joining) (joint_fits d joining))
+joint_exists d joining = (joint_same d joining _).1 (reduced_basis_exists d.inputs (joint_points d joining) (joint_fits d joining))
 
 -- and only one
 pub joint_unique : (d : Description) (joining : Joining) (b c : List Family) → IsJointBasis d joining b → IsJointBasis d joining c → b ≡ c

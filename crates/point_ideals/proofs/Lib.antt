@@ -1,8 +1,5 @@
 mod IdealLaws
 mod UsedRows
-mod JointPoints
-mod JointElements
-mod JointLimits
-mod OwnStores
+mod JointSteps
 pub mod HeldPoints
 pub mod JointBases

@@ -1,22 +1,21 @@
 -- The rows that say something of an output: they give its care points and what these need, and their cubes are planned.
-use Rattle.std.proofs.Common.{◌≡◌, ℕ, ◌+◌, ◌-◌, ◌^◌, ◌<◌, ◌≤◌, Bool, true, false, cond, List, [], ◌∷◌, ◌++◌, length, map}
-use Rattle.std.proofs.Common.{refl, sym, ◌∙◌, ap, subst, ⊎_elim, inl, inr, arith, get_or, take, Ok}
-use Rattle.std.proofs.lemmas.List.{take_more}
+use Rattle.std.proofs.Common.{◌≡◌, ℕ, ◌+◌, ◌-◌, ◌^◌, ◌<◌, Bool, true, false, cond, List, [], ◌∷◌, ◌++◌, length, map, refl, sym, ap, subst}
+use Rattle.std.proofs.Common.{⊎_elim, arith, get_or, take, Ok}
+use Rattle.std.proofs.lemmas.List.{get_or-map, length-map, take_more}
+use Rattle.std.proofs.lemmas.List.Kept.{AllPairs-filter, AllPairs-from_increasing}
+use Rattle.std.proofs.lemmas.List.Sums.{count_by-le-length, length-filter}
 use Rattle.std.proofs.lemmas.Slice.Zip.{all_zipped_more}
-use Rattle.std.specs.List.{All, filter}
+use Rattle.std.specs.List.{All, AllPairs, filter}
 use Rattle.std.specs.List.Sorted.{IsStrictlyIncreasing}
-use Rattle.std.proofs.lemmas.Bool.{cases_Bool, false≢true}
+use Rattle.std.proofs.lemmas.Bool.{cases_Bool}
 use Rattle.std.proofs.lemmas.Bool.Decides.{nat_tests}
 use Rattle.std.proofs.lemmas.List.Elements.{All-filter, All-from_get_or, All-get_or, All-head, All-tail, filter_passes}
-use Rattle.lattice.specs.Family.{Covers, Family, Has, divides, has, union_of}
-use Rattle.lattice.specs.Cofactors.{sub}
-use Rattle.lattice.specs.Rows.{care_ones, care_zeros, cube, dc_rows, off_rows, on_rows, points_where, rows_with}
-use Rattle.lattice.specs.WorkingLists.{care_list, care_set, working_set}
+use Rattle.lattice.specs.Words.{Covers, Family, Has, divides, union_of, sub, care_ones, care_zeros, cube, dc_rows, off_rows, on_rows}
+use Rattle.lattice.specs.Words.{points_where, rows_with, care_list, care_set, working_set}
 use Rattle.lattice.specs.declared.kind.Kind.{Kind}
 use Rattle.lattice.specs.declared.kind.Kind.TheVariants.{F, Fd, Fr, Fdr}
 use Rattle.lattice.specs.declared.row.Row.{Row}
 use Rattle.lattice.proofs.Diagrams.{covers_append, covers_family, covers_head, covers_one, covers_right}
-use Rattle.lattice.proofs.Polynomials.{ascends-cons, ascends-nil, ascends_head, ascends_tail, has_cases, has_head, has_tail}
 use Rattle.node_store.specs.Stores.{Builds, Denotes, IsPlanned, State, family}
 use Rattle.node_store.proofs.StoreLaws.{Denotes-family}
 use Rattle.node_store.specs.declared.store.Handle.{Handle}
@@ -29,50 +28,31 @@ use Rattle.cube_build.proofs.CareNeeds.{in_care_list, names_where, used_cube-som
 use Rattle.pla_reader.specs.Reading.{Description}
 use Rattle.point_ideals.specs.Cares.{AreRowCubes, HoldsPoints, points_list, says_of, used_rows}
 
+-- what is there where an index is out of range
+abbrev pub no_row : Row
+no_row = record { line = 0; care = 0; value = 0; on = 0; off = 0; dc = 0 }
+
 -- ---- a filter within another
 
 filter_within : {X : Type 0} (p q : X → Bool) → ((x : X) → p x ≡ true → q x ≡ true) → (xs : List X) → filter p (filter q xs) ≡ filter p xs
 filter_within p q more [] = refl
-filter_within p q more (x ∷ xs) =
-    elim (cases_Bool (q x)) [
-      | inl yes' ↦ rw yes' (ap (λ rest. cond (p x) (x ∷ rest) rest) (filter_within p q more xs))
-      | inr no' ↦
-          let out : p x ≡ false = elim (cases_Bool (p x)) [ inl h ↦ absurd (false≢true (sym no' ∙ more x h)) | inr h ↦ h ] in
-          rw (no', out) (filter_within p q more xs)
-    ]
-
-filter_length : {X : Type 0} (p : X → Bool) (xs : List X) → length (filter p xs) ≤ length xs
-filter_length p [] = omega arith
-filter_length p (x ∷ xs) =
-    let rest = filter_length p xs in
-    elim (cases_Bool (p x)) [
-      | inl yes' ↦ rw yes' (omega arith)
-      | inr no' ↦ rw no' (omega arith)
-    ]
+filter_within p q more (x ∷ xs) = ⊎_elim
+    (λ (yes' : q x ≡ true). rw yes' (ap (λ rest. cond (p x) (x ∷ rest) rest) (filter_within p q more xs)))
+    (λ (no' : q x ≡ false). rw (no', out x no') (filter_within p q more xs)) (cases_Bool (q x))
+  where
+    out : (x : _) → q x ≡ false → p x ≡ false
+    out x no' = grind (arith, more x)
 
 -- the lines of some of the rows ascend too
-module _ (p : Row → Bool) where
-  line_kept : (rows : List Row) (x : ℕ) → has (map (λ r. r.line) (filter p rows)) x ≡ true → has (map (λ r. r.line) rows) x ≡ true
-  line_kept [] x i = i
-  line_kept (r ∷ rows) x i =
-      elim (cases_Bool (p r)) [
-        | inl yes' ↦ ⊎_elim (λ here. subst (λ y. has (r.line ∷ map (λ r. r.line) rows) y ≡ true) here (has_head r.line (map
-            (λ r. r.line) rows)))
-            (λ there. has_tail r.line (map (λ r. r.line) rows) x (line_kept rows x there))
-            (has_cases r.line (map (λ r. r.line) (filter p rows)) x (rw yes' at i))
-        | inr no' ↦ has_tail r.line (map (λ r. r.line) rows) x (line_kept rows x (rw no' at i))
-      ]
-
-  lines_ascend : (rows : List Row) → IsStrictlyIncreasing (map (λ r. r.line) rows) → IsStrictlyIncreasing (map (λ r. r.line)
-      (filter p rows))
-  lines_ascend [] up = ascends-nil
-  lines_ascend (r ∷ rows) up =
-      let rest = lines_ascend rows (ascends_tail r.line (map (λ r. r.line) rows) up) in
-      elim (cases_Bool (p r)) [
-        | inl yes' ↦ rw yes' (ascends-cons r.line (map (λ r. r.line) (filter p rows))
-            (λ y i. ascends_head r.line (map (λ r. r.line) rows) up y (line_kept rows y i)) rest)
-        | inr no' ↦ rw no' rest
-      ]
+lines_ascend : (p : Row → Bool) (rows : List Row) → IsStrictlyIncreasing (map (λ r. r.line) rows)
+    → IsStrictlyIncreasing (map (λ r. r.line) (filter p rows))
+lines_ascend p rows up k less =
+    let line = λ (r : Row). r.line in let within : k + 1 < length (filter p rows) = rw length-map at less in
+    let pairs : AllPairs (λ r s. r.line < s.line) rows = λ i j d l m.
+    rw (get_or-map line rows i d d.line (omega arith), get_or-map line rows j d d.line m) at
+    (AllPairs-from_increasing (map line rows) up i j d.line l (rw length-map m)) in
+    rw (get_or-map line (filter p rows) k no_row 0 (omega arith), get_or-map line (filter p rows) (k + 1) no_row 0 within)
+    (AllPairs-filter (λ r s. r.line < s.line) p rows pairs k (k + 1) no_row (omega arith) within)
 
 -- what is true of a description is so of some of its rows without names
 pub part_fits : (inputs outputs : ℕ) (kind : Kind) (rows : List Row) (ins outs : List (List ℕ)) (p : Row → Bool)
@@ -82,7 +62,7 @@ part_fits inputs outputs kind rows ins outs p is = record {
   few_inputs = is.few_inputs;
   some_outputs = is.some_outputs;
   few_outputs = is.few_outputs;
-  few_rows = omega (arith, filter_length p rows, is.few_rows);
+  few_rows = omega (arith, length-filter p rows, count_by-le-length p rows, is.few_rows);
   lines_ascend = lines_ascend p rows is.lines_ascend;
   rows_fit = All-filter p (FitsSizes inputs outputs kind) rows is.rows_fit;
   in_count = λ some. absurd (some refl);
@@ -94,18 +74,9 @@ part_fits inputs outputs kind rows ins outs p is = record {
 -- the set in which a row is that says something
 set_of : (r : Row) (output : ℕ) → says_of output r ≡ true → (set : PointSet) × (divides (2 ^ (output - 1)) (mask_of set r) ≡ true)
 unfolding says_of
-set_of r output h =
-    elim (cases_Bool (divides (2 ^ (output - 1)) r.on)) [
-      | inl on ↦ (On, on)
-      | inr no_on ↦ elim (cases_Bool (divides (2 ^ (output - 1)) r.off)) [
-        | inl off ↦ (Off, off)
-        | inr no_off ↦ (Dc, rw (no_on, no_off) at h)
-      ]
-    ]
-
--- what is there where an index is out of range
-abbrev pub no_row : Row
-no_row = record { line = 0; care = 0; value = 0; on = 0; off = 0; dc = 0 }
+set_of r output h = ⊎_elim (λ on. (On, on)) (λ (no_on : divides (2 ^ (output - 1)) r.on ≡ false).
+    ⊎_elim (λ off. (Off, off)) (λ (no_off : divides (2 ^ (output - 1)) r.off ≡ false). (Dc, rw (no_on, no_off) at h))
+    (cases_Bool (divides (2 ^ (output - 1)) r.off))) (cases_Bool (divides (2 ^ (output - 1)) r.on))
 
 module _ (output : ℕ) (rows : List Row) where
   abbrev used : List Row
@@ -145,13 +116,11 @@ module _ (output : ℕ) (rows : List Row) where
   cubes_planned n outputs kind fs fit planned =
       All-from_get_or (λ r. Covers fs (sub n (cube n r))) used no_row (λ i less.
       let r = get_or used i no_row in
-      let set = set_of r output (All-get_or (λ r. says_of output r ≡ true) used i no_row less (filter_passes
-      (says_of output) rows)) in
+      let set = set_of r output (All-get_or (λ r. says_of output r ≡ true) used i no_row less (filter_passes (says_of output) rows)) in
       covers_family n fs (care_list n kind rows output) (cube n r) planned
       (subst (λ list. Has list (cube n r)) (list_same n kind)
       (in_care_list n used i less outputs kind set.0 output
-      (All-get_or (FitsSizes n outputs kind) used i no_row less (All-filter (says_of output)
-      (FitsSizes n outputs kind) rows fit)) set.1)))
+      (All-get_or (FitsSizes n outputs kind) used i no_row less (All-filter (says_of output) (FitsSizes n outputs kind) rows fit)) set.1)))
 
 -- the cubes of these rows are those that the care sets ask for
 pub cubes_are : (s : State) (output : ℕ) (rows : List Row) (cubes : List Handle) → All (λ r. says_of output r ≡ true) rows

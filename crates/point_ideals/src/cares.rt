@@ -16,6 +16,7 @@ use set_algebra::union;
 use std::alloc::Global;
 
 /// Whether the mask has the output's bit.
+#[tactic(auto, using(std::proofs::lemmas::Nat::one_shl), unfolding(lattice::specs::Family::divides))]
 fn has_bit(mask: u64, output: u32) -> bool
     requires { (1 ≤ output) × (output ≤ 64) }
     ensures { result ≡ divides (2 ^ (output - 1)) mask }

@@ -4,9 +4,7 @@ use Rattle.std.proofs.Math.Nat.{div-add-mod, mod-eq_of_lt, add-mul-mod_self_left
 use Rattle.std.proofs.Math.Pow.{mod-mod-pow}
 use Rattle.std.proofs.lemmas.Nat.{mul-mod_first, mul-add-lt, pow_pos}
 use Rattle.lattice.specs.declared.limits.TheConstants.{MAX_BITS, HANDLE_UNIT, KEY_BITS, MIXING, UNMIXING}
-use Rattle.lattice.specs.NodeWords.{mixed_key, cache_bits, cache_place, quotient, key_at, result_of}
-use Rattle.lattice.specs.CacheWords.{key_for, IsTrueWord}
-use Rattle.lattice.specs.Tables.{IsHandle}
+use Rattle.lattice.specs.Words.{mixed_key, cache_bits, cache_place, quotient, key_at, result_of, key_for, IsTrueWord, IsHandle}
 use Rattle.lattice.proofs.Diagrams.{key_below, quotient_of-word, result_of-word, denotes_handle}
 
 -- a key from its place and its quotient
@@ -41,8 +39,7 @@ module _ (c vars : ℕ) (ws : List ℕ) (place w : ℕ) (is : IsTrueWord c vars 
 -- a place is the upper part of a key's mixing
 pub place_part : (bits at : ℕ) → bits ≤ MAX_BITS → at < 2 ^ cache_bits bits → at * 2 ^ (KEY_BITS - cache_bits bits) < 2 ^ KEY_BITS
 place_part bits at le less =
-    let c : ℕ = cache_bits bits in
-    let sum : (KEY_BITS - c) + c ≡ KEY_BITS = omega arith in
+    let c : ℕ = cache_bits bits in let sum : (KEY_BITS - c) + c ≡ KEY_BITS = omega arith in
     let whole : 2 ^ (KEY_BITS - c) * 2 ^ c ≡ 2 ^ KEY_BITS = sym (pow-add 2 (KEY_BITS - c) c) ∙ ap (λ (k : ℕ). 2 ^ k) sum in
     let n : ℕ = at * 2 ^ (KEY_BITS - c) in
     let sum' : n + 0 < 2 ^ (KEY_BITS - c) * 2 ^ c = mul-add-lt at (2 ^ (KEY_BITS - c)) 0 (2 ^ c) less (pow_pos (KEY_BITS - c)) in

@@ -1,6 +1,5 @@
 mod Places
 mod Probing
-mod SeatLemmas
 mod KeptWords
 mod EventLemmas
 mod WorkedEvents

@@ -1,6 +1,6 @@
 -- A word with a variable and a high child is that of a node.
 use Rattle.std.proofs.Common.{◌≢◌, ℕ, ◌≤◌, arith}
-use Rattle.lattice.specs.NodeWords.{var_of, lo_of, hi_of}
+use Rattle.lattice.specs.Words.{var_of, lo_of, hi_of}
 use Rattle.lattice.specs.declared.limits.TheConstants.{MAX_VARS}
 use Rattle.node_store.specs.declared.store.Node.{Node}
 use Rattle.node_store.specs.PackedNodes.{IsPacked}

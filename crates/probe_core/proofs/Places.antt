@@ -2,7 +2,7 @@
 use Rattle.std.proofs.Common.{◌≡◌, ℕ, ◌+◌, ◌-◌, ◌*◌, ◌%◌, ◌^◌, ◌<◌, ◌≤◌, sym, ap, ◌∙◌, subst, pow-add, arith}
 use Rattle.std.proofs.Math.Nat.{mod-lt}
 use Rattle.std.proofs.lemmas.Nat.{pow_pos, div_below}
-use Rattle.lattice.specs.NodeWords.{mixed, place}
+use Rattle.lattice.specs.Words.{mixed, place}
 use Rattle.lattice.specs.declared.limits.TheConstants.{MAX_BITS, MIXING}
 use Rattle.lattice.proofs.Diagrams.{shifted_one, slots_most}
 
@@ -15,8 +15,7 @@ start_below b w le =
 
 pub start_fits : (b w d : ℕ) → b ≤ MAX_BITS → d < 2 ^ b → mixed b w + d < 2 ^ 24
 start_fits b w d le less =
-    let start : mixed b w < 2 ^ b = start_below b w le in
-    let most : 2 ^ b ≤ 2 ^ MAX_BITS = slots_most b le in omega (arith, start, most)
+    let start : mixed b w < 2 ^ b = start_below b w le in let most : 2 ^ b ≤ 2 ^ MAX_BITS = slots_most b le in omega (arith, start, most)
 
 pub place_is : (b w d : ℕ) → b ≤ MAX_BITS → (mixed b w + d) % (1 * 2 ^ b % 18446744073709551616) ≡ place b w d
 unfolding place
@@ -26,8 +25,3 @@ place_is b w d le = ap (λ (k : ℕ). (mixed b w + d) % k) (shifted_one b le)
 pub place_below : (b w d : ℕ) → place b w d < 2 ^ b
 unfolding place
 place_below b w d = mod-lt _ (pow_pos b)
-
--- a place of a table is a small number
-pub small_place : (b at : ℕ) → b ≤ MAX_BITS → at < 2 ^ b → at < 2 ^ MAX_BITS
-small_place b at le less =
-    let most : 2 ^ b ≤ 2 ^ MAX_BITS = slots_most b le in omega (arith, most)

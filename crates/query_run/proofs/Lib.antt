@@ -4,5 +4,4 @@ mod QueryAnswers
 mod ReducedSteps
 mod PrintedLines
 mod Endings
-mod OneDue
 mod Inhabited

@@ -1,11 +1,11 @@
 -- The lines that are printed of answers and of the elements of a basis.
-use Rattle.std.proofs.Common.{◌≡◌, ◌∙◌, ℕ, zero, suc, ◌+◌, ◌<◌, List, [], ◌∷◌, ◌++◌, length, get_or, take, map, reverse}
-use Rattle.std.proofs.Common.{add-one, ap, arith, refl, rules, subst, sym}
+use Rattle.std.proofs.Common.{◌≡◌, ◌∙◌, ℕ, zero, suc, ◌+◌, ◌<◌, List, [], ◌∷◌, ◌++◌, length, get_or, take, map, reverse, add-one, ap, arith}
+use Rattle.std.proofs.Common.{refl, rules, subst, sym}
 use Rattle.std.specs.Prelude.{zip}
 use Rattle.std.specs.List.{All}
 use Rattle.std.proofs.lemmas.List.{get_or-map, length-map}
 use Rattle.std.proofs.lemmas.List.Elements.{All-cons, All-head, All-map, All-nil, All-tail}
-use Rattle.lattice.specs.Family.{Family, IsFamily}
+use Rattle.lattice.specs.Words.{Family, IsFamily}
 use Rattle.anf_printer.specs.Text.{IsLineOver, shown_line}
 use Rattle.anf_printer.specs.declared.lines.Left.{Left}
 use Rattle.anf_printer.specs.declared.lines.Left.TheVariants.{Output, Zero}

@@ -3,18 +3,15 @@ use Rattle.std.proofs.Common.{◌≡◌, ℕ, suc, ◌+◌, ◌<◌, ◌≤◌, 
 use Rattle.std.proofs.Common.{append_assoc, sym, refl, ap, ◌∙◌}
 use Rattle.std.proofs.Math.Seq.{drop-cons}
 use Rattle.std.proofs.lemmas.List.{append-nil, take-append-drop, take_all, take_more}
-use Rattle.lattice.specs.Family.{Family, Covers, minus_of, union_of}
-use Rattle.lattice.specs.Interpolation.{interpolate}
-use Rattle.lattice.specs.Polynomial.{ones_of}
-use Rattle.lattice.specs.WorkingLists.{interpolation_list, ones_list, working_set}
+use Rattle.lattice.specs.Words.{Family, Covers, minus_of, union_of, interpolate, ones_of, interpolation_list, ones_list, working_set}
 use Rattle.lattice.specs.declared.op.Op.TheVariants.{Ones}
 use Rattle.lattice.proofs.Diagrams.{IsFamily-nil, covers_head, covers_left, covers_right, covers_tail}
 use Rattle.lattice.proofs.Polynomials.{family_where_has, listed-next}
 use Rattle.node_store.specs.Stores.{State, Builds, Denotes, Gives, IsPlanned, IsSound, Knows, family, needs_of}
 use Rattle.node_store.specs.declared.store.Full.{Full}
 use Rattle.node_store.specs.declared.store.Handle.{Handle}
-use Rattle.node_store.proofs.StoreLaws.{Denotes-family, Found, Grows-family, found_after, found_built, found_gives}
-use Rattle.node_store.proofs.StoreLaws.{found_result, found_start, gives_as, known_after}
+use Rattle.node_store.proofs.StoreLaws.{Denotes-family, Found, Grows-family, found_after, found_built, found_gives, found_result}
+use Rattle.node_store.proofs.StoreLaws.{found_start, gives_as, known_after}
 use Rattle.bool_poly.proofs.OnesLemmas.{needs_ones}
 use Rattle.query_run.proofs.LeastValues.{reduced_is}
 use Rattle.query_run.specs.Reduced.{IsReduced, reduced, reduced_list, sum_of_terms, terms_from, terms_list, values_list}
@@ -47,20 +44,19 @@ module _ (s : State) (terms : List ℕ) where
     abbrev before : List ℕ
     before = take i terms
 
-    next_is : take (i + 1) terms ≡ before ++ m ∷ []
+    abbrev after : List ℕ
+    after = before ++ m ∷ []
+
+    next_is : take (i + 1) terms ≡ after
     next_is = take_more terms i m less ∙ ap (λ x. before ++ x ∷ []) (sym is)
 
-    cut : terms ≡ before ++ m ∷ drop (suc i) terms
-    cut = sym (take-append-drop i terms) ∙ ap (λ xs. before ++ xs) (drop-cons terms i m less ∙ ap (λ x. x ∷ drop (suc i) terms) (sym is))
-
-    listed : terms_list n terms ≡ terms_list n before ++ ((m ∷ []) ∷ sum_of_terms n (before ++ m ∷ [])
-        ∷ terms_from n (before ++ m ∷ []) (drop (suc i) terms))
+    rest_planned : Covers s.plan (working_set n ((m ∷ []) ∷ sum_of_terms n after ∷ terms_from n after (drop (suc i) terms)))
     unfolding terms_from
-    listed = ap (terms_from n []) cut ∙ terms_append n [] before (m ∷ drop (suc i) terms)
-
-    rest_planned : Covers s.plan (working_set n ((m ∷ []) ∷ sum_of_terms n (before ++ m ∷ [])
-        ∷ terms_from n (before ++ m ∷ []) (drop (suc i) terms)))
-    rest_planned = covers_right n s.plan (terms_list n before) _ (rw listed at planned)
+    rest_planned =
+        let cut : terms ≡ before ++ m ∷ drop (suc i) terms = sym (take-append-drop i terms) ∙ ap (λ xs. before ++ xs)
+        (drop-cons terms i m less ∙ ap (λ x. x ∷ drop (suc i) terms) (sym is)) in
+        covers_right n s.plan (terms_list n before) _
+        (rw (ap (terms_from n []) cut ∙ terms_append n [] before (m ∷ drop (suc i) terms)) at planned)
 
     module _ {t : State} {sum : Handle} (so_far : SumsTerms s t terms i sum) where
       pub term_planned : IsPlanned t (m ∷ [])
@@ -71,10 +67,9 @@ module _ (s : State) (terms : List ℕ) where
         vars_are : u.vars ≡ n
         vars_are = one.grows.vars ∙ so_far.found.reads.grows.vars
 
-        sum_is : union_of u.vars (family u sum) (family u next) ≡ sum_of_terms n (before ++ m ∷ [])
-        sum_is =
-            rw (vars_are, Denotes-family u sum _ (one.grows.known sum.0 _ so_far.sums), Denotes-family u next _ one.ok) refl
-            ∙ listed-next n before m
+        sum_is : union_of u.vars (family u sum) (family u next) ≡ sum_of_terms n after
+        sum_is = rw (vars_are, Denotes-family u sum _ (one.grows.known sum.0 _ so_far.sums), Denotes-family u next _ one.ok)
+            (listed-next n before m)
 
         pub sum_planned : IsPlanned u (union_of u.vars (family u sum) (family u next))
         sum_planned = rw (sum_is, vars_are, one.grows.plan, so_far.found.reads.grows.plan)
@@ -84,16 +79,14 @@ module _ (s : State) (terms : List ℕ) where
         pub one_more : {v : State} {r : Handle} → Builds u v (Ok r) (union_of u.vars (family u sum) (family u next))
             → SumsTerms s v terms (i + 1) r
         unfolding terms_from
-        one_more {v = v} {r = r} two =
-            let listed_next : terms_list n (before ++ m ∷ []) ≡ (terms_list n before ++ (m ∷ []) ∷ []) ++ sum_of_terms n
-            (before ++ m ∷ []) ∷ []
-            = terms_append n [] before (m ∷ []) ∙ sym (append_assoc (terms_list n before) ((m ∷ []) ∷ []) (sum_of_terms n
-            (before ++ m ∷ []) ∷ [])) in
-            record {
-              found = rw (next_is, listed_next) (found_built (sum_of_terms n (before ++ m ∷ [])) (found_built
-                  (m ∷ []) so_far.found refl one) sum_is two);
-              sums = rw (next_is, ← sum_is) two.ok;
-            }
+        one_more {v = v} {r = r} two = record {
+          found = rw (
+            next_is,
+            terms_append n [] before (m ∷ []),
+            ← append_assoc (terms_list n before) ((m ∷ []) ∷ []) (sum_of_terms n after ∷ []),
+          ) (found_built (sum_of_terms n after) (found_built (m ∷ []) so_far.found refl one) sum_is two);
+          sums = rw (next_is, ← sum_is) two.ok;
+        }
 
   -- after the last term
   pub sums_whole : {t : State} {i : ℕ} {sum : Handle} → SumsTerms s t terms i sum → length terms ≤ i
@@ -133,32 +126,36 @@ module _ (s : State) (points : Handle) (terms : List ℕ) (known : Knows s point
   abbrev tail : List Family
   tail = minus_of s.vars P E ∷ interpolation_list s.vars (minus_of s.vars P E) E
 
+  abbrev front : List Family
+  front = ones_list s.vars R P ++ E ∷ []
+
   pub terms_planned : Covers s.plan (working_set s.vars (terms_list s.vars terms))
   terms_planned = covers_left s.vars s.plan (terms_list s.vars terms) (values_list s.vars R P) planned
 
-  values_planned : Covers s.plan (working_set s.vars (values_list s.vars R P))
+  values_planned : Covers s.plan (working_set s.vars (front ++ tail))
   values_planned = covers_right s.vars s.plan (terms_list s.vars terms) (values_list s.vars R P) planned
 
   -- t is the state after the polynomial
   module _ {t : State} {given : Handle} (one : Gives s t (Ok given) R (working_set s.vars (terms_list s.vars terms))) where
+    ones_are : ones_of t.vars (family t given) (family t points) ≡ E
+    ones_are = rw (Denotes-family t given R one.ok, Grows-family s t points one.grows known, one.grows.vars) refl
+
     needs_are : needs_of t Ones given points.0 ≡ working_set t.vars (ones_list s.vars R P)
     needs_are = needs_ones t.vars (family t given) (family t points) points.0
         ∙ rw (Denotes-family t given R one.ok, Grows-family s t points one.grows known, one.grows.vars) refl
 
     pub ones_planned : Covers t.plan (needs_of t Ones given points.0)
     ones_planned = rw (needs_are, one.grows.vars, one.grows.plan)
-        (covers_left s.vars s.plan (ones_list s.vars R P) (E ∷ []) (covers_left s.vars s.plan
-        (ones_list s.vars R P ++ E ∷ []) tail values_planned))
+        (covers_left s.vars s.plan (ones_list s.vars R P) (E ∷ []) (covers_left s.vars s.plan front tail values_planned))
 
     -- u is the state after the points where it is 1
     module _ {u : State} {ones : Handle} (sound : IsSound u)
         (two : Gives t u (Ok ones) (ones_of t.vars (family t given) (family t points)) (needs_of t Ones given points.0)) where
       ones_given : Gives t u (Ok ones) E (working_set t.vars (ones_list s.vars R P))
-      ones_given = gives_as (rw (Denotes-family t given R one.ok, Grows-family s t points one.grows known, one.grows.vars) refl)
-          needs_are two
+      ones_given = gives_as ones_are needs_are two
 
-      found : Found s u (terms_list s.vars terms ++ (ones_list s.vars R P ++ E ∷ []))
-      found = found_after s t u (terms_list s.vars terms) (ones_list s.vars R P ++ E ∷ [])
+      found : Found s u (terms_list s.vars terms ++ front)
+      found = found_after s t u (terms_list s.vars terms) front
           (record { reads = record { grows = one.grows; quiet = one.quiet }; held = one.held })
           (found_result t u ones E (ones_list s.vars R P) sound ones_given)
 
@@ -176,15 +173,13 @@ module _ (s : State) (points : Handle) (terms : List ℕ) (known : Knows s point
       asked_is = rw (found.reads.grows.vars, points_known, ones_known) refl
 
       pub least_planned : Covers u.plan (working_set u.vars asked)
-      least_planned = rw (asked_is, found.reads.grows.plan, found.reads.grows.vars)
-          (covers_right s.vars s.plan (ones_list s.vars R P ++ E ∷ []) tail values_planned)
+      least_planned = rw (asked_is, found.reads.grows.plan, found.reads.grows.vars) (covers_right s.vars s.plan front tail values_planned)
 
       -- v is the state at the end
       pub reduced_given : {v : State} {r : Result Handle Full}
           → Gives u v r (interpolate u.vars (minus_of u.vars (family u points) (family u ones)) (family u ones)) (working_set u.vars asked)
           → Gives s v r (reduced s.vars R P) (working_set s.vars (reduced_list s.vars terms P))
       unfolding reduced
-      reduced_given {v = v} {r = r} three =
-          rw (← append_assoc (terms_list s.vars terms) (ones_list s.vars R P ++ E ∷ []) tail)
+      reduced_given {v = v} {r = r} three = rw (← append_assoc (terms_list s.vars terms) front tail)
           (found_gives s u v r (interpolate s.vars (minus_of s.vars P E) E) _ tail found
           (gives_as (rw (found.reads.grows.vars, points_known, ones_known) refl) (ap (working_set u.vars) asked_is) three))

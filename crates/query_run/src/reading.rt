@@ -93,6 +93,7 @@ fn read_lines(
 ///
 /// N is the printed name of an output, and R a polynomial. `Bad` has the first bad line and the first check that it fails; empty
 /// lines are counted.
+#[tactic(auto, using(pla_reader::proofs::ArrangedInputs::count_printed))]
 pub fn read_queries(alloc: Global, p: &Pla, text: &[u8]) -> Result<Queries, QueryRefusal>
     requires { length text.now < 2 ^ 32 }
     ensures reading { GivesQueries result (query_reading (description p.now) text.now) }

@@ -1,15 +1,14 @@
 -- Sums of terms over the elements of a list so far, what a store knows of them later, the terms of one more polynomial, working
 -- sets that are held, and errors that are passed on.
-use Rattle.std.proofs.Common.{◌≡◌, ℕ, ◌+◌, ◌<◌, ◌≤◌, List, [], ◌∷◌, length, take, get_or, ap, sym, refl, arith, ◌++◌, map, reverse}
-use Rattle.std.proofs.Common.{ap₂, ◌∙◌, true, not, ◌&&◌, Result, Ok, Err}
+use Rattle.std.proofs.Common.{◌≡◌, ℕ, ◌+◌, ◌<◌, ◌≤◌, List, [], ◌∷◌, length, take, get_or, ap, sym, refl, arith, ◌++◌, map, reverse, ap₂}
+use Rattle.std.proofs.Common.{◌∙◌, true, not, ◌&&◌, Result, Ok, Err}
 use Rattle.std.specs.Result.{IsErrAnd, IsErrOf}
 use Rattle.std.specs.List.{All, sum_by}
 use Rattle.std.proofs.lemmas.Bool.{and_parts}
 use Rattle.std.proofs.lemmas.List.Sums.{sum_by-cons, sum_by_more, sum_by_more_le}
-use Rattle.std.proofs.lemmas.List.Elements.{All-head, All-tail, All-weaker}
+use Rattle.std.proofs.lemmas.List.Elements.{All-get_or, All-head, All-tail, All-weaker}
 use Rattle.std.proofs.lemmas.List.{map_more, map_push, reverse-reverse}
-use Rattle.lattice.specs.Family.{Covers, Family, includes, is_distinct}
-use Rattle.lattice.specs.WorkingLists.{working_set}
+use Rattle.lattice.specs.Words.{Covers, Family, includes, is_distinct, working_set}
 use Rattle.lattice.proofs.Diagrams.{covered_length, working_set_is_node_list}
 use Rattle.node_store.specs.Stores.{State, IsSound, Knows, family, Grows}
 use Rattle.node_store.proofs.StoreLaws.{Grows-family, Grows-knows}
@@ -29,9 +28,7 @@ handle_terms s h = length (family s h)
 -- one more element, whose terms are the same later
 pub one_more : {X : Type 0} (f later : X → ℕ) (xs : List X) (i : ℕ) (x d : X) → i < length xs → x ≡ get_or xs i d → later x ≡ f x
     → (sum_by f (take (i + 1) xs) ≡ sum_by f (take i xs) + later x) × (sum_by f (take i xs) + later x ≤ sum_by f xs)
-one_more f later xs i x d within is same =
-    let at : f x ≡ f (get_or xs i d) = ap f is in
-    (omega (arith, at, same, sum_by_more f xs i d within), omega (arith, at, same, sum_by_more_le f xs i d within))
+one_more f later xs i x d within is same = grind (arith, sum_by_more, sum_by_more_le)
 
 -- a family that is known has the same length later
 pub length-later : (s t : State) (h : Handle) → Grows s t → Knows s h → length (family t h) ≡ length (family s h)
@@ -44,28 +41,31 @@ All_known-later s t hs grows known = All-weaker (Knows s) (Knows t) (λ h. Grows
 -- handles have as many terms later
 pub terms_of-later : (s t : State) (hs : List Handle) → Grows s t → All (Knows s) hs → terms_of t hs ≡ terms_of s hs
 terms_of-later s t [] grows known = refl
-terms_of-later s t (h ∷ hs) grows known =
-    omega (
-      arith,
-      sum_by-cons (handle_terms s) h hs,
-      sum_by-cons (handle_terms t) h hs,
-      length-later s t h grows
-          (All-head (Knows s) h hs known),
-      terms_of-later s t hs grows (All-tail (Knows s) h hs known),
-    )
+terms_of-later s t (h ∷ hs) grows known = omega (
+  arith,
+  sum_by-cons (handle_terms s) h hs,
+  sum_by-cons (handle_terms t) h hs,
+  length-later s t h grows (All-head (Knows s) h hs known),
+  terms_of-later s t hs grows (All-tail (Knows s) h hs known),
+)
 
--- the terms of one more polynomial
-pub lists_more : (s t : State) (polynomials : List Handle) (i : ℕ) (before after : List Family) (terms : Family) → i < length polynomials
-    → Grows s t → Knows s (get_or polynomials i no_handle)
-    → map reverse before ≡ map (family s) (take i polynomials) → terms ≡ reverse (family t (get_or polynomials i no_handle))
-    → after ≡ before ++ terms ∷ []
-    → map reverse after ≡ map (family s) (take (i + 1) polynomials)
-lists_more s t polynomials i before after terms within grows known so_far is pushed =
-    let h = get_or polynomials i no_handle in
-    ap (map reverse) pushed ∙ (map_push reverse before terms
-    ∙ (ap₂ (λ (xs : List Family) (x : Family). xs ++ x ∷ []) so_far (ap reverse is
-    ∙ (reverse-reverse (family t h) ∙ Grows-family s t h grows known))
-    ∙ sym (map_more (family s) polynomials i no_handle within)))
+-- the terms of one more polynomial that is known
+pub terms_more : (s t : State) (hs : List Handle) (i : ℕ) → Grows s t → All (Knows s) hs → i < length hs
+    → (terms_of s (take (i + 1) hs) ≡ terms_of s (take i hs) + handle_terms t (get_or hs i no_handle))
+    × (terms_of s (take i hs) + handle_terms t (get_or hs i no_handle) ≤ terms_of s hs)
+terms_more s t hs i grows known within = one_more (handle_terms s) (handle_terms t) hs i _ no_handle within refl
+    (length-later s t _ grows (All-get_or (Knows s) hs i no_handle within known))
+
+-- its list
+pub lists_more : (s t : State) (hs : List Handle) (i : ℕ) (before after : List Family) (terms : Family) → Grows s t → All (Knows s) hs
+    → i < length hs → map reverse before ≡ map (family s) (take i hs)
+    → terms ≡ reverse (family t (get_or hs i no_handle)) → after ≡ before ++ terms ∷ []
+    → map reverse after ≡ map (family s) (take (i + 1) hs)
+lists_more s t hs i before after terms grows known within so_far is pushed =
+    let h = get_or hs i no_handle in
+    let last : reverse terms ≡ family s h = ap reverse is
+    ∙ (reverse-reverse (family t h) ∙ Grows-family s t h grows (All-get_or (Knows s) hs i no_handle within known)) in
+    rw (pushed, map_push reverse before terms, so_far, last) (sym (map_more (family s) hs i no_handle within))
 
 -- the families of handles that are known stay
 pub families_later : (s t : State) (hs : List Handle) → Grows s t → All (Knows s) hs → map (family t) hs ≡ map (family s) hs
@@ -94,5 +94,4 @@ pub walk_was_over : {T E : Type 0} (r : Result T E) (w : WalkRefusal) (over memo
     → IsErrAnd r (λ e. (w ≡ Over → e ≡ over) × (w ≡ Memory → e ≡ memory)) → (memory ≡ over → ⊥) → IsErrOf r over → w ≡ Over
 walk_was_over r Over over memory passed apart is = refl
 walk_was_over (Ok t) Memory over memory passed apart is = cc
-walk_was_over (Err e) Memory over memory passed apart is =
-    let same : e ≡ over = cc in absurd (apart (sym (passed.1 refl) ∙ same))
+walk_was_over (Err e) Memory over memory passed apart is = grind arith

@@ -1,9 +1,6 @@
 -- The leads of points, from their standard monomials.
-use Rattle.std.proofs.Common.{◌≡◌, ℕ, ◌+◌, ◌-◌, Result, Ok, refl, ◌∙◌, arith}
-use Rattle.lattice.specs.Family.{Family, Covers}
-use Rattle.lattice.specs.Basis.{leads_of, standard_of}
-use Rattle.lattice.specs.Operations.{IsClosed}
-use Rattle.lattice.specs.WorkingLists.{leads_list, standard_list, working_set}
+use Rattle.std.proofs.Common.{◌≡◌, ℕ, ◌+◌, ◌-◌, Result, Ok, refl, arith}
+use Rattle.lattice.specs.Words.{Family, Covers, leads_of, standard_of, IsClosed, leads_list, standard_list, working_set}
 use Rattle.lattice.specs.declared.op.Op.TheVariants.{Standard, Leads}
 use Rattle.lattice.proofs.Diagrams.{covers_left, covers_right}
 use Rattle.node_store.specs.Stores.{State, Gives, IsSound, Knows, family, needs_of}
@@ -43,9 +40,7 @@ module _ (s : State) (points : Handle) where
     standard_are_closed ok known are = standard_closed n P (family t m) (known_after s points ok known) are
 
     needs_leads : needs_of t Leads m 1 ≡ working_set t.vars (leads_list n M)
-    needs_leads =
-        let all : t.vars + 1 - 1 ≡ t.vars = omega arith in
-        needs-leads t.vars 1 t.vars (family t m) all ∙ rw (one.grows.vars, m_is) refl
+    needs_leads = grind (arith, needs-leads)
 
     pub leads_planned : Planned → Covers t.plan (needs_of t Leads m 1)
     leads_planned planned =
@@ -59,5 +54,4 @@ module _ (s : State) (points : Handle) where
         → Gives s u r (leads_of n M) (working_set n (point_leads_list n P))
     leads_given {u = u} {r = r} two =
         let all : t.vars + 1 - 1 ≡ n = omega (arith, one.grows.vars) in
-        found_gives s t u r (leads_of n M) (standard_list n P) (leads_list n M) to_t
-        (gives_as (rw (all, m_is) refl) needs_leads two)
+        found_gives s t u r (leads_of n M) (standard_list n P) (leads_list n M) to_t (gives_as (rw (all, m_is) refl) needs_leads two)

@@ -1,6 +1,6 @@
 -- What a run reads of its source, what it writes, and results that it finds twice.
-use Rattle.std.proofs.Common.{◌≡◌, ◌⊎◌, ◌∙◌, ℕ, ◌+◌, ◌<◌, ◌≤◌, List, [], length, length-take, min, take, take_all, append-nil}
-use Rattle.std.proofs.Common.{ap, refl, sym, inl, inr, ⊎_elim, arith, Option, Some, None}
+use Rattle.std.proofs.Common.{◌≡◌, ◌⊎◌, ◌∙◌, ℕ, ◌+◌, ◌<◌, ◌≤◌, List, [], length, length-take, min, take, take_all, append-nil, ap, refl}
+use Rattle.std.proofs.Common.{sym, inl, inr, ⊎_elim, arith, Option, Some, None}
 use Rattle.std.specs.Prelude.{Ok, Err, Result, OnOk}
 use Rattle.std.proofs.lemmas.Bool.{cases_lt}
 use Rattle.std.specs.Io.KnownBytes.{Appends, Keeps}
@@ -44,8 +44,7 @@ told_is None read all e = cc
 told_is (Some xs) read all e = cc
 
 read_is : (left : Option (List ℕ)) (read : List ℕ) → ((xs : List ℕ) → left ≡ Some xs → read ≡ take (MOST_BYTES + 1) xs)
-    → length read ≤ MOST_BYTES + 1
-    → read ≡ take (MOST_BYTES + 1) (told_or left read)
+    → length read ≤ MOST_BYTES + 1 → read ≡ take (MOST_BYTES + 1) (told_or left read)
 unfolding told_or
 read_is None read told few = sym (take_all (MOST_BYTES + 1) read few)
 read_is (Some xs) read told few = told xs refl

@@ -1,12 +1,9 @@
 -- The leads of a family of monomials cut at a variable, with what finding them needs.
-use Rattle.std.proofs.Common.{◌≡◌, ◌≢◌, ℕ, zero, suc, ◌+◌, ◌-◌, ◌^◌, ◌<◌, ◌≤◌, true, false, not, ◌&&◌, List, [], ◌∷◌, ◌++◌, cond, filter}
-use Rattle.std.proofs.Common.{refl, sym, ◌∙◌, ap, subst, arith, ⊎_elim, ltb, lt-ltb}
+use Rattle.std.proofs.Common.{◌≡◌, ◌≢◌, ℕ, zero, suc, ◌+◌, ◌-◌, ◌^◌, ◌<◌, ◌≤◌, true, false, not, ◌&&◌, List, [], ◌∷◌, ◌++◌, filter, refl}
+use Rattle.std.proofs.Common.{sym, ◌∙◌, ap, subst, arith, ltb, lt-ltb}
 use Rattle.std.proofs.lemmas.Bool.{cases_eq, cases_Bool, and_from, false_from_ne_true}
-use Rattle.lattice.specs.Family.{Family, IsFamily, has, divides, numbers_below, family_where, inter_of, Covers}
-use Rattle.lattice.specs.Cofactors.{low_cofactor, high_cofactor, join}
-use Rattle.lattice.specs.Basis.{leads_of, has_divisors}
-use Rattle.lattice.specs.Operations.{IsClosed}
-use Rattle.lattice.specs.WorkingLists.{leads_list, operation_list, needs, working_set}
+use Rattle.lattice.specs.Words.{Family, IsFamily, has, divides, numbers_below, family_where, inter_of, Covers, low_cofactor, high_cofactor}
+use Rattle.lattice.specs.Words.{join, leads_of, has_divisors, IsClosed, leads_list, operation_list, needs, working_set}
 use Rattle.lattice.specs.declared.op.Op.TheVariants.{Leads}
 use Rattle.lattice.proofs.Diagrams.{IsFamily-unit, not_empty, combine-narrow, covers_nil}
 use Rattle.lattice.proofs.Polynomials.{has-nil, has_none, has_head, has_other, below_bound, has-family_where_below, family_where_has}
@@ -32,12 +29,7 @@ unfolding leads_of
 lead_test d f x l = has-family_where_below d (λ m. not (has f m) && has_divisors f m) x l
 
 lead_of_nil : (d x : ℕ) → x < 2 ^ d → has (leads_of d []) x ≡ has (0 ∷ []) x
-lead_of_nil d x l =
-    lead_test d [] x l ∙ (ap (λ b. not b && has_divisors [] x) (has-nil x)
-    ∙ ⊎_elim
-    (λ e. subst (λ y. has_divisors [] y ≡ has (0 ∷ []) y) e (zero_divisors ∙ sym (has_head 0 [])))
-    (λ ne. no_divisors x ne ∙ sym (has_other 0 [] x ne ∙ has-nil x))
-    (cases_eq 0 x))
+lead_of_nil d x l = grind (arith, lead_test, has-nil, zero_divisors, has_head, no_divisors, has_other, cases_eq)
 
 -- the one lead where nothing is standard
 pub leads_of-nil : (d : ℕ) → leads_of d [] ≡ 0 ∷ []
@@ -50,12 +42,7 @@ leads_of-all = refl
 
 pub unit_only : (f : Family) → IsFamily 0 f → f ≢ [] → f ≡ 0 ∷ []
 unfolding family_where numbers_below
-unit_only f is some =
-    let all : f ≡ cond (has f 0) (0 ∷ []) [] = family_where_has 0 f is in
-    ⊎_elim
-    (λ t. all ∙ ap (λ b. cond b (0 ∷ []) []) t)
-    (λ t. absurd (some (all ∙ ap (λ b. cond b (0 ∷ []) []) t)))
-    (cases_Bool (has f 0))
+unit_only f is some = grind (arith, family_where_has 0 f is, cases_Bool (has f 0))
 
 -- ---- the working set of the operation, with d variables left
 
@@ -64,8 +51,7 @@ unfolding leads_list
 leads_list-nil zero = refl
 leads_list-nil (suc d) = refl
 
-pub leads_list-some : (d : ℕ) (f : Family) → f ≢ []
-    → leads_list (suc d) f ≡ leads_list d (low_cofactor d f) ++
+pub leads_list-some : (d : ℕ) (f : Family) → f ≢ [] → leads_list (suc d) f ≡ leads_list d (low_cofactor d f) ++
     (leads_list d (high_cofactor d f) ++ (inter_of d (leads_of d (high_cofactor d f)) (low_cofactor d f) ∷ leads_of (suc d) f ∷ []))
 unfolding leads_list
 leads_list-some d f some = rw (not_empty f some) refl
@@ -93,8 +79,7 @@ module _ (d : ℕ) (f : Family) (closed : IsClosed f) where
   pub high_closed : IsClosed (high_cofactor d f)
   high_closed m k i div =
       let b : m < 2 ^ d = below_bound d (high_cofactor d f) m (IsFamily-high_cofactor d f) i in
-      let le : k ≤ m = divides_le k m div in
-      let kb : k < 2 ^ d = omega (arith, b, le) in
+      let le : k ≤ m = divides_le k m div in let kb : k < 2 ^ d = omega (arith, b, le) in
       has-high_cofactor d f k kb ∙ closed (2 ^ d + m) (2 ^ d + k) (sym (has-high_cofactor d f m b) ∙ i) (divides_both_high d k m kb b ∙ div)
 
 -- the leads of the upper half that are standard below, at the variable x
@@ -133,5 +118,4 @@ module _ (n x : ℕ) (f : Family) (first : 1 ≤ x) (last : x ≤ n) where
       ∙ (leads_by_recursion d f (subst (λ k. IsFamily k f) e is) closed ∙ ap (join d (leads_of d low)) (sym kept_is))
 
   pub needs-split : f ≢ [] → needs Leads n f [] x ≡ working_set n (split_list n x f)
-  needs-split some = needs-leads n x (suc d) f left ∙ ap (working_set n) (leads_list-some d f some
-      ∙ rw (kept_is, left) refl)
+  needs-split some = needs-leads n x (suc d) f left ∙ ap (working_set n) (leads_list-some d f some ∙ rw (kept_is, left) refl)

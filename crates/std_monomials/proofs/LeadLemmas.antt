@@ -1,11 +1,8 @@
 -- The steps of finding the leads in a store.
-use Rattle.std.proofs.Common.{◌≡◌, ◌≢◌, ℕ, ◌+◌, ◌-◌, ◌<◌, ◌≤◌, Bool, true, false, Result, Ok, Err, IfOk, Some, List, [], ◌∷◌, ◌++◌}
+use Rattle.std.proofs.Common.{◌≡◌, ◌≢◌, ℕ, ◌+◌, ◌-◌, ◌<◌, ◌≤◌, Bool, true, false, Result, Ok, Err, IfOk, Some, List, [], ◌∷◌, ◌++◌, rules}
 use Rattle.std.proofs.Common.{append_assoc, sym, ◌∙◌, ap, subst, arith, refl}
-use Rattle.lattice.specs.Family.{Family, IsFamily, has, inter_of, Covers}
-use Rattle.lattice.specs.Cofactors.{low_cofactor, high_cofactor, join, sub}
-use Rattle.lattice.specs.Basis.{standard_of, leads_of}
-use Rattle.lattice.specs.Operations.{answer, IsClosed}
-use Rattle.lattice.specs.WorkingLists.{needs, leads_list, working_set}
+use Rattle.lattice.specs.Words.{Family, IsFamily, has, inter_of, Covers, low_cofactor, high_cofactor, join, sub, standard_of, leads_of}
+use Rattle.lattice.specs.Words.{answer, IsClosed, needs, leads_list, working_set}
 use Rattle.lattice.specs.declared.op.Op.TheVariants.{Leads}
 use Rattle.lattice.proofs.Diagrams.{Has-head, Has-tail, Has-append_left, Has-append_right, covers_family, covers_part}
 use Rattle.lattice.proofs.Polynomials.{same_below, IsFamily-low_cofactor, IsFamily-high_cofactor, standard_by_recursion, IsFamily-leads_of}
@@ -42,15 +39,7 @@ pub call_of : {s : State} (a : Handle) (x : ℕ) → IsSound s → record {
   after : IsFamily (s.vars + 1 - x) (family s a);
   planned : Covers s.plan (needs Leads s.vars (family s a) [] x);
 } → Call s a x
-call_of a x sound asked = record {
-  sound = sound;
-  known = asked.known;
-  first = asked.first;
-  last = asked.last;
-  closed = asked.closed;
-  after = asked.after;
-  planned = asked.planned;
-}
+call_of a x sound asked = assumption
 
 -- what it does
 abbrev pub Does : State → Handle → ℕ → State → Result Handle Full → Type 0
@@ -71,35 +60,16 @@ module _ {s : State} {a : Handle} {x : ℕ} (call : Call s a x) where
       same_from_iff (has F m) (has (standard_of n points) m) (λ i. (law.1 m).1 ((are m).0 i)) (λ i. (are m).1 ((law.1 m).0 i)))
 
   pub empty_gives : a.0 ≡ 0 → Does s a x s (Ok (record { 0 = 1 }))
-  empty_gives zero =
-      let none : F ≡ [] = zero_family s a call.sound zero in
-      record {
-        grows = (Reads-refl s).grows;
-        ok = call.sound.unit ∙ ap Some (sym (ap (leads_of (n + 1 - x)) none ∙ leads_of-nil (n + 1 - x)));
-        held = rw none (needs-nil n x s.held);
-        quiet = refl;
-        full = tt;
-      }
+  empty_gives zero = search (rules, arith, zero_family, Reads-refl, leads_of-nil, needs-nil)
 
   pub none_left_gives : a.0 ≢ 0 → s.vars < x → Does s a x s (Ok (record { 0 = 0 }))
   none_left_gives some over =
       let none : n + 1 - x ≡ 0 = omega (arith, over) in
       let unit : F ≡ 0 ∷ [] = unit_only F (subst (λ k. IsFamily k F) none call.after) (filled s a call.sound call.known some) in
-      record {
-        grows = (Reads-refl s).grows;
-        ok = call.sound.empty ∙ ap Some (sym (ap (λ k. leads_of k F) none ∙ (ap (leads_of 0) unit ∙ leads_of-all)));
-        held = needs-none_left n x F s.held none;
-        quiet = refl;
-        full = tt;
-      }
+      search (rules, arith, Reads-refl, leads_of-all, needs-none_left)
 
   operands : AreOperands s Leads a x
-  operands = record {
-    first = call.known;
-    second_handle = λ e. cc;
-    second_variable = λ e. (call.first, call.last);
-    second_none = λ e f. cc;
-  }
+  operands = grind arith
 
   module _ {t : State} where
     pub by_definition : (r : Result Handle Full) → Does s a x t r → x ≡ 1 → (points : Family) → IsFamily s.vars points
@@ -115,14 +85,7 @@ module _ {s : State} {a : Handle} {x : ℕ} (call : Call s a x) where
 
     pub kept_result : {r : Handle} → Does s a x t (Ok r) → IsResult t Leads a x r
     unfolding answer
-    kept_result does = given_kept operands (record {
-      disjoint = λ e. cc;
-      closed = λ e. call.closed;
-      after = λ e. call.after;
-      first = λ e. call.first;
-      last = λ e. call.last;
-      inside = λ e. cc;
-    }) does
+    kept_result does = grind (arith, given_kept)
 
 -- ---- monomials that are cut at the variable
 
@@ -139,15 +102,7 @@ module _ {s r : State} {a : Handle} {x : ℕ} (call : Call s a x) (inside : x �
   pub cut_at : {t : State} (low high : Handle) → a.0 ≢ 0 → Reads r t → Denotes t low (low_cofactor (r.vars - x) (family r a))
       → Denotes t high (high_cofactor (r.vars - x) (family r a)) → Cut s t a x low high
   cut_at {t = t} low high some cut l h =
-      let same : family r a ≡ family s a = Grows-family s r a before.grows call.known in
-      record {
-        call = call;
-        some = filled s a call.sound call.known some;
-        inside = inside;
-        reads = Reads-trans s r t before cut;
-        low_at = rw (before.grows.vars, same) at l;
-        high_at = rw (before.grows.vars, same) at h;
-      }
+      grind (arith, Grows-family s r a before.grows call.known, filled s a call.sound call.known some, Reads-trans s r t before cut)
 
 module _ {s t : State} {a : Handle} {x : ℕ} {lh hh : Handle} (k : Cut s t a x lh hh) where
   abbrev d : ℕ
@@ -227,11 +182,7 @@ module _ {s t : State} {a : Handle} {x : ℕ} {lh hh : Handle} (k : Cut s t a x 
       at_v = to_v.reads
 
       inter_is : inter_of v.vars (family v above) (family v lh) ≡ kept
-      inter_is = rw (
-        at_v.grows.vars,
-        Denotes-family v above _ (next_at high at_u high_u two),
-        Denotes-family v lh low (two.grows.known lh.0 low (one.grows.known lh.0 low k.low_at)),
-      ) refl
+      inter_is = grind (arith, Denotes-family)
 
       pub inter_planned : Covers v.plan (sub v.vars (inter_of v.vars (family v above) (family v lh)))
       inter_planned = rw (at_v.grows.plan, inter_is, at_v.grows.vars)

@@ -1,10 +1,7 @@
 -- What finding standard monomials and leads needs, and what holds of the standard monomials when leads are asked for.
 use Rattle.std.proofs.Common.{◌≡◌, ℕ, zero, suc, ◌+◌, ◌-◌, ◌≤◌, ◌&&◌, ◌||◌, List, [], sym, subst, arith, ⊎_elim}
-use Rattle.lattice.specs.Family.{Family, IsFamily, union_of, inter_of, Covers}
-use Rattle.lattice.specs.Cofactors.{low_cofactor, high_cofactor, sub}
-use Rattle.lattice.specs.Basis.{standard_of, leads_of}
-use Rattle.lattice.specs.Operations.{IsClosed}
-use Rattle.lattice.specs.WorkingLists.{working_set, standard_list, leads_list, needs}
+use Rattle.lattice.specs.Words.{Family, IsFamily, union_of, inter_of, Covers, low_cofactor, high_cofactor, sub, standard_of, leads_of}
+use Rattle.lattice.specs.Words.{IsClosed, working_set, standard_list, leads_list, needs}
 use Rattle.lattice.specs.declared.op.Op.TheVariants.{Standard, Leads}
 use Rattle.lattice.proofs.Diagrams.{cases_empty, low_cofactor_whole, covers_append, covers_cons, covers_nil, covers_one}
 use Rattle.lattice.proofs.Polynomials.{IsFamily-combine, IsFamily_wider, IsFamily-low_cofactor, divides_le, standard_divisor}
@@ -24,8 +21,7 @@ use Rattle.std_monomials.proofs.LeadFamilies.{leads_list-some}
 -- with each standard monomial its divisors are standard
 pub standard_closed : (n : ℕ) (points monos : Family) → IsFamily n points → AreStandard n points monos → IsClosed monos
 standard_closed n points monos is are m d i div =
-    let of = (are m).0 i in
-    let le : d ≤ m = divides_le d m div in
+    let of = (are m).0 i in let le : d ≤ m = divides_le d m div in
     (are d).1 (omega (arith, le, of.0), standard_divisor n points is.below m d of.0 div of.1)
 
 -- ---- plans with every family have the working sets
@@ -38,8 +34,7 @@ module _ (plan : List Family) (n : ℕ) (any : (f : Family) → IsFamily n f →
   unfolding standard_list
   any_standard_list zero le f is = covers_nil n plan
   any_standard_list (suc d) le f is =
-      let less : d ≤ n = omega arith in
-      let either = union_of d (low_cofactor d f) (high_cofactor d f) in
+      let less : d ≤ n = omega arith in let either = union_of d (low_cofactor d f) (high_cofactor d f) in
       let both = inter_of d (low_cofactor d f) (high_cofactor d f) in
       let ef = IsFamily-combine (λ a b. a || b) d (low_cofactor d f) (high_cofactor d f) in
       let bf = IsFamily-combine (λ a b. a && b) d (low_cofactor d f) (high_cofactor d f) in
@@ -58,9 +53,7 @@ module _ (plan : List Family) (n : ℕ) (any : (f : Family) → IsFamily n f →
   unfolding leads_list
   any_leads_list zero le f = covers_nil n plan
   any_leads_list (suc d) le f =
-      let less : d ≤ n = omega arith in
-      let low = low_cofactor d f in
-      let high = high_cofactor d f in
+      let less : d ≤ n = omega arith in let low = low_cofactor d f in let high = high_cofactor d f in
       ⊎_elim (λ none. subst (λ k. Covers plan (working_set n (leads_list (suc d) k))) (sym none) (covers_nil n plan))
       (λ some. rw (leads_list-some d f some)
       (covers_append n plan (leads_list d low) _ (any_leads_list d less low)

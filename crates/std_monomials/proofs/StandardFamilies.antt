@@ -1,10 +1,7 @@
 -- The standard monomials over more variables, and cut at the first variable of the points, with what finding them needs.
-use Rattle.std.proofs.Common.{◌≡◌, ◌≢◌, ℕ, zero, suc, ◌<◌, ◌≤◌, ◌&&◌, ◌||◌, List, [], ◌∷◌, ◌++◌, refl, sym, ◌∙◌, ap, ap₂, subst}
-use Rattle.std.proofs.Common.{arith}
-use Rattle.lattice.specs.Family.{Family, IsFamily, union_of, inter_of, Covers}
-use Rattle.lattice.specs.Cofactors.{low_cofactor, high_cofactor, join, level}
-use Rattle.lattice.specs.Basis.{standard_of}
-use Rattle.lattice.specs.WorkingLists.{standard_list, operation_list, needs, working_set}
+use Rattle.std.proofs.Common.{◌≡◌, ◌≢◌, ℕ, zero, suc, ◌<◌, ◌≤◌, ◌&&◌, ◌||◌, List, [], ◌∷◌, ◌++◌, refl, sym, ◌∙◌, ap, ap₂, subst, arith}
+use Rattle.lattice.specs.Words.{Family, IsFamily, union_of, inter_of, Covers, low_cofactor, high_cofactor, join, level, standard_of}
+use Rattle.lattice.specs.Words.{standard_list, operation_list, needs, working_set}
 use Rattle.lattice.specs.declared.op.Op.TheVariants.{Standard}
 use Rattle.lattice.proofs.Diagrams.{IsFamily-nil, not_empty, steady, high_cofactor_none, low_cofactor_whole, join-nil, level-below}
 use Rattle.lattice.proofs.Diagrams.{combine-narrow, combine-right_empty, combine-right_empty_lost, covers_nil}
@@ -15,13 +12,7 @@ use Rattle.lattice.proofs.Polynomials.{IsFamily-combine, IsFamily_wider, IsFamil
 standard_of-more : (d : ℕ) (f : Family) → IsFamily d f → standard_of d [] ≡ [] → standard_of (suc d) f ≡ standard_of d f
 unfolding standard_of
 standard_of-more d f is nil =
-    let none : high_cofactor d f ≡ [] = high_cofactor_none d f is in
-    let low : low_cofactor d f ≡ f = low_cofactor_whole d f (IsFamily_wider d (suc d) f is (omega arith)) none in
-    let either : union_of d (low_cofactor d f) (high_cofactor d f) ≡ f = ap₂ (union_of d) low none
-    ∙ combine-right_empty (λ a b. a || b) refl d f is refl in
-    let both : inter_of d (low_cofactor d f) (high_cofactor d f) ≡ [] = ap₂ (inter_of d) low none
-    ∙ combine-right_empty_lost (λ a b. a && b) refl d f is refl in
-    ap₂ (join d) (ap (standard_of d) either) (ap (standard_of d) both ∙ nil) ∙ join-nil d (standard_of d f)
+    grind (arith, high_cofactor_none, low_cofactor_whole, IsFamily_wider, combine-right_empty, combine-right_empty_lost, join-nil)
 
 pub standard_of-nil : (d : ℕ) → standard_of d [] ≡ []
 unfolding standard_of
@@ -38,8 +29,7 @@ unfolding standard_list
 standard_list-more d f is = rw (high_cofactor_none d f is) refl
 
 standard_list-narrow : (d n : ℕ) (f : Family) → IsFamily d f → d ≤ n → standard_list n f ≡ standard_list d f
-standard_list-narrow d n f is le =
-    steady (λ i. standard_list i f) d n (λ k l. standard_list-more k f (IsFamily_wider d k f is l)) le
+standard_list-narrow d n f is le = steady (λ i. standard_list i f) d n (λ k l. standard_list-more k f (IsFamily_wider d k f is l)) le
 
 pub standard_list-full : (d : ℕ) (f : Family) → high_cofactor d f ≢ []
     → standard_list (suc d) f ≡ union_of d (low_cofactor d f) (high_cofactor d f) ∷ inter_of d (low_cofactor d f) (high_cofactor d f) ∷
@@ -69,8 +59,7 @@ needs-constant n f hs is = rw (needs-standard n f, standard_list-narrow 0 n f is
 pub first_full : (n d : ℕ) (f : Family) → IsFamily (suc d) f → d < n → level n f ≡ suc d → high_cofactor d f ≢ []
 first_full n d f is less lev none =
     let low : IsFamily d f = subst (IsFamily d) (low_cofactor_whole d f is none) (IsFamily-low_cofactor d f) in
-    let le : level n f ≤ d = level-below d n f low (omega arith) in
-    omega (arith, le, lev)
+    let le : level n f ≤ d = level-below d n f low (omega arith) in omega (arith, le, lev)
 
 -- the points of either half at the first variable of f, which d variables follow, and those of both
 abbrev pub either_of : ℕ → ℕ → Family → Family

@@ -1,11 +1,7 @@
 -- The steps of finding the standard monomials in a store.
-use Rattle.std.proofs.Common.{◌≡◌, ◌≢◌, ℕ, suc, ◌-◌, ◌<◌, ◌≤◌, Result, Ok, Err, IfOk, Some, List, [], ◌∷◌, ◌++◌, sym, ◌∙◌, ap, subst, arith}
-use Rattle.std.proofs.Common.{refl, append_assoc}
-use Rattle.lattice.specs.Family.{Family, IsFamily, union_of, inter_of, Covers}
-use Rattle.lattice.specs.Cofactors.{low_cofactor, high_cofactor, join, level, sub}
-use Rattle.lattice.specs.Basis.{standard_of}
-use Rattle.lattice.specs.Operations.{answer}
-use Rattle.lattice.specs.WorkingLists.{needs, standard_list, working_set}
+use Rattle.std.proofs.Common.{◌≡◌, ◌≢◌, ℕ, suc, ◌-◌, ◌<◌, ◌≤◌, Result, Ok, Err, IfOk, List, [], ◌∷◌, ◌++◌, subst, arith, refl, append_assoc}
+use Rattle.lattice.specs.Words.{Family, IsFamily, union_of, inter_of, Covers, low_cofactor, high_cofactor, join, level, sub, standard_of}
+use Rattle.lattice.specs.Words.{answer, needs, standard_list, working_set}
 use Rattle.lattice.specs.declared.op.Op.TheVariants.{Standard}
 use Rattle.lattice.proofs.Diagrams.{Has-head, Has-tail, Has-append_left, Has-append_right, level-below, IsFamily_level, covers_family}
 use Rattle.lattice.proofs.Diagrams.{covers_part}
@@ -43,15 +39,7 @@ module _ {s : State} {a : Handle} (call : Call s a) {t : State} where
   by_definition (Err e) does = tt
 
   pub constant_gives : Reads s t → a.0 < 2 → Does s a t (Ok a)
-  constant_gives reads small =
-      let is : IsFamily 0 (family s a) = constant s a call.sound small in
-      record {
-        grows = reads.grows;
-        ok = Grows-denotes s t a reads.grows call.known ∙ ap Some (sym (standard_of-constant s.vars (family s a) is));
-        held = needs-constant s.vars (family s a) t.held is;
-        quiet = reads.quiet;
-        full = tt;
-      }
+  constant_gives reads small = grind (arith, constant, Grows-denotes, standard_of-constant, needs-constant)
 
   pub looked_gives : {r : Handle} → Reads s t → IsResult t Standard a 0 r → Does s a t (Ok r)
   unfolding answer
@@ -105,9 +93,7 @@ module _ {s : State} {a : Handle} {var : ℕ} (at : First s a var) where
   -- the call for one of the two families of points, c
   module _ {t : State} {h : Handle} (c : Family) (reads : Reads s t) (is : Denotes t h c) (within : IsFamily d c) where
     pub next_falls : level t.vars (family t h) < level s.vars (family s a)
-    next_falls =
-        let le : level n c ≤ d = level-below d n c within (omega (arith, less)) in
-        rw (reads.grows.vars, Denotes-family t h c is, at.top) (omega (arith, le))
+    next_falls = grind (arith, level-below d n c within (omega (arith, less)), Denotes-family t h c is)
 
     pub next_call : IsSound t → Covers list (standard_list n c) → Call t h
     next_call sound part = record {
@@ -130,13 +116,7 @@ module _ {s q r t : State} {a : Handle} where
       → Cut s t a var low high
   cut_at low high at one two three l h =
       let before : Reads s r = Reads-trans s q r one two in
-      let same : family r a ≡ family s a = Grows-family s r a before.grows at.call.known in
-      record {
-        at = at;
-        reads = Reads-trans s r t before three;
-        low_at = rw (before.grows.vars, same) at l;
-        high_at = rw (before.grows.vars, same) at h;
-      }
+      grind (arith, Grows-family s r a before.grows at.call.known, Reads-trans s r t before three)
 
 -- in v either and both are the points of either half and those of both
 pub record Halved (s v : State) (a : Handle) (var : ℕ) (either both : Handle) : Type 0 where
@@ -168,23 +148,14 @@ module _ {s t : State} {a : Handle} {var : ℕ} {low high : Handle} (k : Cut s t
     at_u = to_u.reads
 
     inter_is : inter_of u.vars (family u low) (family u high) ≡ B
-    inter_is = rw (
-      at_u.grows.vars,
-      Denotes-family u low _ (united.grows.known low.0 _ k.low_at),
-      Denotes-family u high _ (united.grows.known high.0 _ k.high_at),
-    ) refl
+    inter_is = grind (arith, Denotes-family)
 
     pub inter_planned : Covers u.plan (sub u.vars (inter_of u.vars (family u low) (family u high)))
     inter_planned = rw (at_u.grows.plan, inter_is, at_u.grows.vars)
         (covers_family s.vars s.plan (list k.at) B (planned k.at) (search (Has-head, Has-tail)))
 
     pub halved : {v : State} {b : Handle} → Builds u v (Ok b) (inter_of u.vars (family u low) (family u high)) → Halved s v a var e b
-    halved shared = record {
-      at = k.at;
-      found = found_built B to_u inter_is shared;
-      either_at = shared.grows.known e.0 E (united.ok ∙ ap Some union_is);
-      both_at = shared.ok ∙ ap Some inter_is;
-    }
+    halved shared = grind (arith, found_built B to_u inter_is shared)
 
 module _ {s v : State} {a : Handle} {var : ℕ} {e b : Handle} (k : Halved s v a var e b) where
   abbrev either : Family

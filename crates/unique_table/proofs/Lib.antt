@@ -1,19 +1,7 @@
-mod Moves
+mod Lists
+mod Fitting
 mod Parts
-mod Pairs
-mod Merging
-mod Sound
-mod Entries
-mod Learning
-mod Probed
-mod FullTables
-mod Filling
-mod Passing
 mod Steps
-mod Visits
-mod Interning
-mod Nodes
-mod Unions
-mod Caching
 mod TestedStores
+mod Calls
 pub mod PassNeeds

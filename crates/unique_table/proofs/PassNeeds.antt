@@ -12,7 +12,5 @@ pub use Rattle.unique_table.proofs.TestedStores.{any_first}
 pub small_known : (p : Pass) (h : ℕ) → is_some ((pass_state p).known h) ≡ true → suc h < HANDLE_UNIT
 unfolding pass_state view_state
 small_known p h known =
-    let v = p.seat.me.0 in
-    let n : ℕ = 2 ^ v.terms.bits in
-    let most : n ≤ 8388608 = pow_mono (p.sound).bits_high in
+    let v = p.seat.me.0 in let n : ℕ = 2 ^ v.terms.bits in let most : n ≤ 8388608 = pow_mono (p.sound).bits_high in
     let less : h < n + 2 = (p.sound).small h _ (some_is (known_by v.known h) known) in omega arith

@@ -1,11 +1,8 @@
 -- What the tests rest on: stores with a plan that has every family.
-use Rattle.std.proofs.Common.{◌≡◌, ◌≢◌, ℕ, suc, ◌-◌, ◌%◌, ◌<◌, ◌≤◌, Result, Ok, Err, IfOk, Some, List, [], ◌∷◌, sym, refl, ap, ◌∙◌, subst}
-use Rattle.std.proofs.Common.{arith}
+use Rattle.std.proofs.Common.{◌≡◌, ◌≢◌, ℕ, suc, ◌-◌, ◌%◌, ◌<◌, ◌≤◌, Result, Ok, Err, IfOk, Some, List, [], ◌∷◌, refl, ap, ◌∙◌, subst, arith}
 use mathlib.Core.Logic.{dite}
 use native.Mathlib.Decide.{ℕ_discrete}
-use Rattle.lattice.specs.Family.{Family, IsFamily, Has}
-use Rattle.lattice.specs.Cofactors.{join}
-use Rattle.lattice.specs.WorkingLists.{working_set}
+use Rattle.lattice.specs.Words.{Family, IsFamily, Has, join, working_set}
 use Rattle.lattice.proofs.Diagrams.{IsFamily-nil, IsFamily-unit, IsFamily-join_suc}
 use Rattle.lattice.proofs.Polynomials.{IsFamily_wider}
 use Rattle.node_store.specs.Stores.{State, IsSound, Grows, Builds, family}
@@ -20,16 +17,13 @@ use Rattle.unique_table.specs.Tested.{IsOver}
 pub any_first : (s : State) (name : List ℕ) (bits vars : ℕ) (fs : List Family) → s ≡ first_state name bits vars fs
     → fs ≡ working_set vars (every_family vars) → MayHoldAny vars s
 unfolding plain_state
-any_first s name bits vars fs made plan =
-    let plain = MayHoldAny-made (plain_state vars 0 fs 0 []) vars 0 fs refl plan in
-    subst (MayHoldAny vars) (sym made) (record { vars_are = plain.vars_are; planned = plain.planned })
+any_first s name bits vars fs made plan = grind (arith, MayHoldAny-made (plain_state vars 0 fs 0 []) vars 0 fs refl plan)
 
 pub over_later : (s t : State) (d : ℕ) (h : Handle) → Grows s t → IsOver s d h → IsOver t d h
 over_later s t d h grows is = (is.0, grows.known h.0 is.0 is.1, is.2)
 
 pub constant_over : (s : State) (n d : ℕ) → IsSound s → IsOver s d (record { 0 = n % 2 })
-constant_over s n d ok = dite (ℕ_discrete (n % 2) 0)
-    (λ e. ([], ap s.known e ∙ ok.empty, IsFamily-nil d))
+constant_over s n d ok = dite (ℕ_discrete (n % 2) 0) (λ e. ([], ap s.known e ∙ ok.empty, IsFamily-nil d))
     (λ ne. let one : n % 2 ≡ 1 = omega arith in (0 ∷ [], ap s.known one ∙ ok.unit, IsFamily-unit d))
 
 module _ (t : State) (vars count var : ℕ) (lo hi : Handle) (ok : IsSound t) (any : MayHoldAny vars t) (some : count ≢ 0)
@@ -51,8 +45,7 @@ module _ (t : State) (vars count var : ℕ) (lo hi : Handle) (ok : IsSound t) (a
   pub over_grown : (u : State) (r : Result Handle Full) → Builds t u r (join (t.vars - var) (family t lo) (family t hi))
       → IfOk r (IsOver u count)
   over_grown u (Ok x) is =
-      let depth : t.vars - var ≡ d = omega (arith, inside, at) in
-      let same : suc d ≡ count = omega arith in
+      let depth : t.vars - var ≡ d = omega (arith, inside, at) in let same : suc d ≡ count = omega arith in
       let f : join (t.vars - var) (family t lo) (family t hi) ≡ join d l.0 h.0 = λ k. join (depth k) (Denotes-family t lo l.0 l.1 k)
       (Denotes-family t hi h.0 h.1 k) in
       (join d l.0 h.0, is.ok ∙ ap Some f, subst (λ (k : ℕ). IsFamily k (join d l.0 h.0)) same whole)

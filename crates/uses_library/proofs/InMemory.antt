@@ -1,7 +1,7 @@
 -- What a sink in memory gained, and counts of faults that did not rise.
 use Rattle.std.proofs.Common.{◌≡◌, ℕ, List, [], ◌++◌, Some, arith, subst}
 use Rattle.std.specs.Io.KnownBytes.{Appends}
-use Rattle.lattice.specs.Counts.{Rose}
+use Rattle.lattice.specs.Words.{Rose}
 
 -- what was held in the beginning is nothing
 pub gained : (old new text : List ℕ) → old ≡ [] → Appends (Some old) (Some new) text → new ≡ text

@@ -3,11 +3,8 @@
 use Rattle.std.proofs.Common.{◌≡◌, ℕ, ◌^◌, ◌<◌, true, ltb, List, [], length, ap, subst, sym, ◌∙◌}
 use Rattle.std.specs.List.{All}
 use Rattle.std.proofs.lemmas.Bool.{and_parts}
-use Rattle.lattice.specs.Family.{Family, has, family_where, AreDisjoint}
-use Rattle.lattice.specs.Polynomial.{value}
-use Rattle.lattice.specs.Interpolation.{Fits, IsLeast}
+use Rattle.lattice.specs.Words.{Family, has, family_where, AreDisjoint, value, Fits, IsLeast, working_set}
 use Rattle.lattice.proofs.Polynomials.{All-from_has, All-has, has-family_where, has-family_where_below}
-use Rattle.lattice.specs.WorkingLists.{working_set}
 use Rattle.node_store.specs.AnyFamily.{MayHoldAny, every_family}
 use Rattle.node_store.specs.Plain.{plain_state}
 use Rattle.node_store.specs.Stores.{State, Denotes, Grows, IsFull, family}
@@ -70,8 +67,7 @@ module _ (n slots : ℕ) (families : List Family) (s t u : State) (made : s ≡ 
 
     pub least_on : (p : Family) → All (λ x. x < 2 ^ n) zeros → All (λ x. x < 2 ^ n) ones
         → IsLeast u.vars (family u a) (family u b) p → IsLeast n zeros ones p
-    least_on p zeros_below ones_below =
-        rw (zeros_are, ones_are, vars_are) (λ is. least_on_lists n zeros ones p zeros_below ones_below is)
+    least_on p zeros_below ones_below = rw (zeros_are, ones_are, vars_are) (λ is. least_on_lists n zeros ones p zeros_below ones_below is)
 
 -- where an intern was refused on the way to u, the families of the plan are more than the slots
 pub over_plan : (n slots : ℕ) (families : List Family) (s t u : State) → s ≡ plain_state n slots families 0 [] → Grows s u → IsFull t u

@@ -1,5 +1,3 @@
-mod SplitPoints
-mod NormalForms
 mod LeadElements
 mod AnyElements
 mod ListedPoints

@@ -1,14 +1,12 @@
 -- Leads of small sets of points by computation.
 use Rattle.std.proofs.Common.{◌≡◌, ℕ, true, List, [], ◌∷◌, refl}
-use Rattle.lattice.specs.Family.{divides, has, numbers_below, family_where, combine}
-use Rattle.lattice.specs.Basis.{IsLead, standard_of, has_divisors, leads_of}
-use Rattle.lattice.specs.Cofactors.{low_cofactor, high_cofactor, join}
+use Rattle.lattice.specs.Words.{divides, has, numbers_below, family_where, combine, IsLead, standard_of, has_divisors, leads_of}
+use Rattle.lattice.specs.Words.{low_cofactor, high_cofactor, join}
 use Rattle.lattice.proofs.Polynomials.{IsFamily-family_where, leads_are_minimal}
 
 is_lead : (n : ℕ) (points : List ℕ) (m : ℕ)
     → has (leads_of n (standard_of n (family_where n (has points)))) m ≡ true → IsLead n (family_where n (has points)) m
-is_lead n points m i =
-    ((leads_are_minimal n (family_where n (has points)) (IsFamily-family_where n (has points)) m).0 i).1
+is_lead n points m i = ((leads_are_minimal n (family_where n (has points)) (IsFamily-family_where n (has points)) m).0 i).1
 
 -- the leads of the tests, by computation
 pub leads : IsLead 2 (family_where 2 (has (3 ∷ 0 ∷ []))) 2 × IsLead 2 (family_where 2 (has (0 ∷ 2 ∷ 3 ∷ []))) 3

@@ -1,9 +1,10 @@
 -- Telling watchers one after another, and keeping those with patience in front.
-use Rattle.std.proofs.Common.{Bool, ◌≡◌, ◌∙◌, ◌≤◌, ◌<◌, ◌+◌, ◌-◌, ◌++◌, ◌∷◌, [], List, ℕ, ap, ap₂, append-nil, arith, cond, false, inl, inr}
-use Rattle.std.proofs.Common.{length, map, refl, subst, suc, sym, take, true≢false, zero}
+use Rattle.std.proofs.Common.{Bool, ◌≡◌, ◌∙◌, ◌≤◌, ◌<◌, ◌+◌, ◌-◌, ◌++◌, ◌∷◌, [], List, ℕ, ap, append-nil, arith, false, length, refl, sym}
+use Rattle.std.proofs.Common.{take}
 use Rattle.std.specs.Prelude.{IsTrue, filter, nat_lt, swap}
 use Rattle.std.specs.List.{All, slice_index_or, slice_set}
-use Rattle.std.proofs.lemmas.Bool.{cases_lt, lt-ltb}
+use Rattle.std.proofs.lemmas.Bool.{lt-ltb}
+use Rattle.std.proofs.lemmas.Grind.{common_steps}
 use Rattle.std.proofs.lemmas.List.{get_or-map, get_or-set_other, get_or-set_same, length-map, length-set, map-append, take-set, take-set-le}
 use Rattle.std.proofs.lemmas.List.{take_more, take_more_set}
 use Rattle.std.proofs.lemmas.List.Edits.{length-swap, swap_is}
@@ -22,8 +23,7 @@ pub record IsToldTo {W : Type 0} (old now : List W) (told : W → List Note) (pa
 
 -- at first none was told
 pub none_told : {W : Type 0} {ws : List W} {told : W → List Note} {patience : W → ℕ} {note : Note}
-    → All (λ s. length s.told < 64) (states_by told patience ws)
-    → IsToldTo ws ws told patience note 0 0
+    → All (λ s. length s.told < 64) (states_by told patience ws) → IsToldTo ws ws told patience note 0 0
 none_told {W = W} {ws = ws} {told = told} {patience = patience} room =
     let state : W → WatcherState = λ w. record { told = told w; patience = patience w } in
     record {
@@ -32,48 +32,22 @@ none_told {W = W} {ws = ws} {told = told} {patience = patience} room =
       at_within = omega arith;
       left = refl;
       untold = λ k d high. refl;
-      room = λ k d high lt.
-          let has : length (slice_index_or (states_by told patience ws) k (state d)).told < 64 =
-          room k (state d) (subst (λ n. k < n) (sym (length-map ws state)) lt) in
-          subst (λ (s : WatcherState). length s.told < 64) (get_or-map state ws k d (state d) lt) has;
+      room = λ k d high lt. grind (arith, room k (state d), length-map ws state, get_or-map state ws k d (state d) lt);
     }
 
 -- one more watcher, the last
 left_after-push : (note : Note) (ss : List WatcherState) (s : WatcherState)
     → left_after note (ss ++ s ∷ []) ≡ left_after note ss ++ left_after note (s ∷ [])
-left_after-push note ss s = ap (map (after_note note)) (filter-append (λ (t : WatcherState). nat_lt 0 t.patience) ss (s ∷ []))
-    ∙ map-append (after_note note) (filter (λ (t : WatcherState). nat_lt 0 t.patience) ss)
-    (filter (λ (t : WatcherState). nat_lt 0 t.patience) (s ∷ []))
-
-left_one : (note : Note) (s : WatcherState) → 1 ≤ s.patience → left_after note (s ∷ []) ≡ after_note note s ∷ []
-left_one note s some = ap (λ (b : Bool). map (after_note note) (cond b (s ∷ []) [])) (lt-ltb 0 s.patience some)
-
-left_none : (note : Note) (s : WatcherState) → s.patience ≡ 0 → left_after note (s ∷ []) ≡ []
-left_none note s none = ap (λ (p : ℕ). map (after_note note) (cond (nat_lt 0 p) (s ∷ []) [])) none
+left_after-push note ss s = simp (filter-append, map-append)
 
 -- the place of the last that is kept and the place of the next one, swapped
 take-swap : {W : Type 0} (xs : List W) (kept at : ℕ) (x : W) → kept ≤ at → at < length xs
     → take (kept + 1) (swap xs kept at) ≡ take kept xs ++ slice_index_or xs at x ∷ []
-take-swap {W = W} xs kept at x below low =
-    ap (take (kept + 1)) (sym (swap_is xs kept at x (let e = below in omega arith) low)) ∙ elim (cases_lt kept at) [
-      | inl less ↦ take-set-le (kept + 1) (slice_set xs kept (slice_index_or xs at x)) at (slice_index_or xs kept x) (omega arith)
-          ∙ take_more_set xs kept (slice_index_or xs at x) (omega arith)
-      | inr more ↦
-          let same : kept ≡ at = omega arith in
-          let w = slice_index_or xs at x in
-          let long = length-set xs at w in
-          let here : take (at + 1) (slice_set (slice_set xs at w) at w) ≡ take at xs ++ w ∷ [] =
-          take_more_set (slice_set xs at w) at w (omega arith) ∙ ap (λ (ws : List W). ws ++ w ∷ []) (take-set xs at w) in
-          subst (λ (k : ℕ). take (k + 1) (slice_set (slice_set xs k w) at (slice_index_or xs k x)) ≡ take k xs ++ w ∷ []) (sym same) here
-    ]
+take-swap xs kept at x below low = rw (← swap_is xs kept at x (omega arith) low) (grind (arith, common_steps))
 
 get_or-swap_after : {W : Type 0} (xs : List W) (kept at k : ℕ) (d : W) → kept ≤ at → at < length xs → at + 1 ≤ k
     → slice_index_or (swap xs kept at) k d ≡ slice_index_or xs k d
-get_or-swap_after xs kept at k d below low high =
-    let first : kept < length xs = omega arith in
-    ap (λ (ys : List _). slice_index_or ys k d) (sym (swap_is xs kept at d first low))
-    ∙ get_or-set_other (slice_set xs kept (slice_index_or xs at d)) at k (slice_index_or xs kept d) d (λ e. omega arith)
-    ∙ get_or-set_other xs kept k (slice_index_or xs at d) d (λ e. omega arith)
+get_or-swap_after xs kept at k d below low high = rw (← swap_is xs kept at d (omega arith) low) (grind (arith, get_or-set_other))
 
 module _ {W : Type 0} {old now : List W} {told : W → List Note} {patience : W → ℕ} {note : Note} {kept at : ℕ}
     (before : IsToldTo old now told patience note kept at) where
@@ -83,11 +57,9 @@ module _ {W : Type 0} {old now : List W} {told : W → List Note} {patience : W 
   next_left : {x : W} → at < length now → x ≡ slice_index_or now at x → left_after note (states_by told patience (take (at + 1) old))
       ≡ left_after note (states_by told patience (take at old)) ++ left_after note (state x ∷ [])
   next_left {x = x} low is =
-      let in_old : at < length old = subst (λ n. at < n) before.same_length low in
       let next : slice_index_or old at x ≡ x = sym (is ∙ before.untold at x (omega arith)) in
-      ap (λ (ws : List W). left_after note (map state ws)) (take_more old at x in_old ∙ ap (λ (w : W). take at old ++ w ∷ []) next)
-      ∙ ap (left_after note) (map-append state (take at old) (x ∷ []))
-      ∙ left_after-push note (states_by told patience (take at old)) (state x)
+      rw (take_more old at x (grind (arith, before.same_length)), next, map-append state (take at old) (x ∷ []))
+      (left_after-push note (states_by told patience (take at old)) (state x))
 
   -- one more was told, and what is left of it stands behind those that were left
   one_told : {x : W} → at < length now → x ≡ slice_index_or now at x → (now' : List W) (kept' : ℕ) → length now' ≡ length now
@@ -97,11 +69,10 @@ module _ {W : Type 0} {old now : List W} {told : W → List Note} {patience : W 
   one_told {x = x} low is now' kept' long below same left = record {
     same_length = long ∙ before.same_length;
     kept_below = below;
-    at_within = let lengths = before.same_length in omega arith;
+    at_within = grind (arith, before.same_length);
     left = left ∙ ap (λ (ss : List WatcherState). ss ++ left_after note (state x ∷ [])) before.left ∙ sym (next_left low is);
     untold = λ k d high. same k d high ∙ before.untold k d (omega arith);
-    room = λ k d high lt. subst (λ (w : W). length (told w) < 64) (sym (same k d high))
-        (before.room k d (omega arith) (subst (λ n. k < n) long lt));
+    room = λ k d high lt. rw (same k d high) (before.room k d (omega arith) (omega arith));
   }
 
   module _ {now' : List W} {kept' : ℕ} {x y : W} (low : at < length now) (is : x ≡ slice_index_or now at x) where
@@ -109,31 +80,22 @@ module _ {W : Type 0} {old now : List W} {told : W → List Note} {patience : W 
     pub one_dropped : now' ≡ slice_set now at y → kept' ≡ kept → told y ≡ told x ++ note ∷ [] → patience y ≡ patience x - 1 → patience x ≡ 0
         → IsToldTo old now' told patience note kept' (at + 1)
     one_dropped now_is kept_is told_is patience_is none =
-        let below = before.kept_below in
-        rw (now_is, kept_is) (one_told low is (slice_set now at y) kept (length-set now at y) (omega arith)
+        rw (now_is, kept_is) (one_told low is (slice_set now at y) kept (length-set now at y) (let b = before.kept_below in omega arith)
         (λ k d high. get_or-set_other now at k y d (λ e. omega arith))
-        (ap (states_by told patience) (take-set-le kept now at y below) ∙ sym (ap (λ (ss : List WatcherState). states_by told patience
-        (take kept now) ++ ss) (left_none note (state x) none) ∙ append-nil _)))
+        (rw (take-set-le kept now at y before.kept_below, none) (sym (append-nil _))))
 
     -- one with patience is put behind those that are left
     pub one_kept : now' ≡ swap (slice_set now at y) kept at → kept' ≡ kept + 1 → told y ≡ told x ++ note ∷ [] → patience y ≡ patience x - 1
         → 1 ≤ patience x → IsToldTo old now' told patience note kept' (at + 1)
     one_kept now_is kept_is told_is patience_is some =
-        let ys = slice_set now at y in
-        let long = length-set now at y in
-        let below = before.kept_below in
-        let in_ys : at < length ys = omega arith in
+        let ys = slice_set now at y in let long = length-set now at y in
+        let below = before.kept_below in let in_ys : at < length ys = omega arith in
         let state_is : state y ≡ after_note note (state x) = λ i. record { told = told_is i; patience = patience_is i } in
-        let y_is : slice_index_or ys at y ≡ y = get_or-set_same now at y y low in
-        let front : take (kept + 1) (swap ys kept at) ≡ take kept now ++ y ∷ [] =
-        take-swap ys kept at y below in_ys ∙ ap₂ (λ (ws : List W) (w : W). ws ++ w ∷ []) (take-set-le kept now at y below) y_is in
         rw (now_is, kept_is) (one_told low is (swap ys kept at) (kept + 1) (length-swap ys kept at ∙ long) (omega arith)
         (λ k d high. get_or-swap_after ys kept at k d below in_ys high ∙ get_or-set_other now at k y d (λ e. omega arith))
-        (ap (states_by told patience) front ∙ map-append state (take kept now) (y ∷ [])
-        ∙ ap (λ (ss : List WatcherState). states_by told patience (take kept now) ++ ss)
-        (ap (λ (t : WatcherState). t ∷ []) state_is ∙ sym (left_one note (state x) some))))
+        (rw (take-swap ys kept at y below in_ys, take-set-le kept now at y below, get_or-set_same now at y y low)
+        (rw (map-append state (take kept now) (y ∷ []), state_is, lt-ltb 0 (patience x) some) refl)))
 
 -- an answer of false tells that there was no patience
 pub no_patience : (p : ℕ) (b : Bool) → (1 ≤ p → IsTrue b) → b ≡ false → p ≡ 0
-no_patience zero b answers is = refl
-no_patience (suc p) b answers is = absurd (true≢false (sym (answers (omega arith)) ∙ is))
+no_patience p b answers is = grind (arith, answers)

@@ -1,6 +1,6 @@
 use Rattle.std.proofs.Common.{length, map, reverse, sym, subst}
 use Rattle.std.specs.List.{All}
-use Rattle.lattice.specs.Family.{IsFamily}
+use Rattle.lattice.specs.Words.{IsFamily}
 use Rattle.anf_printer.proofs.answer.output_text.Goals as goal
 
 pub push_basis-requires : goal.push_basis-requires

@@ -1,5 +1,5 @@
 use Rattle.std.proofs.Common.{length, reverse, sym, subst}
-use Rattle.lattice.specs.Family.{IsFamily}
+use Rattle.lattice.specs.Words.{IsFamily}
 use Rattle.anf_printer.proofs.Texts.{element_is_family}
 use Rattle.anf_printer.proofs.answer.push_elements.Goals as goal
 

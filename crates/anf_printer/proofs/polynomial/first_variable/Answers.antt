@@ -1,5 +1,5 @@
 use Rattle.std.proofs.Common.{◌≡◌, ◌*◌, ◌%◌, ◌^◌, arith}
-use Rattle.anf_printer.proofs.Variables.{variables_of_first, weight_is_below}
+use Rattle.anf_printer.proofs.Texts.{variables_of_first, weight_is_below}
 use Rattle.anf_printer.proofs.polynomial.first_variable.Goals as goal
 
 pub overflow_sub-name-2 : goal.overflow_sub-name-2

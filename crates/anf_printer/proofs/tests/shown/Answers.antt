@@ -2,7 +2,7 @@ use Rattle.std.proofs.Common.{[], ◌∷◌, map, reverse, sym, ap, ◌∙◌, s
 use Rattle.std.specs.List.{All}
 use Rattle.std.proofs.lemmas.List.{map-append}
 use Rattle.std.proofs.lemmas.List.Elements.{All-push}
-use Rattle.lattice.specs.Family.{IsFamily}
+use Rattle.lattice.specs.Words.{IsFamily}
 use Rattle.anf_printer.proofs.tests.shown.Goals as goal
 
 pub loop-element-preserved : goal.loop-element-preserved

@@ -1,6 +1,6 @@
 use Rattle.std.proofs.Common.{ℕ, arith}
 use Rattle.node_store.proofs.StoreLaws.{failed, reads_one, then_call}
-use Rattle.bool_poly.proofs.OnesSteps.{IsStarted, OnesFinish, high_falls, low_requires, ones_in_row, started, sum_asks, with_later}
+use Rattle.bool_poly.proofs.OnesSteps.{IsStarted, OnesFinish, high_falls, low_falls, ones_in_row, started, sum_asks, with_later}
 use Rattle.bool_poly.proofs.points.+ones_of.Goals as goal
 use Rattle.bool_poly.proofs.points.+ones_of.Goals.{In-Halves, In_ok-hi-in-Halves}
 use Rattle.bool_poly.proofs.points.+ones_of.Given.{Over}
@@ -24,7 +24,7 @@ whole g m c =
 
 pub ones_of-requires : goal.ones_of-requires
 ones_of-requires g m c κs within =
-    let falls = (low_requires (at_cut g m (goal.at.ones_of-requires g m c).In-Halves)).0 in
+    let falls = low_falls (at_cut g m (goal.at.ones_of-requires g m c).In-Halves).cut in
     let asks = c.in-Halves.ensures.low in
     (omega (arith, falls, c.decreases), (within, (asks.polynomial, (asks.points, asks.planned))))
 
@@ -56,10 +56,8 @@ returns-in_err-hi-in-Halves g m c =
 
 pub finish_ones-requires : goal.finish_ones-requires
 finish_ones-requires g m c =
-    let all = whole g m (goal.at.finish_ones-requires g m c).In_ok-hi-in-Halves in
-    let is = c.in-Halves.ensures in
+    let all = whole g m (goal.at.finish_ones-requires g m c).In_ok-hi-in-Halves in let is = c.in-Halves.ensures in
     record { asks = all.asks; varies = is.varies; filled = is.filled; cut = all.cut; halves = all.halves }
 
 pub returns-in_ok-hi-in-Halves : goal.returns-in_ok-hi-in-Halves
-returns-in_ok-hi-in-Halves g m c =
-    (whole g m (goal.at.returns-in_ok-hi-in-Halves g m c).In_ok-hi-in-Halves).given c.finish_ones.ensures
+returns-in_ok-hi-in-Halves g m c = (whole g m (goal.at.returns-in_ok-hi-in-Halves g m c).In_ok-hi-in-Halves).given c.finish_ones.ensures

@@ -1,5 +1,5 @@
 use Rattle.std.proofs.Common.{max}
-use Rattle.lattice.specs.Cofactors.{level}
+use Rattle.lattice.specs.Words.{level}
 use Rattle.node_store.specs.Stores.{family}
 use Rattle.bool_poly.proofs.points.+ones_of.Given as goal
 

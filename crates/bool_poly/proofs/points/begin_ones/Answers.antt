@@ -1,9 +1,9 @@
-use Rattle.std.proofs.Common.{arith, refl}
-use Rattle.lattice.specs.Operations.{answer}
+use Rattle.std.proofs.Common.{arith, refl, inl, inr}
+use Rattle.lattice.specs.Words.{answer}
 use Rattle.lattice.specs.declared.op.Op.TheVariants.{Ones}
 use Rattle.node_store.proofs.StoreLaws.{handles, kept_given, then_reads}
 use Rattle.set_algebra.proofs.Levels.{cofactors_before}
-use Rattle.bool_poly.proofs.OnesSteps.{IsStarted, at_no_polynomial, at_no_points, at_unit, low_requires, started, with_asks}
+use Rattle.bool_poly.proofs.OnesSteps.{IsStarted, at_nothing, at_unit, low_asks, started, with_asks}
 use Rattle.bool_poly.proofs.points.begin_ones.Goals as goal
 use Rattle.bool_poly.proofs.points.begin_ones.Goals.{After-cut-cofactors}
 use Rattle.bool_poly.proofs.points.begin_ones.Given.{Over}
@@ -16,11 +16,12 @@ at_cut g c =
     (cofactors_before c.look.ensures.reads c.requires.polynomial c.requires.points c.cut-cofactors.ensures.cofactors)
 
 pub returns-then-h-eq0-clause-done : goal.returns-then-h-eq0-clause-done
-returns-then-h-eq0-clause-done g c = at_no_polynomial c.args.h c.args.set (g.met.S.Store.sound c.args.store.now) c.if-h-eq0.true
+returns-then-h-eq0-clause-done g c =
+    at_nothing c.args.h c.args.set (g.met.S.Store.sound c.args.store.now) (record { 0 = 0 }) refl (inl c.if-h-eq0.true)
 
 pub returns-then-set-eq0-clause-done : goal.returns-then-set-eq0-clause-done
 returns-then-set-eq0-clause-done g c =
-    at_no_points c.args.h c.args.set (g.met.S.Store.sound c.args.store.now) c.requires.points c.if-set-eq0.true
+    at_nothing c.args.h c.args.set (g.met.S.Store.sound c.args.store.now) c.args.set c.if-set-eq0.true (inr c.if-set-eq0.true)
 
 pub returns-then-h-eq1-clause-done : goal.returns-then-h-eq1-clause-done
 returns-then-h-eq1-clause-done g c =
@@ -39,9 +40,7 @@ returns-clause-cofactors g c =
     cofactors_before c.look.ensures.reads c.requires.polynomial c.requires.points c.cut-cofactors.ensures.cofactors
 
 pub returns-clause-low : goal.returns-clause-low
-returns-clause-low g c =
-    let low = low_requires (at_cut g (goal.at.returns-clause-low g c).After-cut-cofactors) in
-    record { polynomial = low.1; points = low.2; planned = low.3 }
+returns-clause-low g c = low_asks (at_cut g (goal.at.returns-clause-low g c).After-cut-cofactors)
 
 pub returns-clause-high : goal.returns-clause-high
 returns-clause-high g c =

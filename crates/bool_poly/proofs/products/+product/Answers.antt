@@ -1,11 +1,13 @@
 use Rattle.std.proofs.Common.{ℕ, arith, refl}
-use Rattle.lattice.specs.Operations.{answer}
+use Rattle.lattice.specs.Words.{answer}
 use Rattle.lattice.specs.declared.op.Op.TheVariants.{Product}
-use Rattle.node_store.proofs.StoreLaws.{allowed_all, failed, given_kept, handles, kept_given, node_parts, node_planned, then_call}
-use Rattle.node_store.proofs.StoreLaws.{then_reads}
+use Rattle.node_store.proofs.StoreLaws.{allowed_all, failed, given_kept, handles, kept_given, then_call, then_reads, grow_parts}
+use Rattle.node_store.proofs.StoreLaws.{grow_planned}
+use Rattle.set_algebra.proofs.Levels.{cofactors_before}
+use Rattle.bool_poly.proofs.OnesSteps.{low_falls}
 use Rattle.bool_poly.proofs.ProductSteps.{product_values, at_first, at_second, swap_planned, swap_given, started, low_requires}
-use Rattle.bool_poly.proofs.ProductSteps.{first_requires, second_requires, after_second, both_requires, after_both, high_requires, grown}
-use Rattle.bool_poly.proofs.ProductSteps.{IsStarted, given}
+use Rattle.bool_poly.proofs.ProductSteps.{first_requires, second_requires, both_falls, both_requires, high_requires, halves, IsStarted}
+use Rattle.bool_poly.proofs.ProductSteps.{given}
 use Rattle.bool_poly.proofs.products.+product.Goals as goal
 use Rattle.bool_poly.proofs.products.+product.Goals.{After-cut-c}
 use Rattle.bool_poly.proofs.products.+product.Given.{Over}
@@ -14,7 +16,8 @@ at_cut : (g : Over) (m : ℕ) (c : After-cut-c g m)
     → IsStarted (g.S.Store.state c.args.store.now) (g.S.Store.state c.cut-c.new.store) c.args.a c.args.b c.cut-c.result
 at_cut g m c =
     started (g.met.S.Store.sound c.args.store.now) c.requires.a c.requires.b c.if-a-eq0.false c.if-b-eq1.false
-    c.if-b-eq0.false c.if-a-eq1.false c.requires.planned c.look.ensures.reads c.cut-c.ensures.reads c.cut-c.ensures.cofactors
+    c.if-b-eq0.false c.if-a-eq1.false c.requires.planned (then_reads c.look.ensures.reads c.cut-c.ensures.reads)
+    (cofactors_before c.look.ensures.reads c.requires.a c.requires.b c.cut-c.ensures.cofactors)
 
 pub returns-then-a-eq0 : goal.returns-then-a-eq0
 returns-then-a-eq0 g m c =
@@ -44,17 +47,15 @@ returns-in-Some g m c =
 
 pub product-requires-2 : goal.product-requires-2
 product-requires-2 g m c κs within =
-    let low = low_requires (at_cut g m (goal.at.product-requires-2 g m c).After-cut-c) in
-    (omega (arith, low.0, c.decreases), (within, (low.1, (low.2, low.3))))
+    let start = at_cut g m (goal.at.product-requires-2 g m c).After-cut-c in
+    (omega (arith, low_falls start.cut, c.decreases), (within, low_requires start))
 
 pub returns-in_err-lo-clause-result : goal.returns-in_err-lo-clause-result
 returns-in_err-lo-clause-result g m c =
     failed c.from_residual.ensures.0 (then_reads c.look.ensures.reads c.cut-c.ensures.reads) c.in_err-lo.ensures.result
 
 pub sum-requires : goal.sum-requires
-sum-requires g m c =
-    let first = first_requires (at_cut g m (goal.at.sum-requires g m c).After-cut-c) c.in_ok-lo.ensures.result in
-    record { a = first.0; b = first.1; planned = first.2 }
+sum-requires g m c = grind (arith, first_requires (at_cut g m (goal.at.sum-requires g m c).After-cut-c) c.in_ok-lo.ensures.result)
 
 pub returns-in_err-a_sum-clause-result : goal.returns-in_err-a_sum-clause-result
 returns-in_err-a_sum-clause-result g m c =
@@ -75,14 +76,13 @@ returns-in_err-b_sum-clause-result g m c =
 pub product-requires-3 : goal.product-requires-3
 product-requires-3 g m c κs within =
     let start = at_cut g m (goal.at.product-requires-3 g m c).After-cut-c in
-    let both = both_requires start c.in_ok-lo.ensures.result c.in_ok-a_sum.ensures c.in_ok-b_sum.ensures in
-    (omega (arith, both.0, c.decreases), (within, (both.1, (both.2, both.3))))
+    let falls = both_falls start c.in_ok-lo.ensures.result c.in_ok-a_sum.ensures c.in_ok-b_sum.ensures in
+    (omega (arith, falls, c.decreases), (within, both_requires start c.in_ok-lo.ensures.result c.in_ok-a_sum.ensures c.in_ok-b_sum.ensures))
 
 pub returns-in_err-both-clause-result : goal.returns-in_err-both-clause-result
 returns-in_err-both-clause-result g m c =
-    let start = at_cut g m (goal.at.returns-in_err-both-clause-result g m c).After-cut-c in
-    failed c.from_residual-in_err-both.ensures.0 (after_second start c.in_ok-lo.ensures.result c.in_ok-a_sum.ensures c.in_ok-b_sum.ensures)
-    c.in_err-both.ensures.result
+    failed c.from_residual-in_err-both.ensures.0 (then_call (then_call (then_call (then_reads c.look.ensures.reads c.cut-c.ensures.reads)
+    c.in_ok-lo.ensures.result) c.in_ok-a_sum.ensures) c.in_ok-b_sum.ensures) c.in_err-both.ensures.result
 
 pub sum-requires-3 : goal.sum-requires-3
 sum-requires-3 g m c =
@@ -92,36 +92,35 @@ sum-requires-3 g m c =
 
 pub returns-in_err-hi-clause-result : goal.returns-in_err-hi-clause-result
 returns-in_err-hi-clause-result g m c =
-    let start = at_cut g m (goal.at.returns-in_err-hi-clause-result g m c).After-cut-c in
-    failed c.from_residual-in_err-hi.ensures.0
-    (after_both start c.in_ok-lo.ensures.result c.in_ok-a_sum.ensures c.in_ok-b_sum.ensures c.in_ok-both.ensures.result)
+    failed c.from_residual-in_err-hi.ensures.0 (then_call (then_call (then_call (then_call (then_reads c.look.ensures.reads
+    c.cut-c.ensures.reads) c.in_ok-lo.ensures.result) c.in_ok-a_sum.ensures) c.in_ok-b_sum.ensures) c.in_ok-both.ensures.result)
     c.in_err-hi.ensures
 
 pub grow-requires : goal.grow-requires
 grow-requires g m c =
     let start = at_cut g m (goal.at.grow-requires g m c).After-cut-c in
-    let may = grown start c.in_ok-lo.ensures.result c.in_ok-a_sum.ensures c.in_ok-b_sum.ensures c.in_ok-both.ensures.result
-    c.in_ok-hi.ensures in
-    record { parts = node_parts may; planned = node_planned may (g.met.S.Store.sound c.sum-3.new.store) }
+    let may = halves start c.in_ok-lo.ensures.result c.in_ok-a_sum.ensures c.in_ok-b_sum.ensures c.in_ok-both.ensures.result
+    (g.met.S.Store.sound c.sum-3.new.store) c.in_ok-hi.ensures in
+    record { parts = grow_parts may; planned = grow_planned may }
 
 pub returns-in_err-r-clause-result : goal.returns-in_err-r-clause-result
 returns-in_err-r-clause-result g m c =
     let start = at_cut g m (goal.at.returns-in_err-r-clause-result g m c).After-cut-c in
-    let may = grown start c.in_ok-lo.ensures.result c.in_ok-a_sum.ensures c.in_ok-b_sum.ensures c.in_ok-both.ensures.result
-    c.in_ok-hi.ensures in
-    failed c.from_residual-in_err-r.ensures.0 may.reads c.in_err-r.ensures
+    let may = halves start c.in_ok-lo.ensures.result c.in_ok-a_sum.ensures c.in_ok-b_sum.ensures c.in_ok-both.ensures.result
+    (g.met.S.Store.sound c.sum-3.new.store) c.in_ok-hi.ensures in
+    failed c.from_residual-in_err-r.ensures.0 may.found.reads c.in_err-r.ensures
 
 pub keep-requires : goal.keep-requires
 unfolding answer
 keep-requires g m c =
     let start = at_cut g m (goal.at.keep-requires g m c).After-cut-c in
     given_kept (handles Product refl refl c.requires.a c.requires.b) (allowed_all Product refl (λ e. cc) (λ e. cc) (λ e. cc))
-    (given start c.in_ok-lo.ensures.result c.in_ok-a_sum.ensures c.in_ok-b_sum.ensures c.in_ok-both.ensures.result c.in_ok-hi.ensures
-    c.in_ok-r.ensures)
+    (given start c.in_ok-lo.ensures.result c.in_ok-a_sum.ensures c.in_ok-b_sum.ensures c.in_ok-both.ensures.result
+    (g.met.S.Store.sound c.sum-3.new.store) c.in_ok-hi.ensures c.in_ok-r.ensures)
 
 pub returns : goal.returns
 returns g m c =
     let start = at_cut g m (goal.at.returns g m c).After-cut-c in
     let result = given start c.in_ok-lo.ensures.result c.in_ok-a_sum.ensures c.in_ok-b_sum.ensures c.in_ok-both.ensures.result
-    c.in_ok-hi.ensures c.in_ok-r.ensures in
+    (g.met.S.Store.sound c.sum-3.new.store) c.in_ok-hi.ensures c.in_ok-r.ensures in
     rw c.keep.ensures (record { result = result; value = product_values c.args.a c.args.b result })

@@ -1,8 +1,15 @@
-use Rattle.std.proofs.Common.{arith}
-use Rattle.node_store.proofs.StoreLaws.{Reads-trans, failed, node_builds, node_parts, node_planned}
-use Rattle.bool_poly.proofs.NodeLemmas.{at_node, at_node_later, low_call, high_call, lows_planned, after_low, highs_planned, both_grown}
-use Rattle.bool_poly.proofs.VariableSteps.{times_after, times_values, times_kept, times_result, node_after, times_acts}
+use Rattle.std.proofs.Common.{ℕ, arith}
+use Rattle.node_store.proofs.StoreLaws.{failed, node_builds, node_parts, node_planned, then_call, then_reads}
+use Rattle.bool_poly.proofs.NodeLemmas.{ActsOnParts, at_node, at_node_later, low_call, high_call, lows_planned, highs_planned, both_grown}
+use Rattle.bool_poly.proofs.NodeLemmas.{times, times_after, times_values, times_kept, times_result, node_after, times_acts}
 use Rattle.bool_poly.proofs.products.+times_var.Goals as goal
+use Rattle.bool_poly.proofs.products.+times_var.Goals.{After-look}
+use Rattle.bool_poly.proofs.products.+times_var.Given.{Over}
+
+by_parts : (g : Over) (t : ℕ) (c : After-look g t)
+    → ActsOnParts (times c.args.var) (g.S.Store.state c.args.store.now) (g.S.Store.state c.look.new.self) c.args.a c.in-Some.n
+by_parts g t c = times_acts (at_node_later (g.met.S.Store.sound c.look.new.self) c.node.ensures.reads c.look.ensures.reads
+    c.in-Some.ensures.node c.in-Some.ensures.family) c.requires.last c.if-var-n.false c.requires.planned
 
 pub returns-in_default : goal.returns-in_default
 returns-in_default g t c =
@@ -21,64 +28,50 @@ returns-then-var-n g t c =
 
 pub returns-in-Some-look : goal.returns-in-Some-look
 returns-in-Some-look g t c =
-    let reads = Reads-trans _ _ _ c.node.ensures.reads c.look.ensures.reads in
-    let result = times_kept c.args.a c.requires.known c.requires.first c.requires.last reads c.in-Some-look.ensures.result in
+    let result = times_kept c.args.a c.requires.known c.requires.first c.requires.last (then_reads c.node.ensures.reads
+    c.look.ensures.reads) c.in-Some-look.ensures.result in
     record { result = result; value = times_values c.args.a c.args.var result }
 
 pub times_var-requires : goal.times_var-requires
 times_var-requires g t c κs within =
-    let acts = times_acts (at_node_later (g.met.S.Store.sound c.look.new.self) c.node.ensures.reads c.look.ensures.reads
-    c.in-Some.ensures.node c.in-Some.ensures.family) c.requires.last c.if-var-n.false c.requires.planned in
-    let low = low_call acts.at in
+    let acts = by_parts g t (goal.at.times_var-requires g t c).After-look in let low = low_call acts.at in
     let same = acts.at.reads.grows.vars in
     (omega (arith, low.0, c.decreases), (within, (low.1, (c.requires.first, (omega (arith, c.requires.last, same), lows_planned acts)))))
 
 pub returns-in_err-lo-clause-result : goal.returns-in_err-lo-clause-result
 returns-in_err-lo-clause-result g t c =
-    let acts = times_acts (at_node_later (g.met.S.Store.sound c.look.new.self) c.node.ensures.reads c.look.ensures.reads
-    c.in-Some.ensures.node c.in-Some.ensures.family) c.requires.last c.if-var-n.false c.requires.planned in
-    failed c.from_residual.ensures.0 acts.at.reads c.in_err-lo.ensures.result
+    failed c.from_residual.ensures.0 (then_reads c.node.ensures.reads c.look.ensures.reads) c.in_err-lo.ensures.result
 
 pub times_var-requires-2 : goal.times_var-requires-2
 times_var-requires-2 g t c κs within =
-    let acts = times_acts (at_node_later (g.met.S.Store.sound c.look.new.self) c.node.ensures.reads c.look.ensures.reads
-    c.in-Some.ensures.node c.in-Some.ensures.family) c.requires.last c.if-var-n.false c.requires.planned in
-    let low = c.in_ok-lo.ensures.result in
-    let high = high_call acts.at low.grows in (
+    let acts = by_parts g t (goal.at.times_var-requires-2 g t c).After-look in let low = c.in_ok-lo.ensures.result in
+    let high = high_call acts.at low.grows in
+    let same = (then_call acts.at.reads low).grows.vars in (
       omega (arith, high.0, c.decreases),
-      (within, (high.1, (c.requires.first, (omega (arith, c.requires.last, (after_low acts low).grows.vars), highs_planned acts low)))),
+      (within, (high.1, (c.requires.first, (omega (arith, c.requires.last, same), highs_planned acts low)))),
     )
 
 pub returns-in_err-hi-clause-result : goal.returns-in_err-hi-clause-result
-returns-in_err-hi-clause-result g t c =
-    let acts = times_acts (at_node_later (g.met.S.Store.sound c.look.new.self) c.node.ensures.reads c.look.ensures.reads
-    c.in-Some.ensures.node c.in-Some.ensures.family) c.requires.last c.if-var-n.false c.requires.planned in
-    failed c.from_residual-in_err-hi.ensures.0 (after_low acts c.in_ok-lo.ensures.result) c.in_err-hi.ensures.result
+returns-in_err-hi-clause-result g t c = failed c.from_residual-in_err-hi.ensures.0
+    (then_call (then_reads c.node.ensures.reads c.look.ensures.reads) c.in_ok-lo.ensures.result) c.in_err-hi.ensures.result
 
 pub grow-requires : goal.grow-requires
 grow-requires g t c =
-    let acts = times_acts (at_node_later (g.met.S.Store.sound c.look.new.self) c.node.ensures.reads c.look.ensures.reads
-    c.in-Some.ensures.node c.in-Some.ensures.family) c.requires.last c.if-var-n.false c.requires.planned in
-    let may = both_grown acts c.in_ok-lo.ensures.result c.in_ok-hi.ensures.result in
+    let may = both_grown (by_parts g t (goal.at.grow-requires g t c).After-look) c.in_ok-lo.ensures.result c.in_ok-hi.ensures.result in
     record { parts = node_parts may; planned = node_planned may (g.met.S.Store.sound c.times_var-2.new.store) }
 
 pub returns-in_err-r-clause-result : goal.returns-in_err-r-clause-result
-returns-in_err-r-clause-result g t c =
-    let acts = times_acts (at_node_later (g.met.S.Store.sound c.look.new.self) c.node.ensures.reads c.look.ensures.reads
-    c.in-Some.ensures.node c.in-Some.ensures.family) c.requires.last c.if-var-n.false c.requires.planned in
-    let may = both_grown acts c.in_ok-lo.ensures.result c.in_ok-hi.ensures.result in
-    failed c.from_residual-in_err-r.ensures.0 may.reads c.in_err-r.ensures
+returns-in_err-r-clause-result g t c = failed c.from_residual-in_err-r.ensures.0 (then_call (then_call (then_reads c.node.ensures.reads
+    c.look.ensures.reads) c.in_ok-lo.ensures.result) c.in_ok-hi.ensures.result) c.in_err-r.ensures
 
 pub keep-requires : goal.keep-requires
 keep-requires g t c =
-    let acts = times_acts (at_node_later (g.met.S.Store.sound c.look.new.self) c.node.ensures.reads c.look.ensures.reads
-    c.in-Some.ensures.node c.in-Some.ensures.family) c.requires.last c.if-var-n.false c.requires.planned in
+    let acts = by_parts g t (goal.at.keep-requires g t c).After-look in
     times_result c.args.a c.requires.known c.requires.first c.requires.last
     (node_builds (both_grown acts c.in_ok-lo.ensures.result c.in_ok-hi.ensures.result) c.in_ok-r.ensures)
 
 pub returns : goal.returns
 returns g t c =
-    let acts = times_acts (at_node_later (g.met.S.Store.sound c.look.new.self) c.node.ensures.reads c.look.ensures.reads
-    c.in-Some.ensures.node c.in-Some.ensures.family) c.requires.last c.if-var-n.false c.requires.planned in
+    let acts = by_parts g t (goal.at.returns g t c).After-look in
     let result = node_builds (both_grown acts c.in_ok-lo.ensures.result c.in_ok-hi.ensures.result) c.in_ok-r.ensures in
     rw c.keep.ensures (record { result = result; value = times_values c.args.a c.args.var result })

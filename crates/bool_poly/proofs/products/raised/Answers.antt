@@ -1,5 +1,5 @@
 use Rattle.node_store.proofs.StoreLaws.{node_builds, node_parts, node_planned}
-use Rattle.bool_poly.proofs.VariableSteps.{sum_planned, raised_grown}
+use Rattle.bool_poly.proofs.NodeLemmas.{sum_planned, raised_grown}
 use Rattle.bool_poly.proofs.products.raised.Goals as goal
 
 pub sum-requires-clause-planned : goal.sum-requires-clause-planned

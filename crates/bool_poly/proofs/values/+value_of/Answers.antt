@@ -6,8 +6,7 @@ use Rattle.bool_poly.proofs.values.+value_of.Goals as goal
 pub value_of-low-requires : goal.value_of-low-requires
 value_of-low-requires g t c κs within =
     let low = low_call (at_node (g.met.S.Store.sound c.node.new.self) c.node.ensures.reads c.in-Some.ensures.node c.in-Some.ensures.family)
-    in
-    (omega (arith, low.0, c.decreases), (within, (low.1, rw c.node.ensures.reads.grows.vars c.requires.below)))
+    in (omega (arith, low.0, c.decreases), (within, (low.1, rw c.node.ensures.reads.grows.vars c.requires.below)))
 
 pub value_of-requires : goal.value_of-requires
 value_of-requires g t c κs within =
@@ -34,5 +33,4 @@ returns-then-divides g t c =
 pub returns-else-divides-clause-value : goal.returns-else-divides-clause-value
 returns-else-divides-clause-value g t c =
     node_without (at_node (g.met.S.Store.sound c.node.new.self) c.node.ensures.reads c.in-Some.ensures.node c.in-Some.ensures.family)
-    c.vars.ensures _ c.args.point
-    (sym c.divides.ensures ∙ c.if-divides.false) c.value_of-low.ensures.value
+    c.vars.ensures _ c.args.point (sym c.divides.ensures ∙ c.if-divides.false) c.value_of-low.ensures.value

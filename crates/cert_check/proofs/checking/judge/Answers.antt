@@ -1,6 +1,5 @@
-use Rattle.std.proofs.Common.{ℕ, ◌+◌, ap, arith}
+use Rattle.std.proofs.Common.{rules, ℕ, ◌+◌, ap, arith}
 use Rattle.std.proofs.lemmas.Result.{err_from_is_err_and}
-use Rattle.pla_reader.specs.Reading.{description}
 use Rattle.cert_check.proofs.Judged.{output_fails, output_fine, outputs_fine}
 use Rattle.cert_check.proofs.checking.judge.Goals as goal
 
@@ -25,5 +24,4 @@ loop-given-preserved c = record {
 }
 
 pub returns : goal.returns
-returns c = outputs_fine (description c.args.p.now) c.args.answer.now c.loop-given.given-index c.loop-given.invariant.goes_on
-    (omega (arith, c.loop-given-test.false))
+returns c = search (rules, arith, outputs_fine)

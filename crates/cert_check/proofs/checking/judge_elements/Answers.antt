@@ -22,5 +22,4 @@ loop-element-preserved c = record {
 }
 
 pub returns-clause-checks : goal.returns-clause-checks
-returns-clause-checks c = λ zeros ones marks. elements_fine _ _ _ _ (c.loop-element.invariant.goes_on zeros ones marks)
-    (omega (arith, c.loop-element-test.false))
+returns-clause-checks c = search (rules, arith, elements_fine)

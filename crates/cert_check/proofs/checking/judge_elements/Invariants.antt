@@ -1,5 +1,5 @@
 use Rattle.std.proofs.Common.{◌≡◌, [], take, drop}
-use Rattle.lattice.specs.Family.{Family, union_of}
+use Rattle.lattice.specs.Words.{Family, union_of}
 use Rattle.cert_check.specs.Marks.{MarksCare}
 use Rattle.cert_check.specs.Faults.{first_verdict, greatest_of, basis_checks}
 use Rattle.cert_check.proofs.checking.judge_elements.Given as goal

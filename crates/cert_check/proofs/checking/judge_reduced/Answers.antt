@@ -1,5 +1,4 @@
-use Rattle.std.proofs.Common.{List, length, refl, sym, ap, ◌∙◌, arith, drop, rules}
-use Rattle.cert_check.specs.declared.answer.Given.{Given}
+use Rattle.std.proofs.Common.{length, refl, sym, ap, ◌∙◌, arith, drop, rules}
 use Rattle.cert_check.specs.Faults.{first_verdict, reduced_checks}
 use Rattle.cert_check.proofs.Judged.{tail_below, tail_here, tails_fine}
 use Rattle.cert_check.proofs.checking.judge_reduced.Goals as goal
@@ -36,5 +35,4 @@ loop-element-preserved c = λ n tops counted.
     next ∙ rw test refl
 
 pub returns : goal.returns
-returns c = λ n tops counted. tails_fine tops c.args.given.now _ (c.loop-element.invariant n tops counted)
-    (omega (arith, c.loop-element-test.false, ap (λ (es : List Given). length es) c.as_slice-element-items.ensures))
+returns c = search (rules, arith, tails_fine)

@@ -1,5 +1,5 @@
 use Rattle.std.proofs.Common.{◌≡◌, ℕ, List, drop, map}
-use Rattle.lattice.specs.Family.{has, family_where}
+use Rattle.lattice.specs.Words.{has, family_where}
 use Rattle.cert_check.specs.Marks.{CountsDivisors}
 use Rattle.cert_check.specs.Faults.{first_verdict, reduced_checks}
 use Rattle.cert_check.proofs.Judged.{tail_check}

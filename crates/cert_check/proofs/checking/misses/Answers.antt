@@ -7,7 +7,6 @@ use Rattle.cert_check.proofs.checking.misses.Goals as goal
 
 pub returns : goal.returns
 returns c = λ n zeros ones terms marks counted.
-    let found = any_from_yields_List (λ (p : Care × ℕ). cond (p.1 % 2 == 1) p.0.zero p.0.one) c.any.new.self _
-    c.any.result c.any.ensures.ran (YieldsList-from_zip (YieldsList-from_slice c.args.care.now cc)
-    (YieldsList-from_slice c.args.counts.now cc)) (λ x b q k. search (rules, tests)) in
-    found ∙ misses_by_table n zeros ones c.args.care.now marks terms c.args.counts.now counted
+    any_from_yields_List (λ (p : Care × ℕ). cond (p.1 % 2 == 1) p.0.zero p.0.one) c.any.new.self _ c.any.result
+    c.any.ensures.ran (YieldsList-from_zip (YieldsList-from_slice c.args.care.now cc) (YieldsList-from_slice c.args.counts.now cc))
+    (λ x b q k. search (rules, tests)) ∙ misses_by_table n zeros ones _ marks terms _ counted

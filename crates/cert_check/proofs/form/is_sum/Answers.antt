@@ -1,4 +1,4 @@
-use Rattle.std.proofs.Common.{refl, sym, ◌∙◌, arith, rules}
+use Rattle.std.proofs.Common.{arith, rules}
 use Rattle.cert_check.specs.Reading.{is_sum}
 use Rattle.cert_check.proofs.Factors.{no_sum, sum_step}
 use Rattle.cert_check.proofs.form.is_sum.Goals as goal
@@ -14,11 +14,7 @@ pub returns-then-not-is_word : goal.returns-then-not-is_word
 returns-then-not-is_word c = search (rules, arith, sum_step)
 
 pub loop-rest-preserved : goal.loop-rest-preserved
-loop-rest-preserved c =
-    let so_far = rw (c.in-Some.is, c.split_first.ensures.first, c.in-Some-after.is, c.split_first-in-Some.ensures.first) at
-    c.loop-rest.invariant in
-    let step = sum_step _ _ _ (sym c.is_term.ensures ∙ c.if-not-is_term.false) in
-    sym (step ∙ rw (sym c.is_word.ensures ∙ c.if-not-is_word.false) refl) ∙ so_far
+loop-rest-preserved c = search (rules, arith, sum_step)
 
 pub returns : goal.returns
 unfolding is_sum

@@ -1,7 +1,6 @@
-use Rattle.std.proofs.Common.{sym, ap, ◌∙◌, arith, rules}
+use Rattle.std.proofs.Common.{arith, rules}
 use Rattle.std.proofs.lemmas.List.{nil_from_length}
 use Rattle.std.proofs.lemmas.Bool.{eqb-true}
-use Rattle.lattice.specs.Cofactors.{is_empty}
 use Rattle.cert_check.proofs.LinesRead.{none_read, line_skipped, line_added, line_refused, output_missing, all_read, empty_is}
 use Rattle.cert_check.proofs.reading.read_lines.Goals as goal
 
@@ -15,14 +14,10 @@ pub returns-in-Err : goal.returns-in-Err
 returns-in-Err c = search (rules, arith, empty_is, line_refused)
 
 pub loop-rest-preserved : goal.loop-rest-preserved
-loop-rest-preserved c =
-    line_skipped _ _ _ _ _ _ c.loop-rest.invariant _ _ c.split_line.ensures.first c.split_line.ensures.some c.split_line.ensures.all
-    (sym (ap is_empty c.bare-line.ensures) ∙ (empty_is _ _ c.is_empty-in-loop-rest.ensures ∙ c.if-not-is_empty.false))
+loop-rest-preserved c = search (rules, arith, empty_is, line_skipped)
 
 pub returns-then-len-outs : goal.returns-then-len-outs
 returns-then-len-outs c = search (rules, arith, nil_from_length, eqb-true, output_missing)
 
 pub returns : goal.returns
-returns c =
-    let nothing = nil_from_length c.loop-rest.rest.now (eqb-true _ _ (sym c.is_empty.ensures ∙ c.loop-rest-test.false)) in
-    rw c.from_vec.ensures (all_read _ _ _ _ _ _ c.loop-rest.invariant nothing (omega (arith, c.len.ensures, c.loop-rest.outputs.ok.0)))
+returns c = search (rules, arith, nil_from_length, eqb-true, all_read)

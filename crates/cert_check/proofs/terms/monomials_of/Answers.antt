@@ -1,11 +1,10 @@
 use Rattle.std.proofs.Common.{sym, ◌∙◌, arith, rules}
-use Rattle.cert_check.specs.Reading.{words}
 use Rattle.lattice.proofs.Diagrams.{weight_is}
 use Rattle.cert_check.proofs.Factors.{terms_none, term_known, terms_skip, factors_refused, term_refused, terms_more, terms_whole}
 use Rattle.cert_check.proofs.terms.monomials_of.Goals as goal
 
 pub loop-rest-init : goal.loop-rest-init
-loop-rest-init c = terms_none c.args.names.now (words c.args.right.now) _ _ c.requires.known (weight_is _ (omega arith)) c.new-monos.ensures
+loop-rest-init c = search (rules, arith, terms_none, weight_is)
 
 pub monomial_of-requires-clause-known : goal.monomial_of-requires-clause-known
 monomial_of-requires-clause-known c = search (rules, arith, term_known)

@@ -1,13 +1,11 @@
-use Rattle.std.proofs.Common.{◌∙◌, subst}
+use Rattle.std.proofs.Common.{◌∙◌, subst, arith}
 use Rattle.cli_words.specs.CommandLine.{IsJob}
 use Rattle.cli_words.proofs.EachFound.{each_found}
 use Rattle.cli_words.proofs.Taken.{is_refused, is_taken}
 use Rattle.cli_words.proofs.job.read_words.Goals as goal
 
 pub job_of-requires : goal.job_of-requires
-job_of-requires c =
-    let app = c.in_ok-command.ensures.app in
-    each_found app.0 _ c.in-Ok.matches app.2 c.in-Ok.ensures.parsed app.1
+job_of-requires c = grind (arith, each_found)
 
 pub returns-in-Ok-clause-taken : goal.returns-in-Ok-clause-taken
 returns-in-Ok-clause-taken c =

@@ -13,8 +13,7 @@ work_twice-token-requires-clause-any g c _ = any_first (token_state c.in_ok-tabl
 
 pub look-requires-3 : goal.look-requires-3
 look-requires-3 g c =
-    let quarter = c.expect-2.result.0 in
-    let half = c.expect-2.result.1 in
+    let quarter = c.expect-2.result.0 in let half = c.expect-2.result.1 in
     let ready : IsReady 3 (cached_state c.lower-2.new.store) quarter half = search rules in
     let grows = Grows-trans _ _ _ c.look-2.ensures.reads.grows c.join.ensures.joined.grows in
     handles Inter refl refl (Grows-knows _ _ quarter grows ready.first) (Grows-knows _ _ half grows ready.second)

@@ -1,5 +1,5 @@
 use Rattle.std.proofs.Common.{ℕ, ◌^◌, ◌∙◌, ◌≤◌, arith, pow_mono}
-use Rattle.lattice.specs.NodeWords.{cache_bits}
+use Rattle.lattice.specs.Words.{cache_bits}
 use Rattle.node_store.proofs.StoreLaws.{any_combined, MayHoldAny-later}
 use Rattle.unique_table.specs.PassOf.{bits_of}
 use Rattle.unique_table.proofs.PassNeeds.{any_first}
@@ -15,7 +15,5 @@ union-requires-clause-planned g c = any_combined _ _ _ _ _ (MayHoldAny-later 3 _
 
 pub cache_load-requires : goal.cache_load-requires
 cache_load-requires g c =
-    let b : ℕ = cache_bits (bits_of c.end.result) in
-    let least : 12 ≤ b = omega arith in
-    let n : ℕ = 2 ^ b in
-    let most : 4096 ≤ n = pow_mono least in omega arith
+    let b : ℕ = cache_bits (bits_of c.end.result) in let least : 12 ≤ b = omega arith in
+    let n : ℕ = 2 ^ b in let most : 4096 ≤ n = pow_mono least in omega arith

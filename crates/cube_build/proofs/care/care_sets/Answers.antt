@@ -33,8 +33,7 @@ returns-in_err-covers g c = points_failed c.from_residual.ensures.0 c.loop-place
 
 pub loop-place-preserved : goal.loop-place-preserved
 loop-place-preserved g c =
-    let p = c.args.p.now in
-    let before = c.loop-place.invariant in
+    let p = c.args.p.now in let before = c.loop-place.invariant in
     record {
       reads = then_call before.reads c.in_ok-covers.ensures;
       covers = covers_more (g.S.Store.state c.loop-place.store) (g.S.Store.state c.cover.new.store) p.kind p.rows c.args.output
@@ -46,9 +45,7 @@ loop-place-preserved g c =
 
 pub care_sets_from-requires : goal.care_sets_from-requires
 care_sets_from-requires g c =
-    let p = c.args.p.now in
-    let t = g.S.Store.state c.loop-place.store in
-    let found = c.loop-place.invariant in
+    let p = c.args.p.now in let t = g.S.Store.state c.loop-place.store in let found = c.loop-place.invariant in
     record {
       covers = (
         p.rows,
@@ -61,9 +58,7 @@ care_sets_from-requires g c =
 
 pub returns : goal.returns
 returns g c =
-    let p = c.args.p.now in
-    let t = g.S.Store.state c.loop-place.store in
-    let found = c.loop-place.invariant in
+    let p = c.args.p.now in let t = g.S.Store.state c.loop-place.store in let found = c.loop-place.invariant in
     let are = all_covers t p.kind p.rows c.args.output c.sets_of-sets.result.now c.loop-place.place c.loop-place.covers
     c.sets_of-sets.ensures (omega arith) found.room found.covers in
     points_after found.reads (rw (found.reads.grows.vars, c.requires.vars) at (c.care_sets_from.ensures p.rows c.args.output are))

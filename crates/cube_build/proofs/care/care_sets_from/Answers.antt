@@ -20,29 +20,25 @@ sets_of_fdr-requires-clause-planned g c =
 
 pub returns-in-F : goal.returns-in-F
 returns-in-F g c =
-    let s = g.S.Store.state c.args.store.now in
-    let t = g.S.Store.state c.sets_of_f.new.store in
+    let s = g.S.Store.state c.args.store.now in let t = g.S.Store.state c.sets_of_f.new.store in
     subst (λ kind. GivesCareSetsFrom s t c.sets_of_f.result kind c.args.covers.now) (sym c.in-F.is)
     (f_given s c.args.covers.now t c.sets_of_f.result c.sets_of_f.ensures)
 
 pub returns-in-Fd : goal.returns-in-Fd
 returns-in-Fd g c =
-    let s = g.S.Store.state c.args.store.now in
-    let t = g.S.Store.state c.sets_of_fd.new.store in
+    let s = g.S.Store.state c.args.store.now in let t = g.S.Store.state c.sets_of_fd.new.store in
     subst (λ kind. GivesCareSetsFrom s t c.sets_of_fd.result kind c.args.covers.now) (sym c.in-Fd.is)
     (fd_given s c.args.covers.now t c.sets_of_fd.result c.sets_of_fd.ensures)
 
 pub returns-in-Fdr : goal.returns-in-Fdr
 returns-in-Fdr g c =
-    let s = g.S.Store.state c.args.store.now in
-    let t = g.S.Store.state c.sets_of_fdr.new.store in
+    let s = g.S.Store.state c.args.store.now in let t = g.S.Store.state c.sets_of_fdr.new.store in
     subst (λ kind. GivesCareSetsFrom s t c.sets_of_fdr.result kind c.args.covers.now) (sym c.in-Fdr.is)
     (fdr_given s c.args.covers.now t c.sets_of_fdr.result c.sets_of_fdr.ensures)
 
 pub returns-in-Fr : goal.returns-in-Fr
 returns-in-Fr g c =
-    let s = g.S.Store.state c.args.store.now in
-    let first = get_or c.args.covers.now 0 (record { 0 = 0 }) in
+    let s = g.S.Store.state c.args.store.now in let first = get_or c.args.covers.now 0 (record { 0 = 0 }) in
     let second = get_or c.args.covers.now 1 (record { 0 = 0 }) in
     subst (λ kind. GivesCareSetsFrom s s (Ok (record { zeros = second; ones = first })) kind c.args.covers.now) (sym c.in-Fr.is)
     (fr_given s c.args.covers.now)

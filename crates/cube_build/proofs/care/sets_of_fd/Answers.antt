@@ -11,26 +11,22 @@ minus-requires-clause-planned g c =
     (Knows-denotes s c.args.dc c.requires.dc)
 
 pub returns-in_err-ones : goal.returns-in_err-ones
-returns-in_err-ones g c =
-    points_failed c.from_residual.ensures.0 (Reads-refl (g.S.Store.state c.args.store.now)) c.in_err-ones.ensures
+returns-in_err-ones g c = points_failed c.from_residual.ensures.0 (Reads-refl (g.S.Store.state c.args.store.now)) c.in_err-ones.ensures
 
 pub union-requires-clause-planned : goal.union-requires-clause-planned
 union-requires-clause-planned g c =
-    let s = g.S.Store.state c.args.store.now in
-    let on_is = Knows-denotes s c.args.on c.requires.on in
+    let s = g.S.Store.state c.args.store.now in let on_is = Knows-denotes s c.args.on c.requires.on in
     let dc_is = Knows-denotes s c.args.dc c.requires.dc in
     let one = combined_next _ _ _ _ c.args.on c.args.dc (underway s _ c.requires.planned) on_is dc_is c.in_ok-ones.ensures in
     let later = c.in_ok-ones.ensures.grows.known in
     combined_planned _ _ _ _ c.args.on c.args.dc one (later _ _ on_is) (later _ _ dc_is)
 
 pub returns-in_err-listed : goal.returns-in_err-listed
-returns-in_err-listed g c =
-    points_failed c.from_residual-in_err-listed.ensures.0 (reads_one c.in_ok-ones.ensures) c.in_err-listed.ensures
+returns-in_err-listed g c = points_failed c.from_residual-in_err-listed.ensures.0 (reads_one c.in_ok-ones.ensures) c.in_err-listed.ensures
 
 pub outside-requires-clause-planned : goal.outside-requires-clause-planned
 outside-requires-clause-planned g c =
-    let s = g.S.Store.state c.args.store.now in
-    let on_is = Knows-denotes s c.args.on c.requires.on in
+    let s = g.S.Store.state c.args.store.now in let on_is = Knows-denotes s c.args.on c.requires.on in
     let dc_is = Knows-denotes s c.args.dc c.requires.dc in
     let one = combined_next _ _ _ _ c.args.on c.args.dc (underway s _ c.requires.planned) on_is dc_is c.in_ok-ones.ensures in
     let later = c.in_ok-ones.ensures.grows.known in
@@ -45,10 +41,8 @@ returns-in_err-zeros g c =
 
 pub returns : goal.returns
 returns g c =
-    let s = g.S.Store.state c.args.store.now in
-    let on_is = Knows-denotes s c.args.on c.requires.on in
-    let dc_is = Knows-denotes s c.args.dc c.requires.dc in
-    let begin = underway s _ c.requires.planned in
+    let s = g.S.Store.state c.args.store.now in let on_is = Knows-denotes s c.args.on c.requires.on in
+    let dc_is = Knows-denotes s c.args.dc c.requires.dc in let begin = underway s _ c.requires.planned in
     let one = combined_next _ _ _ _ c.args.on c.args.dc begin on_is dc_is c.in_ok-ones.ensures in
     let later = c.in_ok-ones.ensures.grows.known in
     let two = combined_next _ _ _ _ c.args.on c.args.dc one (later _ _ on_is) (later _ _ dc_is) c.in_ok-listed.ensures in

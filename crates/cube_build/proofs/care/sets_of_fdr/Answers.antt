@@ -10,28 +10,23 @@ minus-requires-clause-planned g c =
     (Knows-denotes s c.args.dc c.requires.dc)
 
 pub returns-in_err-ones : goal.returns-in_err-ones
-returns-in_err-ones g c =
-    points_failed c.from_residual.ensures.0 (Reads-refl (g.S.Store.state c.args.store.now)) c.in_err-ones.ensures
+returns-in_err-ones g c = points_failed c.from_residual.ensures.0 (Reads-refl (g.S.Store.state c.args.store.now)) c.in_err-ones.ensures
 
 pub minus-requires-2-clause-planned : goal.minus-requires-2-clause-planned
 minus-requires-2-clause-planned g c =
-    let s = g.S.Store.state c.args.store.now in
-    let dc_is = Knows-denotes s c.args.dc c.requires.dc in
+    let s = g.S.Store.state c.args.store.now in let dc_is = Knows-denotes s c.args.dc c.requires.dc in
     let one = combined_next _ _ _ _ c.args.on c.args.dc (underway s _ c.requires.planned) (Knows-denotes s c.args.on c.requires.on) dc_is
     c.in_ok-ones.ensures in
     let later = c.in_ok-ones.ensures.grows.known in
     combined_planned _ _ _ _ c.args.off c.args.dc one (later _ _ (Knows-denotes s c.args.off c.requires.off)) (later _ _ dc_is)
 
 pub returns-in_err-zeros : goal.returns-in_err-zeros
-returns-in_err-zeros g c =
-    points_failed c.from_residual-in_err-zeros.ensures.0 (reads_one c.in_ok-ones.ensures) c.in_err-zeros.ensures
+returns-in_err-zeros g c = points_failed c.from_residual-in_err-zeros.ensures.0 (reads_one c.in_ok-ones.ensures) c.in_err-zeros.ensures
 
 pub returns : goal.returns
 returns g c =
-    let s = g.S.Store.state c.args.store.now in
-    let on_is = Knows-denotes s c.args.on c.requires.on in
-    let dc_is = Knows-denotes s c.args.dc c.requires.dc in
-    let begin = underway s _ c.requires.planned in
+    let s = g.S.Store.state c.args.store.now in let on_is = Knows-denotes s c.args.on c.requires.on in
+    let dc_is = Knows-denotes s c.args.dc c.requires.dc in let begin = underway s _ c.requires.planned in
     let one = combined_next _ _ _ _ c.args.on c.args.dc begin on_is dc_is c.in_ok-ones.ensures in
     let later = c.in_ok-ones.ensures.grows.known in
     let off_is = later _ _ (Knows-denotes s c.args.off c.requires.off) in

@@ -1,6 +1,6 @@
 use Rattle.std.proofs.Common.{length, length-append, ◌+◌, ◌∷◌, [], ◌++◌, ◌≡◌, rules}
 use Rattle.std.proofs.lemmas.Slice.Zip.{zip_turn, zip_end}
-use Rattle.lattice.specs.Rows.{rows_with}
+use Rattle.lattice.specs.Words.{rows_with}
 use Rattle.node_store.proofs.StoreLaws.{Gives-reads, failed_after}
 use Rattle.cube_build.proofs.CoverLemmas.{no_row}
 use Rattle.cube_build.proofs.CoverSteps.{cover_start, turn_known, turn_planned, turn_chosen, turn_other, turn_end}

@@ -1,6 +1,5 @@
 use Rattle.std.proofs.Common.{Ok, length, take}
-use Rattle.lattice.specs.Rows.{cover, rows_with}
-use Rattle.lattice.specs.WorkingLists.{working_set, cover_list}
+use Rattle.lattice.specs.Words.{cover, rows_with, working_set, cover_list}
 use Rattle.node_store.specs.Stores.{Gives}
 use Rattle.cube_build.specs.PointSets.{mask_of}
 use Rattle.cube_build.proofs.covers.cover.Given as goal

@@ -7,8 +7,7 @@ loop-behind-init g c = cube_start (g.S.Store.state c.args.store.now) c.args.row.
 
 pub grow-requires : goal.grow-requires
 grow-requires g c =
-    let ok = g.met.S.Store.sound c.loop-behind.store in
-    let rest = c.loop-behind.invariant in
+    let ok = g.met.S.Store.sound c.loop-behind.store in let rest = c.loop-behind.invariant in
     let may = step_grown c.vars-vars.result c.loop-behind.behind c.args.row.now c.vars-vars.ensures c.loop-behind-test.true
     rest (c.children.ensures.low _ ok rest.ok) (c.children.ensures.high _ ok rest.ok)
     c.requires.care c.requires.value c.requires.planned in
@@ -16,8 +15,7 @@ grow-requires g c =
 
 pub loop-behind-preserved : goal.loop-behind-preserved
 loop-behind-preserved g c =
-    let ok = g.met.S.Store.sound c.loop-behind.store in
-    let rest = c.loop-behind.invariant in
+    let ok = g.met.S.Store.sound c.loop-behind.store in let rest = c.loop-behind.invariant in
     let may = step_grown c.vars-vars.result c.loop-behind.behind c.args.row.now c.vars-vars.ensures c.loop-behind-test.true
     rest (c.children.ensures.low _ ok rest.ok) (c.children.ensures.high _ ok rest.ok)
     c.requires.care c.requires.value c.requires.planned in

@@ -8,15 +8,9 @@ use Rattle.cube_build.proofs.rows.row_cubes.Goals as goal
 
 pub used_cube-requires-clause-planned : goal.used_cube-requires-clause-planned
 used_cube-requires-clause-planned g c =
-    let d = c.args.p.now in
-    let i = c.loop-row.row-index in
+    let d = c.args.p.now in let i = c.loop-row.row-index in
     let less : i < length d.rows = rw c.as_slice-row-items.ensures at c.loop-row-test.true in
-    rw (
-      c.loop-row.invariant.reads.grows.plan,
-      c.loop-row.invariant.reads.grows.vars,
-      c.requires.vars,
-      c.as_slice-row-items.ensures,
-    )
+    rw (c.loop-row.invariant.reads.grows.plan, c.loop-row.invariant.reads.grows.vars, c.requires.vars, c.as_slice-row-items.ensures)
     (used_planned d.inputs d.outputs d.kind d.rows i less (g.S.Store.state c.args.store.now).plan d.fits.few_outputs
     (All-get_or (FitsSizes d.inputs d.outputs d.kind) d.rows i no_row less d.fits.rows_fit) c.requires.planned)
 

@@ -17,8 +17,7 @@ returns-then-names_output g c =
 
 pub returns-else-names_output : goal.returns-else-names_output
 returns-else-names_output g c =
-    let s = g.S.Store.state c.args.store.now in
-    let ok = g.met.S.Store.sound c.args.store.now in
+    let s = g.S.Store.state c.args.store.now in let ok = g.met.S.Store.sound c.args.store.now in
     subst (Builds s s (Ok (record { 0 = 0 })))
     (sym (used_cube-none s.vars c.args.row.now (sym c.names_output.ensures ∙ c.if-names_output.false)))
     (Builds-known s (record { 0 = 0 }) [] ok ok.empty)

@@ -1,14 +1,11 @@
-use Rattle.std.proofs.Common.{◌≡◌, true, bit_and, get_or, subst, arith}
+use Rattle.std.proofs.Common.{◌≡◌, true, bit_and, get_or, subst}
 use Rattle.std.specs.List.{All}
 use Rattle.std.proofs.lemmas.List.{take_all}
 use Rattle.std.proofs.lemmas.List.Elements.{All-more}
-use Rattle.lattice.specs.Family.{divides}
+use Rattle.lattice.specs.Words.{divides}
 use Rattle.lattice.specs.declared.row.Row.{Row}
 use Rattle.cube_sets.proofs.Marks.{divides_cut, divides_other}
 use Rattle.cube_sets.proofs.buckets.common_care.Goals as goal
-
-pub loop-row-init : goal.loop-row-init
-loop-row-init c k d less = absurd (omega arith)
 
 pub loop-row-preserved : goal.loop-row-preserved
 loop-row-preserved c =

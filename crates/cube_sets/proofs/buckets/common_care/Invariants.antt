@@ -1,6 +1,6 @@
 use Rattle.std.proofs.Common.{◌≡◌, true, take}
 use Rattle.std.specs.List.{All}
-use Rattle.lattice.specs.Family.{divides}
+use Rattle.lattice.specs.Words.{divides}
 use Rattle.cube_sets.proofs.buckets.common_care.Given as goal
 
 abbrev pub invariant-loop-row : goal.invariant-loop-row

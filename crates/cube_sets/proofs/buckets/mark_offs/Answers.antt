@@ -6,9 +6,6 @@ use Rattle.cube_sets.specs.Buckets.{IsMarked}
 use Rattle.cube_sets.proofs.Marks.{marked_more}
 use Rattle.cube_sets.proofs.buckets.mark_offs.Goals as goal
 
-pub loop-row-init : goal.loop-row-init
-loop-row-init c k d less = absurd (omega arith)
-
 pub loop-row-preserved : goal.loop-row-preserved
 loop-row-preserved c =
     let no_row : Row = record { line = 0; care = 0; value = 0; on = 0; off = 0; dc = 0 } in

@@ -1,14 +1,9 @@
-use Rattle.std.proofs.Common.{◌<◌, ◌^◌, bit_and, sym, ◌∙◌, arith}
+use Rattle.std.proofs.Common.{◌<◌, ◌^◌, bit_and, arith}
 use Rattle.std.specs.Int.{w64, trailing_zeros}
-use Rattle.std.proofs.lemmas.Bool.{true≢false}
 use Rattle.std.specs.Int.Bits.{and_lt}
 use Rattle.std.proofs.lemmas.Nat.Bits.{bit_at-trailing_zeros}
 use Rattle.cube_sets.proofs.Pairs.{none_without_output, none_up_to, least_of_pair}
 use Rattle.cube_sets.proofs.clash.clash_of.Goals as goal
-
-pub returns-then-not-meets : goal.returns-then-not-meets
-returns-then-not-meets c n a_below b_below d clash =
-    true≢false (sym ((c.meets.ensures n a_below b_below).1 clash.1.shared) ∙ c.if-not-meets.true)
 
 pub returns-then-both-eq0 : goal.returns-then-both-eq0
 returns-then-both-eq0 c n a_below b_below d clash = none_without_output n c.args.a.now c.args.b.now c.if-both-eq0.true d clash.1

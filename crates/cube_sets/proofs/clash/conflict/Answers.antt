@@ -6,8 +6,7 @@ use Rattle.cube_sets.proofs.clash.conflict.Goals as goal
 
 pub returns-in-F-clause-none : goal.returns-in-F-clause-none
 returns-in-F-clause-none c =
-    let p = c.args.p.now in
-    let without = ⊎_elim (λ is. ap has_off is) (λ is. ap has_off is) c.in-F.is in
+    let p = c.args.p.now in let without = ⊎_elim (λ is. ap has_off is) (λ is. ap has_off is) c.in-F.is in
     none_where_consistent p.inputs p.outputs p.rows None (none_without_offs p.inputs p.outputs p.rows p.kind without p.fits.rows_fit)
 
 pub returns-in-Fr-clause-none : goal.returns-in-Fr-clause-none

@@ -16,12 +16,11 @@ next_line rows i k d less next ascends =
     omega arith
 
 pub loop-i-preserved : goal.loop-i-preserved
-loop-i-preserved c k less =
-    elim c.else-i-gt0.branch [
-      | else-i-gt0-via-then-i-gt0+else-rows-i w ↦ ⊎_elim
-          (λ (before : k + 1 < c.loop-i.i). c.loop-i.invariant k before)
-          (λ (last : c.loop-i.i ≤ k + 1). next_line c.args.rows.now c.loop-i.i k
-          (record { line = 0; care = 0; value = 0; on = 0; off = 0; dc = 0 }) c.loop-i-test.true (omega arith) w.if-rows-i.false)
-          (cases_lt (k + 1) c.loop-i.i)
-      | else-i-gt0-via-else-i-gt0 w ↦ (let none = w.if-i-gt0.false in omega arith)
-    ]
+loop-i-preserved c k less = elim c.else-i-gt0.branch [
+  | else-i-gt0-via-then-i-gt0+else-rows-i w ↦ ⊎_elim
+      (λ (before : k + 1 < c.loop-i.i). c.loop-i.invariant k before)
+      (λ (last : c.loop-i.i ≤ k + 1). next_line c.args.rows.now c.loop-i.i k
+      (record { line = 0; care = 0; value = 0; on = 0; off = 0; dc = 0 }) c.loop-i-test.true (omega arith) w.if-rows-i.false)
+      (cases_lt (k + 1) c.loop-i.i)
+  | else-i-gt0-via-else-i-gt0 w ↦ (let none = w.if-i-gt0.false in omega arith)
+]

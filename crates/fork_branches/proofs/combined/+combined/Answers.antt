@@ -11,34 +11,18 @@ use Rattle.fork_branches.proofs.combined.+combined.Given.{Over}
 
 pub combine_both-returns : goal.combine_both-returns
 combine_both-returns g m c =
-    let s = cached_state c.args.store.now in
-    let y = token_state c.join-first.result.0.0 in
-    let w = token_state c.join-first.result.1.0 in
-    let u = cached_state c.join.new.self in
-    let v = cached_state c.join-2.new.self in
-    let x_is : token_state c.end-first.result ≡ twin_of s = c.end-first.ensures.state ∙ (c.end.ensures.state ∙ c.split.ensures.twin) in
-    let z_is : token_state c.end-second.result ≡ twin_of s =
-    c.end-second.ensures.state ∙ (c.end-2.ensures.state ∙ (c.split-2.ensures.twin ∙ ap twin_of c.split.ensures.same)) in
-    let here : cached_state c.split-2.new.self ≡ s = c.split-2.ensures.same ∙ c.split.ensures.same in
-    let one : IsJoined s y u = subst (λ (k : State). IsJoined k y u) here
-    (subst (λ (k : State). IsJoined (cached_state c.split-2.new.self) k u) (c.new.ensures.state ∙ c.pass.ensures.state)
-    c.join.ensures.joined) in
-    let two : IsJoined u w v =
-    subst (λ (k : State). IsJoined u k v) (c.new-2.ensures.state ∙ c.pass-2.ensures.state) c.join-2.ensures.joined in
-    let low = subst (λ (k : State). Combines c.args.op k y c.args.c.a_low c.args.c.b_low c.join-first.result.0.1) x_is
-    c.join-first.ensures.first.1 in
-    let high = subst (λ (k : State). Combines c.args.op k w c.args.c.a_high c.args.c.b_high c.join-first.result.1.1) z_is
-    c.join-first.ensures.second.1 in
-    subst (CombinesBoth c.args.op s v c.args.c.a_low c.args.c.b_low c.args.c.a_high c.args.c.b_high) (sym c.pair_of.ensures)
-    (both_gives (cached_sound c.args.store.now) (cached_sound c.join.new.self) (cached_sound c.join-2.new.self) one two
-    c.join-first.result.0.1 c.join-first.result.1.1 low high)
+    let here = c.split-2.ensures.same ∙ c.split.ensures.same in let back = c.split-2.ensures.twin ∙ ap twin_of c.split.ensures.same in
+    rw c.pair_of.ensures (both_gives (cached_sound c.args.store.now) (cached_sound c.join.new.self) (cached_sound c.join-2.new.self)
+    (rw (c.new.ensures.state, c.pass.ensures.state, here) at c.join.ensures.joined)
+    (rw (c.new-2.ensures.state, c.pass-2.ensures.state) at c.join-2.ensures.joined) c.join-first.result.0.1 c.join-first.result.1.1
+    (rw (c.end-first.ensures.state, c.end.ensures.state, c.split.ensures.twin) at c.join-first.ensures.first.1)
+    (rw (c.end-second.ensures.state, c.end-2.ensures.state, back) at c.join-first.ensures.second.1))
 
 whole : (g : Over) (m : ℕ) (c : combine_in-In_ok-lo-in-Halves g m)
     → Finishes c.args.op (cached_state c.args.store.now) (cached_state c.combine_halves.new.store) c.args.a c.args.b
     c.in-Halves.halved.x c.in-Halves.halved.y c.in-Halves.halved.cofactors.var c.in_ok-lo-in-Halves.lo c.in_ok-lo-in-Halves.hi
 whole g m c =
-    let is = c.in-Halves.ensures in
-    let both = c.in_ok-lo-in-Halves.ensures in
+    let is = c.in-Halves.ensures in let both = c.in_ok-lo-in-Halves.ensures in
     finishes c.requires.asks is.order is.cofactors is.reads (both_reads both) both.low both.high
 
 pub combine_in-finish-requires : goal.combine_in-finish-requires

@@ -1,4 +1,4 @@
-use Rattle.std.proofs.Common.{rules, ◌≡◌, ◌∙◌, ◌++◌, [], refl, ap, sym, subst}
+use Rattle.std.proofs.Common.{rules, ◌≡◌, ◌∙◌, ◌++◌, [], refl, ap, sym}
 use Rattle.node_store.specs.Stores.{State}
 use Rattle.unique_table.specs.Passes.{IsJoined, token_state, twin_of}
 use Rattle.job_counter.specs.Drawing.{Drawing, drawing, left_half, right_half}
@@ -10,14 +10,10 @@ use Rattle.fork_branches.proofs.crews.+crews.Goals as goal
 
 pub work_both-join-front-requires-after_bounds : goal.work_both-join-front-requires-after_bounds
 work_both-join-front-requires-after_bounds g t c κs within =
-    let s = cached_state c.args.pass.now in
-    let d = drawing c.args.drawer.now in
-    let x_is : token_state c.end-one.result ≡ twin_of s = c.end-one.ensures.state ∙ (c.end.ensures.state ∙ c.split.ensures.twin) in
-    let z_is : token_state c.end-two.result ≡ twin_of s =
-    c.end-two.ensures.state ∙ (c.end-2.ensures.state ∙ (c.split-2.ensures.twin ∙ ap twin_of c.split.ensures.same)) in
-    let tasks = g.J.Jobs.tasks c.args.jobs.now in
-    let table = c.table-table.result.now in
-    let counter = c.args.counter.now in
+    let s = cached_state c.args.pass.now in let d = drawing c.args.drawer.now in
+    let x_is = c.end-one.ensures.state ∙ (c.end.ensures.state ∙ c.split.ensures.twin) in
+    let z_is = c.end-two.ensures.state ∙ (c.end-2.ensures.state ∙ (c.split-2.ensures.twin ∙ ap twin_of c.split.ensures.same)) in
+    let tasks = g.J.Jobs.tasks c.args.jobs.now in let table = c.table-table.result.now in let counter = c.args.counter.now in
     let front : IsSent tasks table counter c.end-one.result c.split-mine.result c.args.first.value =
     sent c.args.first.value s (right_half d) c.requires.may c.table-table.ensures x_is c.split-mine.ensures.right c.requires.of refl
     c.requires.front in
@@ -28,39 +24,20 @@ work_both-join-front-requires-after_bounds g t c κs within =
 
 pub work_in-work-result-requires-sync-J : goal.work_in-work-result-requires-sync-J
 work_in-work-result-requires-sync-J g t c κs within =
-    let total = (g.J.Jobs.tasks c.args.jobs.now).total in
-    let parts = (drawing c.args.drawer.now).parts in
-    let ready : IsReady total parts (One c.in-One.worker) =
-    subst (IsReady total parts) (sym c.replace.ensures.value ∙ c.in-One.is) c.requires.ready in
+    let ready : IsReady (g.J.Jobs.tasks c.args.jobs.now).total (drawing c.args.drawer.now).parts (One c.in-One.worker) =
+    rw (sym c.replace.ensures.value ∙ c.in-One.is) at c.requires.ready in
     search (rules, ready)
 
 pub work_both-returns-clause-works : goal.work_both-returns-clause-works
 work_both-returns-clause-works g m c =
-    let s = cached_state c.args.pass.now in
-    let tasks = g.J.Jobs.tasks c.args.jobs.now in
-    let front = c.join-front.result.0 in
-    let back = c.join-front.result.1 in
-    let d = (drawing front.drawer).drawn in
-    let e = (drawing back.drawer).drawn in
-    let y = token_state front.token in
-    let w = token_state back.token in
-    let u = cached_state c.join.new.self in
-    let v = cached_state c.join-2.new.self in
-    let x_is : token_state c.end-one.result ≡ twin_of s = c.end-one.ensures.state ∙ (c.end.ensures.state ∙ c.split.ensures.twin) in
-    let z_is : token_state c.end-two.result ≡ twin_of s =
-    c.end-two.ensures.state ∙ (c.end-2.ensures.state ∙ (c.split-2.ensures.twin ∙ ap twin_of c.split.ensures.same)) in
-    let here : cached_state c.split-2.new.self ≡ s = c.split-2.ensures.same ∙ c.split.ensures.same in
-    let one : IsJoined s y u = subst (λ (k : State). IsJoined k y u) here
-    (subst (λ (k : State). IsJoined (cached_state c.split-2.new.self) k u) (c.new.ensures.state ∙ c.pass.ensures.state)
-    c.join.ensures.joined) in
-    let two : IsJoined u w v =
-    subst (λ (k : State). IsJoined u k v) (c.new-2.ensures.state ∙ c.pass-2.ensures.state) c.join-2.ensures.joined in
-    let low = subst (λ (k : State). Works tasks k y d (answers_of front.crew.value) front.result) x_is c.join-front.ensures.first.works in
-    let high = subst (λ (k : State). Works tasks k w e (answers_of back.crew.value) back.result) z_is c.join-front.ensures.second.works in
-    let both = both_work (cached_sound c.args.pass.now) (cached_sound c.join.new.self) (cached_sound c.join-2.new.self) one two
-    front.result back.result low high in
-    let own : (drawing c.split-other.new.drawer).drawn ≡ [] = ap (λ (k : Drawing). k.drawn) c.split-other.ensures.left
-    ∙ (ap (λ (k : Drawing). k.drawn) c.split-mine.ensures.left ∙ c.requires.fresh) in
-    let first : (drawing c.join-3.new.drawer).drawn ≡ d = ap (λ (k : Drawing). k.drawn) c.join-3.ensures ∙ ap (λ l. l ++ d) own in
-    let all : (drawing c.join-4.new.drawer).drawn ≡ d ++ e = ap (λ (k : Drawing). k.drawn) c.join-4.ensures ∙ ap (λ l. l ++ e) first in
+    let here = c.split-2.ensures.same ∙ c.split.ensures.same in let z_is = c.split-2.ensures.twin ∙ ap twin_of c.split.ensures.same in
+    let front = c.join-front.result.0 in let back = c.join-front.result.1 in
+    let d = (drawing front.drawer).drawn in let e = (drawing back.drawer).drawn in
+    let both = both_work (cached_sound c.args.pass.now) (cached_sound c.join.new.self) (cached_sound c.join-2.new.self)
+    (rw (c.new.ensures.state, c.pass.ensures.state, here) at c.join.ensures.joined)
+    (rw (c.new-2.ensures.state, c.pass-2.ensures.state) at c.join-2.ensures.joined) front.result back.result
+    (rw (c.end-one.ensures.state, c.end.ensures.state, c.split.ensures.twin) at c.join-front.ensures.first.works)
+    (rw (c.end-two.ensures.state, c.end-2.ensures.state, z_is) at c.join-front.ensures.second.works) in
+    let all : (drawing c.join-4.new.drawer).drawn ≡ d ++ e =
+    rw (c.join-4.ensures, c.join-3.ensures, c.split-other.ensures.left, c.split-mine.ensures.left, c.requires.fresh) refl in
     rw (all, c.and.ensures) both

@@ -10,44 +10,26 @@ use Rattle.fork_branches.proofs.ones.+ones.Goals as goal
 
 pub ones_both-returns : goal.ones_both-returns
 ones_both-returns g m c =
-    let s = cached_state c.args.store.now in
-    let y = token_state c.join-first.result.0.0 in
-    let w = token_state c.join-first.result.1.0 in
-    let u = cached_state c.join.new.self in
-    let v = cached_state c.join-2.new.self in
-    let x_is : token_state c.end-first.result ≡ twin_of s = c.end-first.ensures.state ∙ (c.end.ensures.state ∙ c.split.ensures.twin) in
-    let z_is : token_state c.end-second.result ≡ twin_of s =
-    c.end-second.ensures.state ∙ (c.end-2.ensures.state ∙ (c.split-2.ensures.twin ∙ ap twin_of c.split.ensures.same)) in
-    let here : cached_state c.split-2.new.self ≡ s = c.split-2.ensures.same ∙ c.split.ensures.same in
-    let one : IsJoined s y u = subst (λ (k : State). IsJoined k y u) here
-    (subst (λ (k : State). IsJoined (cached_state c.split-2.new.self) k u) (c.new.ensures.state ∙ c.pass.ensures.state)
-    c.join.ensures.joined) in
-    let two : IsJoined u w v =
-    subst (λ (k : State). IsJoined u k v) (c.new-2.ensures.state ∙ c.pass-2.ensures.state) c.join-2.ensures.joined in
-    let low = subst (λ (k : State). FindsOnes k y c.args.c.a_low c.args.c.b_low c.join-first.result.0.1) x_is
-    c.join-first.ensures.first.1 in
-    let high = subst (λ (k : State). FindsWith k w c.args.c.a_low c.args.c.a_high c.args.c.b_high c.join-first.result.1.1) z_is
-    c.join-first.ensures.second.1 in
-    subst (FindsBoth s v c.args.c.a_low c.args.c.b_low c.args.c.a_high c.args.c.b_high) (sym c.pair_of.ensures)
-    (both_gives (cached_sound c.args.store.now) (cached_sound c.join.new.self) (cached_sound c.join-2.new.self) one two
-    c.join-first.result.0.1 c.join-first.result.1.1 low high)
+    let here = c.split-2.ensures.same ∙ c.split.ensures.same in let back = c.split-2.ensures.twin ∙ ap twin_of c.split.ensures.same in
+    rw c.pair_of.ensures (both_gives (cached_sound c.args.store.now) (cached_sound c.join.new.self) (cached_sound c.join-2.new.self)
+    (rw (c.new.ensures.state, c.pass.ensures.state, here) at c.join.ensures.joined)
+    (rw (c.new-2.ensures.state, c.pass-2.ensures.state) at c.join-2.ensures.joined) c.join-first.result.0.1 c.join-first.result.1.1
+    (rw (c.end-first.ensures.state, c.end.ensures.state, c.split.ensures.twin) at c.join-first.ensures.first.1)
+    (rw (c.end-second.ensures.state, c.end-2.ensures.state, back) at c.join-first.ensures.second.1))
 
 pub with_in-returns : goal.with_in-returns
-with_in-returns g m c =
-    with_after (Grows-refl (cached_state c.args.store.now)) c.requires.asks c.in_ok-with.ensures c.ones_in.ensures
+with_in-returns g m c = with_after (Grows-refl (cached_state c.args.store.now)) c.requires.asks c.in_ok-with.ensures c.ones_in.ensures
 
 pub ones_in-finish_ones-requires : goal.ones_in-finish_ones-requires
 ones_in-finish_ones-requires g m c =
-    let is = c.in-Halves.ensures in
-    let both = c.in_ok-lo-in-Halves.ensures in
+    let is = c.in-Halves.ensures in let both = c.in_ok-lo-in-Halves.ensures in
     let all = ones_finish c.requires.asks is.operands is.cofactors is.reads (both_reads both) both.low both.low_held both.high
     both.high_held in
     record { asks = all.asks; varies = is.varies; filled = is.filled; cut = all.cut; halves = all.halves }
 
 pub ones_in-returns-in_ok-lo-in-Halves : goal.ones_in-returns-in_ok-lo-in-Halves
 ones_in-returns-in_ok-lo-in-Halves g m c =
-    let is = c.in-Halves.ensures in
-    let both = c.in_ok-lo-in-Halves.ensures in
+    let is = c.in-Halves.ensures in let both = c.in_ok-lo-in-Halves.ensures in
     (ones_finish c.requires.asks is.operands is.cofactors is.reads (both_reads both) both.low both.low_held both.high
     both.high_held).given c.finish_ones.ensures
 

@@ -1,6 +1,5 @@
 use Rattle.std.proofs.Common.{arith, subst}
-use Rattle.lattice.specs.Family.{IsFamily}
-use Rattle.lattice.specs.WorkingLists.{needs, operation_list}
+use Rattle.lattice.specs.Words.{IsFamily, needs, operation_list}
 use Rattle.node_store.specs.Stores.{family}
 use Rattle.node_store.proofs.StoreLaws.{MayHoldAny-later, any_combined, known_after, Denotes-knows, Grows-knows}
 use Rattle.bool_poly.proofs.OnesLemmas.{any_ones_set}
@@ -25,8 +24,7 @@ xor-requires-clause-planned g c = any_combined _ 3 _ _ _
 pub ones_of-requires-clause-planned : goal.ones_of-requires-clause-planned
 unfolding needs operation_list
 ones_of-requires-clause-planned g c =
-    let s = g.S.Store.state c.family_of.new.store in
-    let t = g.S.Store.state c.family_of-2.new.store in
+    let s = g.S.Store.state c.family_of.new.store in let t = g.S.Store.state c.family_of-2.new.store in
     let any = MayHoldAny-later 3 s t c.family_of-2.ensures.grows (MayHoldAny-later 3 _ s c.family_of.ensures.grows c.requires.any) in
     let sound = g.met.S.Store.sound c.family_of-2.new.store in
     any_ones_set t.plan t.vars (λ f is. any.planned f (subst (λ v. IsFamily v f) any.vars_are is)) t.vars (omega arith)

@@ -37,8 +37,7 @@ cut-c-requires-clause-some g t c =
     some_node (call_of c.args.zeros c.args.ones (g.met.S.Store.sound c.args.store.now) c.requires) c.if-zeros-eq0.false c.if-ones-eq0.false
 
 pub upper_part-requires-clause-planned : goal.upper_part-requires-clause-planned
-upper_part-requires-clause-planned g t c =
-    upper_planned (at_cut g t (goal.at.upper_part-requires-clause-planned g t c).After-cut-c)
+upper_part-requires-clause-planned g t c = upper_planned (at_cut g t (goal.at.upper_part-requires-clause-planned g t c).After-cut-c)
 
 pub returns-in_err-upper-clause-result : goal.returns-in_err-upper-clause-result
 returns-in_err-upper-clause-result g t c =

@@ -4,8 +4,7 @@ use Rattle.interp_lex.proofs.PointSteps.{lower_zeros_planned, three_reads, ones_
 use Rattle.interp_lex.proofs.parts.lower_part.Goals as goal
 
 pub ones_of-requires-clause-planned : goal.ones_of-requires-clause-planned
-ones_of-requires-clause-planned g c =
-    first_ones_planned (lower_at c.requires.known c.requires.h c.requires.planned)
+ones_of-requires-clause-planned g c = first_ones_planned (lower_at c.requires.known c.requires.h c.requires.planned)
 
 pub ones_of-requires-2-clause-planned : goal.ones_of-requires-2-clause-planned
 ones_of-requires-2-clause-planned g c =

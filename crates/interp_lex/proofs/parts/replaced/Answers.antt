@@ -1,5 +1,5 @@
 use Rattle.std.proofs.Common.{◌||◌}
-use Rattle.lattice.specs.Family.{first_only}
+use Rattle.lattice.specs.Words.{first_only}
 use Rattle.node_store.proofs.StoreLaws.{failed_after}
 use Rattle.interp_lex.proofs.PointSteps.{Both, first_planned, first_reads, second_planned, last_planned, last_gives}
 use Rattle.interp_lex.proofs.parts.replaced.Goals as goal

@@ -3,12 +3,10 @@ use Rattle.interp_lex.proofs.PointSteps.{upper_at, upper_zeros_planned, upper_on
 use Rattle.interp_lex.proofs.parts.upper_part.Goals as goal
 
 pub common-requires-clause-planned : goal.common-requires-clause-planned
-common-requires-clause-planned g c =
-    upper_zeros_planned (upper_at c.requires.known c.requires.planned)
+common-requires-clause-planned g c = upper_zeros_planned (upper_at c.requires.known c.requires.planned)
 
 pub common-requires-2-clause-planned : goal.common-requires-2-clause-planned
-common-requires-2-clause-planned g c =
-    upper_ones_planned (upper_at c.requires.known c.requires.planned) c.in_ok-zeros.ensures.result
+common-requires-2-clause-planned g c = upper_ones_planned (upper_at c.requires.known c.requires.planned) c.in_ok-zeros.ensures.result
 
 pub returns-in_err-ones-clause-result : goal.returns-in_err-ones-clause-result
 returns-in_err-ones-clause-result g c =

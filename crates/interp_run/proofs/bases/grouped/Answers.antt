@@ -1,16 +1,13 @@
 use Rattle.std.proofs.Common.{ap, arith, length, refl, take, drop, ◌∙◌}
 use Rattle.std.proofs.lemmas.List.Sums.{sum_by-drop_more}
-use Rattle.interp_run.proofs.CountedTerms.{no_handle}
 use Rattle.interp_run.proofs.GroupedElements.{group_all, group_step}
+use Rattle.run_parts.proofs.FoundTerms.{no_handle}
 use Rattle.interp_run.proofs.bases.grouped.Goals as goal
 
 pub loop-index-preserved : goal.loop-index-preserved
 loop-index-preserved c =
-    let ps = c.args.polynomials.now in
-    let lists = c.args.leads.now in
-    let i = c.loop-index.index in
-    let l = c.index-leads-index.result in
-    let rest = c.loop-index.rest.now in
+    let ps = c.args.polynomials.now in let lists = c.args.leads.now in
+    let i = c.loop-index.index in let l = c.index-leads-index.result in let rest = c.loop-index.rest.now in
     record {
       long = omega (
         arith,

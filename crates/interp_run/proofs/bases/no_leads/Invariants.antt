@@ -1,5 +1,5 @@
 use Rattle.std.proofs.Common.{◌≡◌, [], map, reverse}
-use Rattle.lattice.specs.WorkingLists.{output_numbers}
+use Rattle.lattice.specs.Words.{output_numbers}
 use Rattle.interp_run.proofs.bases.no_leads.Given as goal
 
 -- the empty lists of the outputs before

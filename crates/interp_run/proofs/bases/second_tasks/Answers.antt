@@ -1,10 +1,11 @@
-use Rattle.std.proofs.Common.{sym, ◌∙◌}
+use Rattle.lattice.specs.Words.{numbers_below}
 use Rattle.pla_reader.specs.Reading.{description}
-use Rattle.interp_run.proofs.SecondTasks.{second_more, second_none}
+use Rattle.interp_run.proofs.PhaseLists.{second_more}
 use Rattle.interp_run.proofs.bases.second_tasks.Goals as goal
 
 pub loop-before-init : goal.loop-before-init
-loop-before-init c = λ mode are. c.new-list.ensures.items ∙ sym (second_none (description c.args.pla.now) mode)
+unfolding numbers_below
+loop-before-init c = λ mode are. c.new-list.ensures.items
 
 pub loop-before-preserved : goal.loop-before-preserved
 loop-before-preserved c = λ mode are.

@@ -1,6 +1,6 @@
 use Rattle.std.proofs.Common.{◌≡◌, map}
 use Rattle.std.specs.List.{flat_map}
-use Rattle.lattice.specs.WorkingLists.{output_numbers}
+use Rattle.lattice.specs.Words.{output_numbers}
 use Rattle.lattice.specs.declared.kind.Mode.{Mode}
 use Rattle.pla_reader.specs.Reading.{description}
 use Rattle.interp_run.specs.Phases.{AreLeads, element_task, leads_in}

@@ -1,11 +1,9 @@
-use Rattle.std.proofs.Common.{ℕ, List, ◌++◌, map, reverse, ap, ◌∙◌}
-use Rattle.interp_run.specs.Phases.{element_task}
-use Rattle.interp_run.proofs.SecondTasks.{with_more}
+use Rattle.std.proofs.Common.{ap, ◌∙◌}
+use Rattle.interp_run.proofs.PhaseLists.{with_more}
 use Rattle.interp_run.proofs.bases.with_elements.Goals as goal
 
 pub loop-lead-init : goal.loop-lead-init
-loop-lead-init c = ap (λ (xs : List ℕ). c.args.tasks.items ++ map (element_task c.args.output) (reverse xs))
-    (ap (λ r. r.iter.rest.now) c.into_iter-lead-iterator.ensures.into_iter_gives
+loop-lead-init c = rw (ap (λ r. r.iter.rest.now) c.into_iter-lead-iterator.ensures.into_iter_gives
     ∙ (ap (λ i. i.rest.now) c.rev-lead-items.ensures.source ∙ (c.iter.ensures.rest ∙ c.as_slice.ensures)))
 
 pub loop-lead-preserved : goal.loop-lead-preserved

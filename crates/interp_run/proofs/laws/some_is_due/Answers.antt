@@ -1,5 +1,5 @@
 use Rattle.cube_sets.proofs.OneClash.{searched}
-use Rattle.interp_run.proofs.OneDue.{mode_cases, some_due}
+use Rattle.interp_run.proofs.Due.{mode_cases, some_due}
 use Rattle.interp_run.proofs.laws.some_is_due.Goals as goal
 
 pub returns : goal.returns

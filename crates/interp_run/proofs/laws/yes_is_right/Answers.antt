@@ -1,4 +1,4 @@
-use Rattle.interp_run.proofs.OneDue.{yes_right}
+use Rattle.interp_run.proofs.Due.{yes_right}
 use Rattle.interp_run.proofs.laws.yes_is_right.Goals as goal
 
 pub returns : goal.returns

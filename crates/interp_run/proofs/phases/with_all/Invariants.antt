@@ -1,5 +1,5 @@
 use Rattle.std.proofs.Common.{◌≡◌, ◌++◌, map}
-use Rattle.lattice.specs.WorkingLists.{output_numbers}
+use Rattle.lattice.specs.Words.{output_numbers}
 use Rattle.interp_run.specs.Phases.{task}
 use Rattle.interp_run.proofs.phases.with_all.Given as goal
 

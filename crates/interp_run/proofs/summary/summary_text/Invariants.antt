@@ -1,6 +1,6 @@
 use Rattle.std.proofs.Common.{◌≡◌, ◌++◌, map, take, codes, decimal}
 use Rattle.anf_printer.specs.Text.{shown_answer}
-use Rattle.interp_run.proofs.Summaries.{lines_from}
+use Rattle.interp_run.proofs.Written.{lines_from}
 use Rattle.interp_run.proofs.summary.summary_text.Given as goal
 
 abbrev pub invariant-loop-before : goal.invariant-loop-before

@@ -6,11 +6,11 @@ use Rattle.interp_run.proofs.tasks.all_done.Goals as goal
 pub all-requires-clause-may : goal.all-requires-clause-may
 all-requires-clause-may g c κs within =
     let tasks = c.args.tasks.now in
-    may_work (description tasks.pla.now) tasks.cares.now tasks.list.now (cached_state c.args.store.now) tasks.few c.requires.vars
+    may_work (cached_state c.args.store.now) (description tasks.pla.now) tasks.cares.now tasks.list.now tasks.few c.requires.vars
     c.requires.cares c.requires.planned
 
 pub returns-clause-done : goal.returns-clause-done
 returns-clause-done g c =
     let tasks = c.args.tasks.now in
-    solved_done (description tasks.pla.now) tasks.cares.now tasks.list.now (cached_state c.args.store.now) (cached_state c.all.new.pass)
+    solved_done (description tasks.pla.now) (cached_state c.all.new.pass) (cached_state c.args.store.now) tasks.cares.now tasks.list.now
     c.in_ok-all.field-0.items c.in_ok-all.ensures.solved

@@ -1,31 +1,23 @@
-use Rattle.std.proofs.Common.{◌∙◌, rules, refl}
+use Rattle.std.proofs.Common.{◌∙◌, refl, rules}
 use Rattle.interp_run.specs.Run.{memory, read_fault}
 use Rattle.run_parts.proofs.Runs.{keeps_same}
-use Rattle.interp_run.proofs.Endings.{ran_read, ran_short}
+use Rattle.interp_run.proofs.Due.{ran_read, ran_short}
 use Rattle.interp_run.proofs.top.of_source.Goals as goal
 
 pub returns-in-Err-Fault-clause-ran : goal.returns-in-Err-Fault-clause-ran
-returns-in-Err-Fault-clause-ran g c = λ words asked.
-    let held = g.K.Sink.held c.args.out.now in
-    ran_short words (g.S.Source.left c.args.source.now) held held _ _ _ (λ bytes. read_fault c.args.job.now asked (keeps_same held) refl)
+returns-in-Err-Fault-clause-ran g c = λ words asked. ran_short (λ bytes. read_fault c.args.job.now asked (keeps_same _) refl)
 
 pub returns-in-Err-Memory-clause-ran : goal.returns-in-Err-Memory-clause-ran
-returns-in-Err-Memory-clause-ran g c = λ words asked.
-    let held = g.K.Sink.held c.args.out.now in
-    ran_short words (g.S.Source.left c.args.source.now) held held _ _ _ (λ bytes. memory (keeps_same held) refl)
+returns-in-Err-Memory-clause-ran g c = λ words asked. ran_short (λ bytes. memory (keeps_same _) refl)
 
 pub returns-in-Check-clause-ran : goal.returns-in-Check-clause-ran
 returns-in-Check-clause-ran g c = λ words asked.
-    ran_read words (g.S.Source.left c.args.source.now) (g.K.Sink.held c.args.out.now) (g.K.Sink.held c.judged.new.out) _ _
-    c.judged.result c.deref.result.now
-    (λ xs e. c.deref.ensures.value ∙ c.in-Ok.ensures.told xs e) (search rules)
+    ran_read c.deref.result.now (λ xs e. c.deref.ensures.value ∙ c.in-Ok.ensures.told xs e) (search rules)
     (λ bytes is. c.judged.ensures.ends words bytes _ asked is)
 
 pub returns-in-Anf-clause-ran : goal.returns-in-Anf-clause-ran
 returns-in-Anf-clause-ran g c = λ words asked.
-    ran_read words (g.S.Source.left c.args.source.now) (g.K.Sink.held c.args.out.now) (g.K.Sink.held c.solved.new.out) _ _
-    c.solved.result c.deref-in-Anf.result.now
-    (λ xs e. c.deref-in-Anf.ensures.value ∙ c.in-Ok.ensures.told xs e) (search rules)
+    ran_read c.deref-in-Anf.result.now (λ xs e. c.deref-in-Anf.ensures.value ∙ c.in-Ok.ensures.told xs e) (search rules)
     (λ bytes is. c.solved.ensures.ends words bytes asked is)
 
 pub returns-in-Check-clause-jobs : goal.returns-in-Check-clause-jobs

@@ -1,27 +1,23 @@
-use Rattle.std.proofs.Common.{◌∷◌, ◌++◌, ◌∙◌, ◌+◌, ◌≡◌, [], length, length-append, arith, rules, sym, refl}
+use Rattle.std.proofs.Common.{◌∷◌, ◌∙◌, [], length, length-append, arith, rules, sym, refl}
 use Rattle.std.proofs.lemmas.Slice.Zip.{zip_turn}
 use Rattle.watch.proofs.LeftAfter.{left_after_all-nil}
 use Rattle.run_parts.proofs.Runs.{appends_nothing}
-use Rattle.interp_run.proofs.Written.{page_begun, page_written, on_err, room_for_more, stopped_at, told_more}
 use Rattle.interp_run.specs.Due.{Due}
 use Rattle.interp_run.specs.declared.outcome.Outcome.TheVariants as ends
+use Rattle.interp_run.proofs.Written.{on_err, page_begun, page_written, room_for_more, stopped_at, told_more}
 use Rattle.interp_run.proofs.top.write_pages.Goals as goal
 
 pub loop-page-init : goal.loop-page-init
-loop-page-init g c = record {
-  gained = appends_nothing (g.K.Sink.held c.args.out.now);
-  faults = refl;
-  told = sym (left_after_all-nil _);
-}
+loop-page-init g c = record { gained = appends_nothing (g.K.Sink.held c.args.out.now); faults = refl; told = sym (left_after_all-nil _) }
 
 pub returns-in_err-write_whole-clause-front : goal.returns-in_err-write_whole-clause-front
 returns-in_err-write_whole-clause-front g c =
     let turn = zip_turn c.args.pages.now c.args.notes.now c.loop-page.yielded c.into_iter-page-iterator.result c.loop-page.page-iterator
     c.next.new.self c.next.result (search rules) (search rules) c.loop-page.yielded_by (c.in-Some.page, c.in-Some.note) c.in-Some.is
     c.next.ensures.steps in
-    page_begun (g.K.Sink.held c.args.out.now) (g.K.Sink.held c.loop-page.out) (g.K.Sink.held c.write_whole.new.out) c.args.pages.now
-    (length c.loop-page.yielded) c.as_slice.result.now c.as_slice.result.now turn.0 (c.as_slice.ensures ∙ turn.2 c.as_slice.result.now)
-    c.loop-page.invariant.gained c.write_whole.ensures.front
+    page_begun c.args.pages.now (length c.loop-page.yielded) c.as_slice.result.now turn.0 (g.K.Sink.held c.args.out.now)
+    (g.K.Sink.held c.loop-page.out) (g.K.Sink.held c.write_whole.new.out) c.as_slice.result.now
+    (c.as_slice.ensures ∙ turn.2 c.as_slice.result.now) c.loop-page.invariant.gained c.write_whole.ensures.front
 
 pub returns-in_err-write_whole-clause-stopped : goal.returns-in_err-write_whole-clause-stopped
 returns-in_err-write_whole-clause-stopped g c =
@@ -49,13 +45,12 @@ loop-page-preserved g c =
     let turn = zip_turn c.args.pages.now c.args.notes.now c.loop-page.yielded c.into_iter-page-iterator.result c.loop-page.page-iterator
     c.next.new.self c.next.result (search rules) (search rules) c.loop-page.yielded_by (c.in-Some.page, c.in-Some.note) c.in-Some.is
     c.next.ensures.steps in
-    let size : length (c.loop-page.yielded ++ (c.in-Some.page, c.in-Some.note) ∷ []) ≡ length c.loop-page.yielded + 1 = length-append
-    c.loop-page.yielded ((c.in-Some.page, c.in-Some.note) ∷ []) in
+    let size = length-append c.loop-page.yielded ((c.in-Some.page, c.in-Some.note) ∷ []) in
     record {
-      gained = rw (size) (page_written (g.K.Sink.held c.args.out.now) (g.K.Sink.held c.loop-page.out) (g.K.Sink.held c.write_whole.new.out)
-          c.args.pages.now (length c.loop-page.yielded) c.as_slice.result.now c.as_slice.result.now turn.0 (c.as_slice.ensures
-          ∙ turn.2 c.as_slice.result.now) c.loop-page.invariant.gained c.in_ok-write_whole.ensures.whole);
+      gained = rw size (page_written c.args.pages.now (length c.loop-page.yielded) c.as_slice.result.now turn.0
+          (g.K.Sink.held c.args.out.now) (g.K.Sink.held c.loop-page.out) (g.K.Sink.held c.write_whole.new.out) c.as_slice.result.now
+          (c.as_slice.ensures ∙ turn.2 c.as_slice.result.now) c.loop-page.invariant.gained c.in_ok-write_whole.ensures.whole);
       faults = c.in_ok-write_whole.ensures.cause.kept ∙ c.loop-page.invariant.faults;
-      told = rw (size) (told_more c.args.notes.now (length c.loop-page.yielded) c.in-Some.note.now _ _ _ turn.1 (turn.3 c.in-Some.note.now)
+      told = rw size (told_more c.args.notes.now (length c.loop-page.yielded) c.in-Some.note.now _ _ _ turn.1 (turn.3 c.in-Some.note.now)
           c.loop-page.invariant.told c.tell.ensures.left);
     }

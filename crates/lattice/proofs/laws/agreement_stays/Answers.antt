@@ -1,5 +1,4 @@
-use Rattle.lattice.proofs.KnownMaps.{agreement_stays}
 use Rattle.lattice.proofs.laws.agreement_stays.Goals as goal
 
 pub returns : goal.returns
-returns c = agreement_stays
+returns c vars ws later known keeps agrees h f is = Rattle.lattice.proofs.Tables.denotes_grows vars ws later keeps (agrees h f is)

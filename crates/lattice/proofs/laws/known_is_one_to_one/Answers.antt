@@ -1,5 +1,4 @@
-use Rattle.lattice.proofs.KnownMaps.{known_one}
 use Rattle.lattice.proofs.laws.known_is_one_to_one.Goals as goal
 
 pub returns : goal.returns
-returns c = known_one
+returns c = Rattle.lattice.proofs.Tables.known_one

@@ -1,5 +1,4 @@
-use Rattle.lattice.proofs.MoreVariables.{IsLeast_more}
 use Rattle.lattice.proofs.laws.least_over_more.Goals as goal
 
 pub returns : goal.returns
-returns c = IsLeast_more
+returns c = Rattle.lattice.proofs.Least.IsLeast_more

@@ -1,5 +1,4 @@
-use Rattle.lattice.proofs.KnownMaps.{union_agrees}
 use Rattle.lattice.proofs.laws.union_agrees.Goals as goal
 
 pub returns : goal.returns
-returns c = union_agrees
+returns c = Rattle.lattice.proofs.Tables.union_agrees

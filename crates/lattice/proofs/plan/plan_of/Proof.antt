@@ -2,7 +2,7 @@
 use Rattle.std.proofs.Common.{List, [], ◌∷◌, ◌++◌, refl}
 use seplogic.Ra.Ura.{Ura}
 use mir.Syntax.{Fn, Args, Dict, a_type, dcons, dnil}
-use mir.Val.{Val, vptr}
+use mir.Val.{Val, vptr, vstruct, vnil}
 use mir.MapTy.{inst_fn}
 use base.Logic.{SProp, ent}
 use prog.Memory.{Memory}
@@ -12,28 +12,42 @@ use contract.Monad.{Fun}
 use contract.Running.{tables, tables_of}
 use sound.WpLaws.{WpFn-mono}
 use types.Logic.{Logic}
-use types.Kit.{‵, raw, ◌⊛◌, prop, ◌$◌, ◌∵◌, !, qed, move, keep, drop, split, fsplit, fjoin, feq_l, regoal, suffices, done}
+use types.Kit.{Goal, Step, step, Item, ‵, raw, ◌⊛◌, prop, ◌$◌, ◌∵◌, !, qed, move, keep, drop, split, fsplit, fjoin, fpack, feq_i, feq_l}
+use types.Kit.{regoal, suffices, done}
 use types.Part.{agg}
 use types.Run.{enter, returns, no_more}
 use types.ByLocal.{alloc_all, pass_all, free_all, look_at, sets}
 use denote.Exit.{yes}
-use denote.RattleType.{RattleType, owns}
+use denote.RattleType.{RattleType, Valss, owns}
 use denote.Builtin.{RefOf}
 use denote.Param.{param, bounded}
 use denote.Signature.{plain, types_at}
 use denote.Steps.{nothing}
+use denote.Struct.Struct.{Struct, within}
 use denote.Triple.Clauses.{Clauses, Ended, closing}
 use denote.Triple.Entry.{alive}
 use denote.Triple.Spec.{Meets, triple_of}
 use denote.Triple.Table.{entered}
 use denote.Triple.Walked.{says, Stays, stay_dropped, walk_of, ends_at, walk_Meets, Goes-dropped}
-use Rattle.lattice.proofs.BareStruct.{none, none_made}
+use Rattle.lattice.specs.contracts.plan.plan_of.Key.{name as #self}
 use Rattle.lattice.specs.declared.plan.Planned as Planned
 use Rattle.lattice.specs.contracts.plan.Plan as Plan
 use Rattle.lattice.specs.contracts.plan.plan_of as F
-use Rattle.lattice.specs.contracts.plan.plan_of.Key.{name as #self}
 use Rattle.lattice.proofs.plan.plan_of.Statement as stated
 use Rattle.lattice.proofs.plan.plan_of.Code as code
+
+-- a struct by its fields alone: what it owns does not read its name
+abbrev bare : RattleType
+bare = Struct (record { name = []; args = []; types = []; fields = [] })
+
+abbrev none : Val
+none = vstruct vnil
+
+module _ {M : Type 1} {𝓤 : Ura M} {𝓛 : Logic 𝓤} {K : Type 0} {Γ : List (Item 𝓤)} {G : Goal 𝓤 𝓛.H} where
+  none_made : K → Step K 𝓛 (‵ (bare.own_val tt (none ∷ [])) ∷ Γ) G Γ G
+  none_made t = step (λ s.
+      nothing t $ feq_i t (List Val) (none ∷ []) (none ∷ []) refl $ fjoin t $
+      fpack t (Valss []) (within (record { name = []; args = []; types = []; fields = [] }) tt (none ∷ [])) tt $ s)
 
 module _ (P : RattleType) (S : Planned.Ghosts P.Denot) (d : Dict) where
   abbrev args : Args
@@ -58,16 +72,12 @@ module _ (P : RattleType) (S : Planned.Ghosts P.Denot) (d : Dict) where
       abbrev Post : Val → SProp 𝓤
       Post = (walk_of 𝓛 ended stayed held).post z
 
-      abbrev toks : SProp 𝓤
-      toks = alive 𝓛 ended.signature z.0.0 z.0.1
-
       walks : ent 𝓤 ((walk_of 𝓛 ended stayed held).pre z) (WpFn 𝓤 H C Λ function ((walk_of 𝓛 ended stayed held).args z) Post)
       walks =
-          let a = z.0.3 in
-          let vss = z.0.4 in
-          let made : Plan.the_row.Denot =
-          record { families = S.families a.0.now } in
-          qed 𝓛 ((raw toks ⊛ ‵ (owns (types_at ended.signature.params z.0.0) a vss)) ∷ raw ((held z.0.0 a).requires z.1) ∷ []) ∵
+          let a = z.0.3 in let vss = z.0.4 in
+          let made : Plan.the_row.Denot = record { families = S.families a.0.now } in
+          let here = raw (alive 𝓛 ended.signature z.0.0 z.0.1) ⊛ ‵ (owns (types_at ended.signature.params z.0.0) a vss) in
+          qed 𝓛 (here ∷ raw ((held z.0.0 a).requires z.1) ∷ []) ∵
           keep ! (0 ∷ []) $ split ! $ move ! (1 ∷ []) $
           fsplit ! $ fsplit ! $ feq_l ! (λ is₀. drop ! $ drop ! $
           let p = vptr a.0.ref_ptr.0 a.0.ref_ptr.1 in
@@ -81,8 +91,7 @@ module _ (P : RattleType) (S : Planned.Ghosts P.Denot) (d : Dict) where
 
     meets : (𝓣 : Tables 𝓤 H) → Meets 𝓛 ended.signature (WpFn 𝓤 H 𝓣.C 𝓣.Λ function) (closing 𝓛 ended held)
     meets 𝓣 =
-        walk_Meets 𝓛 ended stayed
-        (Goes-dropped 𝓛 2 (RefOf (0 ∷ []) tt (plain (λ _. param 0 P)) (λ _. tt)) yes (λ κs x f. refl), tt) held
+        walk_Meets 𝓛 ended stayed (Goes-dropped 𝓛 2 (RefOf (0 ∷ []) tt (plain (λ _. param 0 P)) (λ _. tt)) yes (λ κs x f. refl), tt) held
         (WpFn 𝓤 H 𝓣.C 𝓣.Λ function) (WpFn-mono 𝓤 H 𝓛.laws 𝓣 function) (walks 𝓣.C 𝓣.Λ)
 
 pub plan_of_spec : {M : Type 1} → stated.statement M
@@ -90,5 +99,4 @@ unfolding tables_of
 plan_of_spec 𝓤 𝓛 𝓜 𝓡 wired P L S d met =
     let 𝓣 : Tables 𝓤 𝓛.H = tables_of 𝓤 𝓛.H 𝓜 (tables 𝓤 𝓛.H 𝓜 𝓡 𝓡.env) in
     entered 𝓤 𝓛.H (triple_of 𝓛 (ended P S d).signature (closing 𝓛 (ended P S d) (held P S d 𝓛 𝓜.mem 𝓡.returns))) 𝓣.C 𝓣.Λ
-    (#self (args P S d)) (function P S d)
-    (code.unfolded 𝓤 𝓛.H 𝓜 𝓡 wired (P, tt) d) (meets P S d 𝓛 𝓜.mem 𝓡.returns 𝓣)
+    (#self (args P S d)) (function P S d) (code.unfolded 𝓤 𝓛.H 𝓜 𝓡 wired (P, tt) d) (meets P S d 𝓛 𝓜.mem 𝓡.returns 𝓣)

@@ -1,6 +1,6 @@
 use Rattle.std.proofs.Common.{sym}
 use Rattle.node_store.specs.Stores.{family}
-use Rattle.node_store.proofs.StoreLemmas.{node_level}
+use Rattle.node_store.proofs.StoreLaws.{node_level}
 use Rattle.node_store.proofs.walk.first_var.Goals as goal
 
 pub returns-clause-level : goal.returns-clause-level

@@ -1,4 +1,4 @@
-use Rattle.pla_reader.proofs.OrderLaws.{arranged_mask_bit}
+use Rattle.pla_reader.proofs.Orders.{arranged_mask_bit}
 use Rattle.pla_reader.proofs.laws.arranged_bits.Goals as goal
 
 pub returns : goal.returns

@@ -7,7 +7,5 @@ use Rattle.pla_reader.proofs.lines.first_blank.Goals as goal
 
 pub returns-clause-place : goal.returns-clause-place
 returns-clause-place c =
-    let line = c.args.line.now in
-    let found = position_from_yields_List is_blank _ _ c.position.result c.position.ensures.ran (YieldsList-from_slice line cc)
-    (λ x b q k. search (rules, tests)) in
-    rw c.unwrap_or.ensures (first_or_len is_blank line c.position.result found)
+    rw c.unwrap_or.ensures (first_or_len is_blank _ _ (position_from_yields_List is_blank _ _ _
+    c.position.ensures.ran (YieldsList-from_slice c.args.line.now cc) (λ x b q k. search (rules, tests))))

@@ -6,7 +6,5 @@ use Rattle.pla_reader.proofs.lines.first_feed.Goals as goal
 
 pub returns-clause-place : goal.returns-clause-place
 returns-clause-place c =
-    let bytes = c.args.bytes.now in
-    let found = position_from_yields_List (λ b. b == 10) _ _ c.position.result c.position.ensures.ran (YieldsList-from_slice bytes cc)
-    (λ x b q k. search (rules, tests)) in
-    rw c.unwrap_or.ensures (first_or_len (λ b. b == 10) bytes c.position.result found)
+    rw c.unwrap_or.ensures (first_or_len (λ b. b == 10) _ _ (position_from_yields_List (λ b. b == 10) _ _ _
+    c.position.ensures.ran (YieldsList-from_slice c.args.bytes.now cc) (λ x b q k. search (rules, tests))))

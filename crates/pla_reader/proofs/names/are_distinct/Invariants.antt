@@ -1,5 +1,5 @@
 use Rattle.std.proofs.Common.{◌≡◌, length}
-use Rattle.lattice.specs.Family.{is_distinct}
+use Rattle.lattice.specs.Words.{is_distinct}
 use Rattle.pla_reader.proofs.names.are_distinct.Given as goal
 
 abbrev pub invariant-loop-rest : goal.invariant-loop-rest

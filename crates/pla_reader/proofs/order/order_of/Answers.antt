@@ -1,14 +1,13 @@
-use Rattle.std.proofs.Common.{◌++◌, ◌≤◌, ◌≡◌, ◌≢◌, [], ◌∷◌, length, eqb, sym, ap, ap₂, ◌∙◌, subst, take, rules, tests, arith}
-use Rattle.std.specs.List.{All, AllPairs, IsAnyAnswer}
+use Rattle.pla_reader.proofs.order.order_of.Goals as goal
+use Rattle.std.proofs.Common.{◌≤◌, ◌≢◌, length, eqb, sym, ap, ◌∙◌, subst, rules, tests, arith}
+use Rattle.std.specs.List.{All, AllPairs}
 use Rattle.std.proofs.lemmas.List.{length_push}
 use Rattle.std.proofs.lemmas.List.Elements.{All-push}
 use Rattle.std.proofs.lemmas.Iterator.Splits.{YieldsList-from_slice_split}
 use Rattle.std.proofs.lemmas.Iterator.Consumers.{YieldsList-turn, YieldsList-end}
 use Rattle.pla_reader.specs.Orders.{IsOrder, names_in_order, order_named}
-use Rattle.pla_reader.proofs.NamedOrders.{all_named, order_named_more, position_named_some}
-use Rattle.pla_reader.proofs.NamedOrders.{unknown_is_bad, twice_is_bad, none_before, AllPairs-push}
-use Rattle.pla_reader.proofs.OrderLaws.{names_in_order_named}
-use Rattle.pla_reader.proofs.order.order_of.Goals as goal
+use Rattle.pla_reader.proofs.Orders.{all_named, order_named_more, position_named_some, unknown_is_bad, twice_is_bad, none_before}
+use Rattle.pla_reader.proofs.Orders.{AllPairs-push, names_in_order_named}
 use Rattle.pla_reader.proofs.order.order_of.Goals.{then-position-names-via-then-position-names}
 use Rattle.pla_reader.proofs.order.order_of.Goals.{then-position-names-via-else-position-names+then-contains}
 
@@ -30,26 +29,21 @@ returns-then-position-names-clause-bad c =
 
 pub loop-name-preserved : goal.loop-name-preserved
 loop-name-preserved c =
-    let names = c.args.names.now in
-    let text = c.args.text.now in
-    let order = c.loop-name.order in
-    let position = c.position_of-position.result in
+    let names = c.args.names.now in let text = c.args.text.now in
+    let order = c.loop-name.order in let position = c.position_of-position.result in
     let pushed = c.in_ok-push.ensures.ok in
     let turn = YieldsList-turn (YieldsList-from_slice_split _ (λ byte. eqb byte 44) text (search rules) (search rules)
     (search rules) (λ x b q k. search (rules, tests))) c.loop-name.yielded _ c.loop-name.yielded_by _ _ c.in-Some.name c.in-Some.is
     c.next.ensures.steps in
     let here = c.position_of-position.ensures in
+    let more = order_named_more names text (length c.loop-name.yielded) c.in-Some.name.now turn.0 turn.1 in
+    let long = length_push c.loop-name.yielded c.in-Some.name in
     record {
-      so_far = pushed ∙ ap₂ (λ xs x. xs ++ x ∷ []) c.loop-name.invariant.so_far here
-          ∙ sym (order_named_more names text (length c.loop-name.yielded) c.in-Some.name.now turn.0 turn.1)
-          ∙ ap (λ j. take j (order_named names text)) (sym (length_push c.loop-name.yielded c.in-Some.name));
-      positions = subst (All (λ p. (1 ≤ p) × (p ≤ length names))) (sym pushed)
-          (All-push (λ p. (1 ≤ p) × (p ≤ length names)) order position c.loop-name.invariant.positions
-          (omega (arith, here, position_named_some names c.in-Some.name.now), omega (arith, c.if-position-names.false)));
-      distinct = subst (AllPairs (λ i j. i ≢ j)) (sym pushed)
-          (AllPairs-push order position c.loop-name.invariant.distinct (none_before order position c.contains.result
-          (subst (λ xs. IsAnyAnswer (λ y t. eqb y position ≡ t) xs c.contains.result) c.as_slice.ensures c.contains.ensures.cases)
-          c.if-contains.false));
+      so_far = grind arith;
+      positions = rw pushed (All-push (λ p. (1 ≤ p) × (p ≤ length names)) order position c.loop-name.invariant.positions
+          (omega (arith, position_named_some names c.in-Some.name.now), omega (arith, c.if-position-names.false)));
+      distinct = rw pushed (AllPairs-push order position c.loop-name.invariant.distinct
+          (none_before order position c.contains.result (rw c.as_slice.ensures at c.contains.ensures.cases) c.if-contains.false));
     }
 
 pub returns-then-len-names : goal.returns-then-len-names

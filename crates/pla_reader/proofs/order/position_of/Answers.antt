@@ -8,8 +8,6 @@ use Rattle.pla_reader.proofs.order.position_of.Goals as goal
 pub returns : goal.returns
 unfolding position_named
 returns c =
-    let names = c.args.names.now in
     let is_it : List ℕ → Bool = λ other. bytes_eq other c.args.name.now in
-    let found = position_from_yields_List is_it _ _ c.position.result c.position.ensures.ran (YieldsList-from_slice names cc)
-    (λ x b q k. search (rules, tests)) in
-    ap (λ k. k + 1) (c.unwrap_or-place.ensures ∙ first_or_len is_it names c.position.result found)
+    ap (λ k. k + 1) (c.unwrap_or-place.ensures ∙ first_or_len is_it _ _ (position_from_yields_List is_it _ _ _ c.position.ensures.ran
+    (YieldsList-from_slice c.args.names.now cc) (λ x b q k. search (rules, tests))))

@@ -1,10 +1,7 @@
 use Rattle.std.proofs.Common.{◌≡◌, true, sym, subst, ◌∙◌}
 use Rattle.std.specs.List.{All}
 use Rattle.std.proofs.lemmas.List.Elements.{filter_passes}
-use Rattle.lattice.specs.Family.{Covers}
-use Rattle.lattice.specs.Cofactors.{sub}
-use Rattle.lattice.specs.Rows.{cube}
-use Rattle.lattice.specs.WorkingLists.{care_list}
+use Rattle.lattice.specs.Words.{Covers, sub, cube, care_list}
 use Rattle.lattice.proofs.Diagrams.{covers_left}
 use Rattle.node_store.proofs.StoreLaws.{Grows-trans}
 use Rattle.pla_reader.specs.Reading.{description}
@@ -15,9 +12,7 @@ use Rattle.point_ideals.proofs.cares.care_points.Goals as goal
 
 pub cubes_of-requires-clause-planned : goal.cubes_of-requires-clause-planned
 cubes_of-requires-clause-planned g c =
-    let s = g.S.Store.state c.args.store.now in
-    let p = c.args.p.now in
-    let output = c.args.output in
+    let s = g.S.Store.state c.args.store.now in let p = c.args.p.now in let output = c.args.output in
     subst (All (λ r. Covers s.plan (sub s.vars (cube s.vars r)))) (sym (c.as_slice.ensures ∙ c.in_ok-part.ensures.rows))
     (subst (λ v. All (λ r. Covers s.plan (sub v (cube v r))) (used_rows output p.rows)) (sym c.requires.vars)
     (cubes_planned output p.rows p.inputs p.outputs p.kind s.plan p.fits.rows_fit
@@ -25,19 +20,15 @@ cubes_of-requires-clause-planned g c =
 
 pub care_sets-requires-clause-cubes : goal.care_sets-requires-clause-cubes
 care_sets-requires-clause-cubes g c =
-    let t = g.S.Store.state c.cubes_of.new.store in
-    let p = c.args.p.now in
-    let part = c.in_ok-part.part in
-    let output = c.args.output in
+    let t = g.S.Store.state c.cubes_of.new.store in let p = c.args.p.now in
+    let part = c.in_ok-part.part in let output = c.args.output in
     subst (AreCubes t part.rows) (sym c.deref.ensures.value) (cubes_are t output part.rows c.in_ok-cubes.cubes.items
     (subst (All (λ r. says_of output r ≡ true)) (sym c.in_ok-part.ensures.rows) (filter_passes (says_of output) p.rows))
     (subst (λ rs. AreRowCubes t rs c.in_ok-cubes.cubes.items) c.as_slice.ensures c.in_ok-cubes.ensures.cubes))
 
 pub care_sets-requires-clause-planned : goal.care_sets-requires-clause-planned
 care_sets-requires-clause-planned g c =
-    let s = g.S.Store.state c.args.store.now in
-    let p = c.args.p.now in
-    let output = c.args.output in
+    let s = g.S.Store.state c.args.store.now in let p = c.args.p.now in let output = c.args.output in
     rw (
       c.in_ok-part.ensures.inputs,
       c.in_ok-part.ensures.kind,
@@ -52,9 +43,7 @@ returns-in_err-cares-clause-grows g c = Grows-trans _ _ _ c.in_ok-cubes.ensures.
 
 pub union-requires-clause-planned : goal.union-requires-clause-planned
 union-requires-clause-planned g c =
-    let p = c.args.p.now in
-    let output = c.args.output in
-    let e = c.in_ok-part.ensures in
+    let p = c.args.p.now in let output = c.args.output in let e = c.in_ok-part.ensures in
     union_planned (g.S.Store.state c.args.store.now) (g.S.Store.state c.care_sets.new.store)
     (description p) output c.in_ok-cares.cares.zeros
     c.in_ok-cares.cares.ones (c.in_ok-cares.ensures.grows.vars ∙ (c.in_ok-cubes.ensures.grows.vars ∙ c.requires.vars))
@@ -72,9 +61,7 @@ returns-clause-grows g c =
 
 pub returns-clause-points : goal.returns-clause-points
 returns-clause-points g c =
-    let p = c.args.p.now in
-    let output = c.args.output in
-    let e = c.in_ok-part.ensures in
+    let p = c.args.p.now in let output = c.args.output in let e = c.in_ok-part.ensures in
     points_held (g.S.Store.state c.args.store.now) (g.S.Store.state c.care_sets.new.store) (description p) output c.in_ok-cares.cares.zeros
     c.in_ok-cares.cares.ones (c.in_ok-cares.ensures.grows.vars ∙ (c.in_ok-cubes.ensures.grows.vars ∙ c.requires.vars))
     (c.in_ok-cares.ensures.grows.plan ∙ c.in_ok-cubes.ensures.grows.plan) c.requires.planned

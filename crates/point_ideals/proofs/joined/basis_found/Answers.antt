@@ -1,7 +1,7 @@
 use Rattle.std.proofs.Common.{◌∙◌, subst}
 use Rattle.pla_reader.specs.Reading.{description}
 use Rattle.point_ideals.specs.Joined.{FindsBasis}
-use Rattle.point_ideals.proofs.OwnStores.{made_plan, made_slots, made_vars}
+use Rattle.point_ideals.proofs.JointSteps.{made_plan, made_slots, made_vars}
 use Rattle.point_ideals.proofs.joined.basis_found.Goals as goal
 
 pub basis_in-requires-clause-vars : goal.basis_in-requires-clause-vars

@@ -1,6 +1,6 @@
 use Rattle.std.proofs.lemmas.Result.{err_from_is_err_and}
 use Rattle.pla_reader.specs.Reading.{description}
-use Rattle.point_ideals.proofs.JointLimits.{found_joint, found_within, not_found, stopped_first}
+use Rattle.point_ideals.proofs.JointSteps.{found_joint, found_within, not_found, stopped_first}
 use Rattle.point_ideals.proofs.joined.joint_basis.Goals as goal
 
 pub returns-in_err-leads-clause-refused : goal.returns-in_err-leads-clause-refused

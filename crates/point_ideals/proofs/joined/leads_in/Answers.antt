@@ -1,16 +1,15 @@
-use Rattle.std.proofs.Common.{◌∙◌, Err, ap, arith, length, reverse}
+use Rattle.std.proofs.Common.{◌∙◌, Err, ap, arith, length, refl, reverse}
 use Rattle.std.proofs.lemmas.List.{reverse-reverse}
 use Rattle.node_store.proofs.StoreLaws.{Denotes-family}
 use Rattle.pla_reader.specs.Reading.{description}
 use Rattle.run_parts.proofs.FoundTerms.{fits}
 use Rattle.point_ideals.specs.Joined.{first_phase_list, joint_leads}
-use Rattle.point_ideals.proofs.OwnStores.{phase_unlisted}
+use Rattle.point_ideals.proofs.JointSteps.{phase_listed, phase_unlisted}
 use Rattle.point_ideals.proofs.joined.leads_in.Goals as goal
 
 pub returns-in_err-walk_upto : goal.returns-in_err-walk_upto
 returns-in_err-walk_upto g c =
-    let d = description c.args.p.now in
-    let t = g.S.Store.state c.first_phase.new.store in
+    let d = description c.args.p.now in let t = g.S.Store.state c.first_phase.new.store in
     let is = c.in_ok-found.ensures.found in
     let nodes = fits t d.inputs (first_phase_list d c.args.joining) (g.met.S.Store.sound c.first_phase.new.store) is.held in
     let leads_are = Denotes-family t c.in_ok-found.found.leads (joint_leads d c.args.joining) is.leads in
@@ -20,15 +19,9 @@ returns-in_err-walk_upto g c =
 
 pub returns : goal.returns
 returns g c =
-    let d = description c.args.p.now in
-    let t = g.S.Store.state c.first_phase.new.store in
+    let d = description c.args.p.now in let t = g.S.Store.state c.first_phase.new.store in
     let is = c.in_ok-found.ensures.found in
     let nodes = fits t d.inputs (first_phase_list d c.args.joining) (g.met.S.Store.sound c.first_phase.new.store) is.held in
     let leads_are = Denotes-family t c.in_ok-found.found.leads (joint_leads d c.args.joining) is.leads in
-    record {
-      answer = ap reverse c.in_ok-walk_upto.ensures.members ∙ (reverse-reverse _ ∙ leads_are);
-      fits = omega (arith, c.in_ok-found.ensures.grows.capacity, nodes);
-      few = omega (arith, c.in_ok-walk_upto.ensures.within, ap length leads_are);
-      exhausted = λ e. cc;
-      terms = λ e. cc;
-    }
+    phase_listed _ _ _ _ _ _ refl (ap reverse c.in_ok-walk_upto.ensures.members ∙ (reverse-reverse _ ∙ leads_are))
+    (omega (arith, c.in_ok-found.ensures.grows.capacity, nodes)) (omega (arith, c.in_ok-walk_upto.ensures.within, ap length leads_are))

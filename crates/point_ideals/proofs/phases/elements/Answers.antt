@@ -1,6 +1,6 @@
-use Rattle.std.proofs.Common.{ap, ◌∙◌}
+use Rattle.std.proofs.Common.{ap, arith, ◌∙◌}
 use Rattle.node_store.proofs.StoreLaws.{Grows-knows}
-use Rattle.point_ideals.proofs.JointElements.{all_elements, element_planned, lead_below, lead_there, no_elements, one_element}
+use Rattle.point_ideals.proofs.JointSteps.{all_elements, element_planned, lead_below, lead_there, no_elements, one_element}
 use Rattle.point_ideals.proofs.phases.elements.Goals as goal
 
 pub loop-lead-init : goal.loop-lead-init
@@ -29,9 +29,7 @@ basis_element-requires-clause-planned g c =
     _ _ _ _ _ c.in-Some.ensures.steps c.loop-lead.invariant
 
 pub loop-lead-preserved : goal.loop-lead-preserved
-loop-lead-preserved g c =
-    one_element (g.S.Store.state c.args.store.now) c.args.points c.args.leads.now c.requires.points c.requires.leads c.requires.planned
-    _ _ _ _ _ c.in-Some.ensures.steps c.loop-lead.invariant c.in_ok-basis_element.ensures.gives c.in_ok-push.ensures.items
+loop-lead-preserved g c = grind (arith, one_element)
 
 pub returns-clause-elements : goal.returns-clause-elements
 returns-clause-elements g c =

@@ -1,4 +1,4 @@
-use Rattle.point_ideals.proofs.JointElements.{Elements}
+use Rattle.point_ideals.proofs.JointSteps.{Elements}
 use Rattle.point_ideals.proofs.phases.elements.Given as goal
 
 -- the elements of the leads before the rest

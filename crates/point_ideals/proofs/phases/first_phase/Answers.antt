@@ -1,6 +1,6 @@
 use Rattle.node_store.proofs.StoreLaws.{Grows-trans}
 use Rattle.pla_reader.specs.Reading.{description}
-use Rattle.point_ideals.proofs.JointPoints.{leads_planned, phase_held, points_planned}
+use Rattle.point_ideals.proofs.JointSteps.{leads_planned, phase_held, points_planned}
 use Rattle.point_ideals.proofs.phases.first_phase.Goals as goal
 
 pub joint_points-requires-clause-planned : goal.joint_points-requires-clause-planned

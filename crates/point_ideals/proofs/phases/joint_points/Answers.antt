@@ -1,6 +1,6 @@
 use Rattle.node_store.proofs.StoreLaws.{Grows-trans}
 use Rattle.pla_reader.specs.Reading.{description}
-use Rattle.point_ideals.proofs.JointPoints.{first_planned, joined_planned, joint_held, second_planned}
+use Rattle.point_ideals.proofs.JointSteps.{first_planned, joined_planned, joint_held, second_planned}
 use Rattle.point_ideals.proofs.phases.joint_points.Goals as goal
 
 pub care_points-requires-clause-planned : goal.care_points-requires-clause-planned

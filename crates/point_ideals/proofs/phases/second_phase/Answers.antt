@@ -1,7 +1,7 @@
 use Rattle.std.proofs.lemmas.Result.{IfOk-weaker}
 use Rattle.node_store.proofs.StoreLaws.{Denotes-knows, Grows-trans}
 use Rattle.pla_reader.specs.Reading.{description}
-use Rattle.point_ideals.proofs.JointElements.{are_leads, basis_held, elements_planned, phase_planned}
+use Rattle.point_ideals.proofs.JointSteps.{are_leads, basis_held, elements_planned, phase_planned}
 use Rattle.point_ideals.proofs.phases.second_phase.Goals as goal
 
 pub first_phase-requires-clause-planned : goal.first_phase-requires-clause-planned

@@ -8,8 +8,7 @@ overflow_add-mixed c =
     let part = place_part c.args.bits c.args.at c.requires.bits c.requires.at in
     let is = shifted c.args.bits c.cache_bits-rest.result c.args.at c.from.result c.requires.bits c.requires.at
     c.cache_bits-rest.ensures c.from.ensures in
-    let word = c.ranges.word in
-    Fits-below {n = 9007199254740992} tt (omega (arith, part, is, word.fits))
+    let word = c.ranges.word in Fits-below {n = 9007199254740992} tt (omega (arith, part, is, word.fits))
 
 pub returns : goal.returns
 returns c = found_key c.args.bits c.args.at c.args.word (c.from.result * 2 ^ (52 - c.cache_bits-rest.result) % 18446744073709551616)

@@ -1,11 +1,9 @@
-use Rattle.std.proofs.Common.{◌∙◌, List, ap, map, reverse, subst, sym}
-use Rattle.std.specs.List.{All}
+use Rattle.std.proofs.Common.{◌∙◌, map, reverse, sym}
 use Rattle.std.proofs.lemmas.Bool.{false≢true}
 use Rattle.std.proofs.lemmas.Result.{err_from_is_err_and}
-use Rattle.lattice.specs.Family.{Family, IsFamily}
 use Rattle.pla_reader.specs.Reading.{description}
-use Rattle.query_run.specs.Due.{IsDueJoining, basis_text, done, other_outputs}
-use Rattle.query_run.specs.Parts.{IsContradiction, due_without, no_memory}
+use Rattle.query_run.specs.Due.{other_outputs}
+use Rattle.query_run.specs.Parts.{due_without, no_memory}
 use Rattle.query_run.proofs.Endings.{basis_due, basis_over, clash_joined, stopped_ends}
 use Rattle.query_run.proofs.answer.joined_text.Goals as goal
 
@@ -15,30 +13,20 @@ returns-then-not-has_two_outputs-clause-err c =
 
 pub returns-in_err-consistent-clause-err : goal.returns-in_err-consistent-clause-err
 returns-in_err-consistent-clause-err c =
-    let d = description c.args.p.now in
     let stop = err_from_is_err_and c.from_residual.result c.from_residual.ensures.1 in
-    rw stop.1 (clash_joined c.args.bits d c.args.joining (c.has_two_outputs.ensures.0 c.if-not-has_two_outputs.false)
-    (subst (IsContradiction d) (sym stop.2) c.in_err-consistent.ensures.err))
+    rw (stop.1, stop.2) (clash_joined (c.has_two_outputs.ensures.0 c.if-not-has_two_outputs.false) c.in_err-consistent.ensures.err)
 
 pub returns-in-Err-clause-err : goal.returns-in-Err-clause-err
-returns-in-Err-clause-err c =
-    rw c.stopped.ensures (stopped_ends c.args.bits (description c.args.p.now) c.args.joining
-    (c.has_two_outputs.ensures.0 c.if-not-has_two_outputs.false)
+returns-in-Err-clause-err c = rw c.stopped.ensures (stopped_ends (c.has_two_outputs.ensures.0 c.if-not-has_two_outputs.false)
     c.in_ok-consistent.ensures.ok c.in-Err.refusal c.in-Err.ensures.refused)
 
 pub basis_text-requires : goal.basis_text-requires
-basis_text-requires c =
-    subst (λ (lists : List Family). All (IsFamily c.args.p.now.inputs) (map reverse lists)) (sym c.as_slice.ensures)
-    (basis_over (description c.args.p.now) c.args.joining (map reverse c.in-Ok.basis) c.in-Ok.ensures.basis)
+basis_text-requires c = rw c.as_slice.ensures (basis_over (description c.args.p.now) c.args.joining _ c.in-Ok.ensures.basis)
 
 pub returns-in-Ok-basis_text-clause-ok : goal.returns-in-Ok-basis_text-clause-ok
 returns-in-Ok-basis_text-clause-ok c =
-    let d = description c.args.p.now in
-    let text = c.in-Ok-basis_text.ensures ∙ ap (λ (lists : List Family). basis_text d (map reverse lists)) c.as_slice.ensures in
-    subst (λ t. IsDueJoining c.args.bits d c.args.joining (done t)) (sym text)
-    (basis_due c.args.bits d c.args.joining
-    (c.has_two_outputs.ensures.0 c.if-not-has_two_outputs.false) c.in_ok-consistent.ensures.ok (map reverse c.in-Ok.basis)
-    c.in-Ok.ensures.basis c.in-Ok.ensures.within)
+    rw (c.in-Ok-basis_text.ensures, c.as_slice.ensures) (basis_due (c.has_two_outputs.ensures.0 c.if-not-has_two_outputs.false)
+    c.in_ok-consistent.ensures.ok (map reverse c.in-Ok.basis) c.in-Ok.ensures.basis c.in-Ok.ensures.within)
 
 pub returns-clause-err : goal.returns-clause-err
 returns-clause-err c = no_memory

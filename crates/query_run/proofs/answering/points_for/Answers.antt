@@ -1,5 +1,4 @@
-use Rattle.std.proofs.Common.{sym, ◌∙◌}
-use Rattle.std.proofs.lemmas.Bool.{true≢false}
+use Rattle.std.proofs.Common.{sym, ◌∙◌, arith}
 use Rattle.pla_reader.specs.Reading.{description}
 use Rattle.query_run.proofs.QueryAnswers.{named_planned}
 use Rattle.query_run.proofs.answering.points_for.Goals as goal
@@ -10,5 +9,4 @@ care_points-requires-clause-planned g c =
     (sym c.is_named.ensures ∙ c.if-is_named.true)
 
 pub returns-else-is_named-clause-points : goal.returns-else-is_named-clause-points
-returns-else-is_named-clause-points g c =
-    λ named. absurd (true≢false (sym named ∙ (sym c.is_named.ensures ∙ c.if-is_named.false)))
+returns-else-is_named-clause-points g c = grind (arith, named_planned)

@@ -1,4 +1,4 @@
-use Rattle.query_run.proofs.OneDue.{same_due}
+use Rattle.query_run.proofs.Endings.{same_due}
 use Rattle.query_run.proofs.laws.one_is_due.Goals as goal
 
 pub returns : goal.returns

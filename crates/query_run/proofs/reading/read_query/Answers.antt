@@ -4,17 +4,13 @@ use Rattle.query_run.proofs.QueryLines.{asks, asks_over, bad_form, order_of, sto
 use Rattle.query_run.proofs.reading.read_query.Goals as goal
 
 pub returns-in_default : goal.returns-in_default
-returns-in_default c = record { query = bad_form c.args.ins.now c.args.outs.now _ c.in_default.ensures; over = tt }
+returns-in_default c = grind (arith, bad_form)
 
 pub returns-then-not-includes-clause-query : goal.returns-then-not-includes-clause-query
-returns-then-not-includes-clause-query c =
-    unknown_output c.args.ins.now c.args.outs.now _ c.in-Some.left.now c.in-Some.right.now c.in-Some.ensures.0 c.in-Some.ensures.1
-    (sym c.includes.ensures ∙ c.if-not-includes.true)
+returns-then-not-includes-clause-query c = grind (arith, unknown_output)
 
 pub returns-then-not-are_known-clause-query : goal.returns-then-not-are_known-clause-query
-returns-then-not-are_known-clause-query c =
-    unknown_input c.args.ins.now c.args.outs.now _ c.in-Some.left.now c.in-Some.right.now c.in-Some.ensures.0 c.in-Some.ensures.1
-    (sym c.includes.ensures ∙ c.if-not-includes.false) (sym c.are_known.ensures ∙ c.if-not-are_known.true)
+returns-then-not-are_known-clause-query c = grind (arith, unknown_input)
 
 pub returns-in-Err-clause-query : goal.returns-in-Err-clause-query
 returns-in-Err-clause-query c =
@@ -23,12 +19,10 @@ returns-in-Err-clause-query c =
     rw (c.order_refusal.ensures, order) (stops_order _ c.in-Err.refusal c.in-Err.ensures)
 
 pub overflow_cast-result : goal.overflow_cast-result
-overflow_cast-result c =
-    omega (arith, c.place_of.ensures, known_place c.args.outs.now c.in-Some.left.now (sym c.includes.ensures ∙ c.if-not-includes.false))
+overflow_cast-result c = grind (arith, known_place)
 
 pub overflow_add-result : goal.overflow_add-result
-overflow_add-result c =
-    omega (arith, c.place_of.ensures, known_place c.args.outs.now c.in-Some.left.now (sym c.includes.ensures ∙ c.if-not-includes.false))
+overflow_add-result c = grind (arith, known_place)
 
 pub returns-clause-query : goal.returns-clause-query
 returns-clause-query c =
@@ -43,6 +37,4 @@ returns-clause-query c =
     )
 
 pub returns-clause-over : goal.returns-clause-over
-returns-clause-over c =
-    rw (c.place_of.ensures, c.in-Ok.ensures.1) (asks_over c.args.ins.now c.args.outs.now c.in-Some.left.now c.in-Some.right.now
-    (sym c.includes.ensures ∙ c.if-not-includes.false) c.in-Ok.ensures.0)
+returns-clause-over c = grind (arith, asks_over)

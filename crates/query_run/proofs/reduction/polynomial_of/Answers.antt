@@ -1,23 +1,19 @@
-use Rattle.std.proofs.Common.{arith}
+use Rattle.std.proofs.Common.{rules, arith}
 use Rattle.query_run.proofs.ReducedSteps.{no_terms, one_more, sum_planned, term_planned, sums_whole}
 use Rattle.node_store.proofs.StoreLaws.{failed, then_call}
 use Rattle.query_run.proofs.reduction.polynomial_of.Goals as goal
 
 pub loop-term-init : goal.loop-term-init
-loop-term-init g c = no_terms (g.S.Store.state c.args.store.now) c.args.terms.now (g.met.S.Store.sound c.args.store.now)
+loop-term-init g c = search (rules, no_terms, g.met.S.Store.sound)
 
 pub one-requires-clause-planned : goal.one-requires-clause-planned
-one-requires-clause-planned g c =
-    term_planned (g.S.Store.state c.args.store.now) c.args.terms.now c.requires.planned c.loop-term.term-index c.loop-term-test.true
-    c.term-item.result c.term-item.is c.loop-term.invariant
+one-requires-clause-planned g c = grind (arith, term_planned)
 
 pub returns-in_err-next : goal.returns-in_err-next
 returns-in_err-next g c = failed c.from_residual.ensures.0 c.loop-term.invariant.found.reads c.in_err-next.ensures
 
 pub union-requires-clause-planned : goal.union-requires-clause-planned
-union-requires-clause-planned g c =
-    sum_planned (g.S.Store.state c.args.store.now) c.args.terms.now c.requires.planned c.loop-term.term-index c.loop-term-test.true
-    c.term-item.result c.term-item.is c.loop-term.invariant c.in_ok-next.ensures
+union-requires-clause-planned g c = grind (arith, sum_planned)
 
 pub returns-in_err-sum : goal.returns-in_err-sum
 returns-in_err-sum g c =
@@ -29,4 +25,4 @@ loop-term-preserved g c =
     c.term-item.result c.term-item.is c.loop-term.invariant c.in_ok-next.ensures c.in_ok-sum.ensures
 
 pub returns : goal.returns
-returns g c = sums_whole (g.S.Store.state c.args.store.now) c.args.terms.now c.loop-term.invariant (omega (arith, c.loop-term-test.false))
+returns g c = search (rules, arith, sums_whole)

@@ -1,6 +1,3 @@
-use Rattle.std.proofs.Common.{subst}
-use Rattle.std.specs.Io.KnownBytes.{Appends}
-use Rattle.outside.specs.Causes.{GainsLess}
 use Rattle.query_run.proofs.Endings.{due_of_read, ends_without, ends_written, without_of_read, without_owed}
 use Rattle.query_run.proofs.top.answered.Goals as goal
 
@@ -11,12 +8,11 @@ returns-in-Err g c =
       read = (owed.0, owed.1);
       write = λ e. absurd (owed.2 e);
       ends = λ words whole asked is. ends_without words c.args.bits whole c.args.mode asked (g.K.Sink.held c.args.out.now)
-          (without_of_read c.args.mode c.args.bits whole c.args.bytes.now is c.in-Err.ensures.err);
+          (without_of_read whole c.args.bytes.now is c.in-Err.ensures.err);
     }
 
 pub returns-in-Ok-clause-ends : goal.returns-in-Ok-clause-ends
 returns-in-Ok-clause-ends g c = λ words whole asked is.
     ends_written words c.args.bits whole c.args.mode asked (g.K.Sink.held c.args.out.now) (g.K.Sink.held c.written.new.out) c.in-Ok.text
-    (due_of_read c.args.mode c.args.bits whole c.args.bytes.now is c.in-Ok.ensures.ok) c.written.result c.written.ensures.ends
-    (λ e. subst (Appends (g.K.Sink.held c.args.out.now) (g.K.Sink.held c.written.new.out)) c.as_slice.ensures (c.written.ensures.whole e))
-    (λ e. subst (GainsLess (g.K.Sink.held c.args.out.now) (g.K.Sink.held c.written.new.out)) c.as_slice.ensures (c.written.ensures.less e))
+    (due_of_read whole c.args.bytes.now is c.in-Ok.ensures.ok) c.written.result c.written.ensures.ends
+    (rw c.as_slice.ensures at c.written.ensures.whole) (rw c.as_slice.ensures at c.written.ensures.less)

@@ -1,7 +1,7 @@
-use Rattle.set_algebra.proofs.HalvesLemmas.{halves_of}
+use Rattle.std.proofs.Common.{arith}
+use Rattle.lattice.proofs.Diagrams.{level-below, weight_is}
+use Rattle.node_store.proofs.StoreLaws.{node_level}
 use Rattle.set_algebra.proofs.halves.split.Goals as goal
 
 pub returns-clause-halves : goal.returns-clause-halves
-returns-clause-halves g c =
-    halves_of (g.S.Store.state c.args.store.now) (g.S.Store.state c.node.new.self) c.args.a c.in_ok-n.n c.vars.result
-    (g.met.S.Store.sound c.node.new.self) c.node.ensures.reads.grows c.in_ok-n.ensures.node c.in_ok-n.ensures.family c.vars.ensures
+returns-clause-halves g c = grind (arith, node_level, weight_is, level-below)

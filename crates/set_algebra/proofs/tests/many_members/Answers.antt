@@ -10,23 +10,19 @@ power-requires g c =
 
 pub one-requires-clause-below : goal.one-requires-clause-below
 one-requires-clause-below g c =
-    let s = state_of c.in_ok-store.store in
-    let t = state_of c.power.new.store in
+    let s = state_of c.in_ok-store.store in let t = state_of c.power.new.store in
     let any = MayHoldAny-made s 62 _ _ c.in_ok-store.ensures.state c.any_plan.ensures in
     any_below 62 t 5 (omega arith) (MayHoldAny-later 62 s t c.power.ensures.grows any)
 
 pub one-requires-clause-planned : goal.one-requires-clause-planned
 one-requires-clause-planned g c =
-    let s = state_of c.in_ok-store.store in
-    let t = state_of c.power.new.store in
+    let s = state_of c.in_ok-store.store in let t = state_of c.power.new.store in
     let any = MayHoldAny-made s 62 _ _ c.in_ok-store.ensures.state c.any_plan.ensures in
     any_one 62 t 5 (omega arith) (MayHoldAny-later 62 s t c.power.ensures.grows any)
 
 pub combined-requires : goal.combined-requires
 combined-requires g c =
-    let s = state_of c.in_ok-store.store in
-    let t = state_of c.power.new.store in
-    let u = state_of c.one.new.store in
+    let s = state_of c.in_ok-store.store in let t = state_of c.power.new.store in let u = state_of c.one.new.store in
     let any = MayHoldAny-made s 62 _ _ c.in_ok-store.ensures.state c.any_plan.ensures in
     record {
       any = MayHoldAny-later 62 t u c.one.ensures.grows (MayHoldAny-later 62 s t c.power.ensures.grows any);

@@ -1,8 +1,7 @@
 use Rattle.std.proofs.Common.{ℕ, arith, Ok}
 use Rattle.node_store.proofs.StoreLaws.{failed, grow_parts, grow_planned, Gives-failed}
 use Rattle.std_monomials.proofs.LeadLemmas.{Cut, call_of, by_definition, empty_gives, none_left_gives, looked_gives, kept_result, cut_at}
-use Rattle.std_monomials.proofs.LeadLemmas.{falls}
-use Rattle.std_monomials.proofs.LeadLemmas.{low_call, at_u, high_call, at_v, inter_planned, halves, grown_gives}
+use Rattle.std_monomials.proofs.LeadLemmas.{falls, low_call, at_u, high_call, at_v, inter_planned, halves, grown_gives}
 use Rattle.std_monomials.proofs.monomials.+leads.Goals as goal
 use Rattle.std_monomials.proofs.monomials.+leads.Goals.{After-parts}
 use Rattle.std_monomials.proofs.monomials.+leads.Given.{Over}

@@ -1,9 +1,8 @@
 use Rattle.std.proofs.Common.{ℕ, arith, Ok, refl}
 use Rattle.node_store.proofs.StoreLaws.{failed, grow_parts, grow_planned, Gives-failed, Reads-trans}
 use Rattle.std_monomials.proofs.StandardLemmas.{Cut, call_of, by_definition, constant_gives, looked_gives, kept_result, parts_after}
-use Rattle.std_monomials.proofs.StandardLemmas.{first_at}
-use Rattle.std_monomials.proofs.StandardLemmas.{cut_at, union_planned, at_u, inter_planned, halved, lo_falls, lo_call, at_w, hi_falls}
-use Rattle.std_monomials.proofs.StandardLemmas.{hi_call, halves, grown_gives}
+use Rattle.std_monomials.proofs.StandardLemmas.{first_at, cut_at, union_planned, at_u, inter_planned, halved, lo_falls, lo_call, at_w}
+use Rattle.std_monomials.proofs.StandardLemmas.{hi_falls, hi_call, halves, grown_gives}
 use Rattle.std_monomials.proofs.monomials.+standard.Goals as goal
 use Rattle.std_monomials.proofs.monomials.+standard.Goals.{After-parts}
 use Rattle.std_monomials.proofs.monomials.+standard.Given.{Over}
@@ -35,8 +34,7 @@ parts-requires-clause-after g m c =
     parts_after at (Reads-trans _ _ _ c.first_var.ensures.reads c.look.ensures.reads)
 
 pub union-requires-clause-planned : goal.union-requires-clause-planned
-union-requires-clause-planned g m c =
-    union_planned (at_parts g m (goal.at.union-requires-clause-planned g m c).After-parts)
+union-requires-clause-planned g m c = union_planned (at_parts g m (goal.at.union-requires-clause-planned g m c).After-parts)
 
 pub returns-in_err-either-clause-gives : goal.returns-in_err-either-clause-gives
 returns-in_err-either-clause-gives g m c =

@@ -20,8 +20,7 @@ leads-requires-clause-closed g c =
 
 pub leads-requires-clause-planned : goal.leads-requires-clause-planned
 leads-requires-clause-planned g c =
-    let s = g.S.Store.state c.family_of.new.store in
-    let t = g.S.Store.state c.standard.new.store in
+    let s = g.S.Store.state c.family_of.new.store in let t = g.S.Store.state c.standard.new.store in
     any_leads c.args.vars t c.in_ok-monos.monos
     (MayHoldAny-later c.args.vars s t c.standard.ensures.gives.grows
     (MayHoldAny-later c.args.vars (g.S.Store.state c.args.store.now) s c.family_of.ensures.grows c.requires.any))

@@ -47,19 +47,16 @@ returns-in-Err-Over-clause-long c = λ long p is.
     (c.in-Err-Over.ensures.over (ap Err c.in-Err-Over.field-0-is))
 
 pub returns-in_err-zeros-clause-full : goal.returns-in_err-zeros-clause-full
-returns-in_err-zeros-clause-full c = λ is.
-    rw (← c.any_plan.ensures)
+returns-in_err-zeros-clause-full c = λ is. rw (← c.any_plan.ensures)
     (over_plan c.args.inputs _ _ _ _ _ c.in_ok-store.ensures.state c.family_of.ensures.grows c.in_err-zeros.ensures.full)
 
 pub returns-in_err-ones-clause-full : goal.returns-in_err-ones-clause-full
-returns-in_err-ones-clause-full c = λ is.
-    rw (← c.any_plan.ensures)
+returns-in_err-ones-clause-full c = λ is. rw (← c.any_plan.ensures)
     (over_plan c.args.inputs _ _ _ _ _ c.in_ok-store.ensures.state
     (Grows-trans _ _ _ c.family_of.ensures.grows c.family_of-2.ensures.grows) c.in_err-ones.ensures.full)
 
 pub returns-in_err-found-clause-full : goal.returns-in_err-found-clause-full
-returns-in_err-found-clause-full c = λ is.
-    rw (← c.any_plan.ensures)
+returns-in_err-found-clause-full c = λ is. rw (← c.any_plan.ensures)
     (over_plan c.args.inputs _ _ _ _ _ c.in_ok-store.ensures.state
     (Grows-trans _ _ _ (Grows-trans _ _ _ c.family_of.ensures.grows c.family_of-2.ensures.grows) c.least.ensures.result.grows)
     c.in_err-found.ensures.result.full)

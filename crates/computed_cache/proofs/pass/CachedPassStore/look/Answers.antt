@@ -1,8 +1,8 @@
-use Rattle.std.proofs.Common.{refl, sym, ◌∙◌}
+use Rattle.std.proofs.Common.{refl, ◌∙◌}
 use Rattle.unique_table.specs.PassOf.{pass_state, pass_sound}
 use Rattle.unique_table.proofs.PassNeeds.{small_known}
 use Rattle.computed_cache.proofs.Slots.{first_small, second_small}
-use Rattle.computed_cache.proofs.Looking.{kept_at, found_result}
+use Rattle.computed_cache.proofs.Looking.{found_result}
 use Rattle.computed_cache.proofs.pass.CachedPassStore.look.Goals as goal
 
 pub slot_of-slot-requires-clause-a : goal.slot_of-slot-requires-clause-a
@@ -15,13 +15,9 @@ slot_of-slot-requires-clause-b c = let p = c.args.self.now.pass in
 
 pub returns-clause-result : goal.returns-clause-result
 returns-clause-result c =
-    let p = c.args.self.now.pass in
-    let q = c.cache_load-word.new.self in
-    let slot = c.slot_of-slot in
-    let w = c.cache_load-word.result in
-    found_result (pass_state p) (pass_state q) c.bits.result c.args.op c.args.a c.args.b w
+    let p = c.args.self.now.pass in let slot = c.slot_of-slot in
+    found_result (pass_state p) (pass_state c.cache_load-word.new.self) c.bits.result c.args.op c.args.a c.args.b c.cache_load-word.result
     (first_small (pass_state p) c.args.op c.args.a c.args.b (small_known p) c.requires)
     (second_small (pass_state p) c.args.op c.args.a c.args.b (pass_sound p) (small_known p) c.requires) c.if-word-eq0.false
-    (c.if-word-slot.false ∙ slot.ensures.quotient)
-    (kept_at (pass_state p) (pass_state q) _ _ _ _ w (sym c.bits.ensures.is) slot.ensures.place c.cache_load-word.ensures.word)
+    (c.if-word-slot.false ∙ slot.ensures.quotient) (rw (← c.bits.ensures.is, slot.ensures.place) at c.cache_load-word.ensures.word)
     c.requires _ refl

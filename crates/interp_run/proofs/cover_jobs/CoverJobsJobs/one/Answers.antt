@@ -1,4 +1,4 @@
-use Rattle.interp_run.proofs.CoverLists.{cubes_from_uses}
+use Rattle.interp_run.proofs.TaskJobs.{cubes_from_uses}
 use Rattle.interp_run.proofs.cover_jobs.CoverJobsJobs.one.Goals as goal
 
 pub cover-requires-clause-cubes : goal.cover-requires-clause-cubes

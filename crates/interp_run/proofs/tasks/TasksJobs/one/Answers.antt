@@ -1,5 +1,5 @@
-use Rattle.pla_reader.specs.Reading.{description}
 use Rattle.interp_run.proofs.TaskJobs.{cares_from_uses}
+use Rattle.pla_reader.specs.Reading.{description}
 use Rattle.interp_run.proofs.tasks.TasksJobs.one.Goals as goal
 
 pub find-requires-clause-cares : goal.find-requires-clause-cares

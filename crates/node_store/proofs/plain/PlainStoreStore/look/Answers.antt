@@ -1,5 +1,4 @@
 use Rattle.std.proofs.Common.{◌∙◌}
-use Rattle.node_store.specs.Plain.{plain_state}
 use Rattle.node_store.specs.PlainOf.{state_of, key_of}
 use Rattle.node_store.proofs.PlainLemmas.{kept_found}
 use Rattle.node_store.proofs.plain.PlainStoreStore.look.Goals as goal

@@ -1,10 +1,9 @@
 use Rattle.std.specs.Prelude.{◌+◌, ◌^◌, ◌==◌}
-use Rattle.unique_table.specs.PassOf.{AreOfOne}
-use Rattle.unique_table.proofs.Visits.{Walked}
+use Rattle.unique_table.proofs.Calls.{Walked}
 use Rattle.unique_table.proofs.pass.Pass.find.Given as goal
 
 abbrev pub ghosts-visit : goal.ghosts-visit
 ghosts-visit a = record { asked = a.word; last = a.steps + 1 == 2 ^ a.self.now.bits }
 
 abbrev pub invariant-loop-steps : goal.invariant-loop-steps
-invariant-loop-steps l = AreOfOne l.fn.self l.self × Walked l.fn.self.seat.me.0 l.word l.steps l.self.seat.me.0
+invariant-loop-steps l = Walked l.fn.self l.word l.steps l.self

@@ -1,0 +1,298 @@
+-- The care points of two outputs put together, their leads, the elements of their reduced basis, and the limits that these pass.
+use Rattle.std.proofs.Common.{◌≡◌, ◌∙◌, ◌++◌, ◌∷◌, ℕ, [], Ok, refl, ◌<◌, ◌^◌, List, ap, ap₂, append-nil, append_assoc, arith, length}
+use Rattle.std.proofs.Common.{reverse, subst, sym, true, ◌≢◌, None, Option, Some, map, Err, Result, ◌≤◌}
+use Rattle.lattice.specs.Words.{leads_of, standard_of, IsLead, basis_element_of, Covers, Family, has, working_set, basis_element_list}
+use Rattle.lattice.proofs.Diagrams.{covers_append, covers_head, covers_left, covers_one, covers_right, covers_nil}
+use Rattle.node_store.specs.Stores.{Builds, Gives, Grows, IsPlanned, State, family, Knows}
+use Rattle.node_store.specs.declared.store.Handle.{Handle}
+use Rattle.node_store.proofs.StoreLaws.{Denotes-family, Denotes-knows, Grows-family, Grows-refl, Grows-trans}
+use Rattle.pla_reader.specs.Reading.{Description}
+use Rattle.run_parts.specs.Found.{point_leads_list, terms_of}
+use Rattle.point_ideals.specs.Cares.{HoldsPoints, points_list}
+use Rattle.point_ideals.specs.Joined.{HoldsJoint, HoldsJointPoints, first_phase_list, joined, joint_points, joint_points_list, HoldsBasis}
+use Rattle.point_ideals.specs.Joined.{HoldsElements, elements_list, joint_leads, second_phase_list, FindsBasis, FindsLeads, IsJointBasis}
+use Rattle.point_ideals.specs.Joined.{first_refused, joint_basis_of, PhaseGives, refusal_by}
+use Rattle.point_ideals.specs.declared.joined.Joining.{Joining}
+use Rattle.point_ideals.proofs.HeldPoints.{points_later}
+use Rattle.std.specs.List.{All, sum_by}
+use Rattle.std.proofs.lemmas.Grind.{flat_map-append}
+use Rattle.std.proofs.lemmas.List.{flat_map_more, map_push, nil_from_length, reverse-append, length-map}
+use Rattle.std.proofs.lemmas.List.Elements.{All-nil, All-push}
+use Rattle.lattice.proofs.Polynomials.{All-from_has, All-has, has-append, has_head, leads_are_minimal}
+use Rattle.run_parts.proofs.FoundTerms.{All_known-later, families_later}
+use Rattle.point_ideals.specs.declared.phases.Joint.{Joint}
+use Rattle.point_ideals.proofs.JointBases.{basis_listed, joint_fits, joint_exists, joint_unique}
+use Rattle.std.specs.Prelude.{IfErr, IfOk, IsErrAnd}
+use Rattle.std.proofs.lemmas.Bool.Decides.{nat_tests}
+use Rattle.std.proofs.lemmas.List.Folds.{fold-map}
+use Rattle.point_ideals.specs.declared.joined.BasisRefusal.{BasisRefusal}
+use Rattle.point_ideals.specs.declared.joined.BasisRefusal.TheVariants.{Exhausted, Memory, Terms}
+use Rattle.std.proofs.lemmas.Result.{err_from_is_err_and}
+use Rattle.node_store.specs.Plain.{plain_state}
+use Rattle.set_algebra.specs.declared.counted.WalkRefusal.{WalkRefusal}
+use Rattle.set_algebra.specs.declared.counted.WalkRefusal.TheVariants as unlisted
+
+-- ---- the points; s is the state at the call, t the one after the points of output 1, u after those of output 2
+
+module _ (s : State) (d : Description) (joining : Joining)
+    (planned : Covers s.plan (working_set d.inputs (joint_points_list d joining))) where
+  pub first_planned : Covers s.plan (working_set d.inputs (points_list d 1))
+  first_planned = covers_left d.inputs s.plan (points_list d 1) _ planned
+
+  rest_planned : Covers s.plan (working_set d.inputs (points_list d 2 ++ joint_points d joining ∷ []))
+  rest_planned = covers_right d.inputs s.plan (points_list d 1) _ planned
+
+  pub second_planned : (t : State) → Grows s t → Covers t.plan (working_set d.inputs (points_list d 2))
+  second_planned t grows = rw grows.plan (covers_left d.inputs s.plan (points_list d 2) _ rest_planned)
+
+  module _ (vars_are : s.vars ≡ d.inputs) {t u : State} (one : Grows s t) (two : Grows t u) {first second : Handle}
+      (first_is : HoldsPoints t d 1 first) (second_is : HoldsPoints u d 2 second) where
+    u_vars : u.vars ≡ d.inputs
+    u_vars = two.vars ∙ (one.vars ∙ vars_are)
+
+    joined_is : joined joining u.vars (family u first) (family u second) ≡ joint_points d joining
+    joined_is = rw (
+      u_vars,
+      Denotes-family u first _ (points_later t u d 1 first two first_is).denotes,
+      Denotes-family u second _ second_is.denotes,
+    ) refl
+
+    pub joined_planned : IsPlanned u (joined joining u.vars (family u first) (family u second))
+    joined_planned = rw (joined_is, u_vars, two.plan, one.plan)
+        (covers_head d.inputs s.plan [] (joint_points d joining) (covers_right d.inputs s.plan (points_list d 2) _ rest_planned))
+
+    pub joint_held : {v : State} {h : Handle} → Builds u v (Ok h) (joined joining u.vars (family u first) (family u second))
+        → HoldsJointPoints v d joining h
+    joint_held {v = v} {h = h} is = record {
+      denotes = rw (← joined_is) is.ok;
+      held = covers_append d.inputs v.held (points_list d 1) (points_list d 2 ++ joint_points d joining ∷ [])
+          (λ f i. is.grows.held f (two.held f (first_is.held f i)))
+          (covers_append d.inputs v.held (points_list d 2) (joint_points d joining ∷ []) (λ f i. is.grows.held f (second_is.held f i))
+          (covers_one d.inputs v.held (joint_points d joining) (rw (← joined_is, ← u_vars) is.held)));
+    }
+
+-- ---- phase 1; t is the state after the points
+
+module _ (s : State) (d : Description) (joining : Joining)
+    (planned : Covers s.plan (working_set d.inputs (first_phase_list d joining))) where
+  pub points_planned : Covers s.plan (working_set d.inputs (joint_points_list d joining))
+  points_planned = covers_left d.inputs s.plan (joint_points_list d joining) _ planned
+
+  module _ (vars_are : s.vars ≡ d.inputs) {t : State} (one : Grows s t) {points : Handle} (is : HoldsJointPoints t d joining points) where
+    joint_are : family t points ≡ joint_points d joining
+    joint_are = Denotes-family t points (joint_points d joining) is.denotes
+
+    pub leads_planned : Covers t.plan (working_set t.vars (point_leads_list t.vars (family t points)))
+    leads_planned = rw (joint_are, one.vars, vars_are, one.plan) (covers_right d.inputs s.plan (joint_points_list d joining) _ planned)
+
+    pub phase_held : {u : State} {h : Handle} → Gives t u (Ok h) (leads_of t.vars (standard_of t.vars (family t points)))
+        (working_set t.vars (point_leads_list t.vars (family t points)))
+        → HoldsJoint u d joining (record { points = points; leads = h })
+    phase_held {u = u} {h = h} gives = record {
+      points = gives.grows.known points.0 _ is.denotes;
+      leads = rw (joint_are, one.vars, vars_are) at gives.ok;
+      held = covers_append d.inputs u.held (joint_points_list d joining) (point_leads_list d.inputs (joint_points d joining))
+          (λ f i. gives.grows.held f (is.held f i)) (rw (joint_are, one.vars, vars_are) at gives.held);
+    }
+
+-- ---- the elements of the reduced basis of points, one after the other
+
+-- the elements with some leads, those before the rest, which go from the greatest to the least; s is the state before them
+pub record Elements (s t : State) (points : Handle) (leads rest : List ℕ) (found : List Handle) : Type 0 where
+  pub done : List ℕ
+  pub split : reverse leads ≡ done ++ reverse rest
+  pub grows : Grows s t
+  pub holds : HoldsElements t (family s points) done found
+
+module _ (s : State) (points : Handle) (leads : List ℕ) where
+  abbrev P : Family
+  P = family s points
+
+  pub no_elements : (rest : List ℕ) → rest ≡ leads → Elements s s points leads rest []
+  no_elements rest is = record {
+    done = [];
+    split = ap reverse (sym is);
+    grows = Grows-refl s;
+    holds = record { known = All-nil (Knows s); are = refl; held = covers_nil s.vars s.held };
+  }
+
+  -- m is the least of the rest, and t the state before its element
+  module _ (known : Knows s points) (are : All (λ m. (m < 2 ^ s.vars) × IsLead s.vars P m) (reverse leads))
+      (planned : Covers s.plan (working_set s.vars (elements_list s.vars P (reverse leads)))) (t : State) (rest left : List ℕ) (m : ℕ)
+      (found : List Handle) (cut : rest ≡ left ++ m ∷ []) (so_far : Elements s t points leads rest found) where
+    turned : reverse leads ≡ so_far.done ++ (m ∷ reverse left)
+    turned = so_far.split ∙ ap (λ xs. so_far.done ++ xs) (ap reverse cut ∙ reverse-append left (m ∷ []))
+
+    is_lead : (m < 2 ^ s.vars) × IsLead s.vars P m
+    is_lead =
+        let here : has (so_far.done ++ (m ∷ reverse left)) m ≡ true =
+        grind (arith, has-append so_far.done (m ∷ reverse left) m, has_head m (reverse left)) in
+        All-has (λ m. (m < 2 ^ s.vars) × IsLead s.vars P m) (reverse leads) m are (rw turned here)
+
+    same_points : family t points ≡ P
+    same_points = Grows-family s t points so_far.grows known
+
+    list_split : elements_list s.vars P (reverse leads) ≡ elements_list s.vars P so_far.done ++
+        (basis_element_list s.vars m P ++ elements_list s.vars P (reverse left))
+    list_split = ap (elements_list s.vars P) turned ∙ flat_map-append (λ m. basis_element_list s.vars m P) so_far.done (m ∷ reverse left)
+
+    element_needs : Covers s.plan (working_set s.vars (basis_element_list s.vars m P))
+    element_needs = covers_left s.vars s.plan (basis_element_list s.vars m P) _
+        (covers_right s.vars s.plan (elements_list s.vars P so_far.done) _
+        (subst (λ list. Covers s.plan (working_set s.vars list)) list_split planned))
+
+    pub lead_below : m < 2 ^ t.vars
+    lead_below = rw so_far.grows.vars is_lead.0
+
+    pub lead_there : IsLead t.vars (family t points) m
+    lead_there = rw (so_far.grows.vars, same_points) is_lead.1
+
+    pub element_planned : Covers t.plan (working_set t.vars (basis_element_list t.vars m (family t points)))
+    element_planned = rw (so_far.grows.vars, same_points, so_far.grows.plan) element_needs
+
+    pub one_element : {u : State} {h : Handle} {more : List Handle} → Gives t u (Ok h) (basis_element_of t.vars m (family t points))
+        (working_set t.vars (basis_element_list t.vars m (family t points)))
+        → more ≡ found ++ h ∷ [] → Elements s u points leads left more
+    one_element {u = u} {h = h} {more = more} gives items = record {
+      done = so_far.done ++ m ∷ [];
+      split = turned ∙ sym (append_assoc so_far.done (m ∷ []) (reverse left));
+      grows = Grows-trans s t u so_far.grows gives.grows;
+      holds = record {
+        known = rw items (All-push (Knows u) found h (All_known-later t u found gives.grows so_far.holds.known)
+            (Denotes-knows u h _ gives.ok));
+        are = rw (items, gives.grows.vars) (map_push (family u) found h
+            ∙ (ap₂ (λ (xs : List Family) (x : Family). xs ++ x ∷ [])
+            (families_later t u found gives.grows so_far.holds.known ∙ so_far.holds.are)
+            (Denotes-family u h _ gives.ok ∙ ap (basis_element_of t.vars m) same_points)
+            ∙ sym (map_push (λ k. basis_element_of t.vars k P) so_far.done m)));
+        held = subst (λ list. Covers u.held (working_set u.vars list)) (flat_map_more (λ k. basis_element_list u.vars k P) [] so_far.done m)
+            (covers_append u.vars u.held (elements_list u.vars P so_far.done) (basis_element_list u.vars m P)
+            (rw gives.grows.vars (λ f i. gives.grows.held f (so_far.holds.held f i)))
+            (rw gives.grows.vars (rw same_points at gives.held)));
+      };
+    }
+
+  -- after the last one
+  pub all_elements : {t : State} {rest : List ℕ} {found : List Handle} → length rest ≡ 0 → Elements s t points leads rest found
+      → HoldsElements t P (reverse leads) found
+  all_elements {t = t} {rest = rest} {found = found} none so_far =
+      let all : reverse leads ≡ so_far.done = so_far.split
+      ∙ (ap (λ r. so_far.done ++ reverse r) (nil_from_length rest none) ∙ append-nil so_far.done) in
+      subst (λ ms. HoldsElements t P ms found) (sym all) so_far.holds
+
+-- ---- phase 2; s is the state at the call, and t the one after phase 1
+
+module _ (s : State) (d : Description) (joining : Joining)
+    (planned : Covers s.plan (working_set d.inputs (second_phase_list d joining))) where
+  abbrev C : Family
+  C = joint_points d joining
+
+  pub phase_planned : Covers s.plan (working_set d.inputs (first_phase_list d joining))
+  phase_planned = covers_left d.inputs s.plan (first_phase_list d joining) _ planned
+
+  module _ (vars_are : s.vars ≡ d.inputs) (t : State) (one : Grows s t) (found : Joint) (is : HoldsJoint t d joining found) (leads : List ℕ)
+      (leads_are : reverse leads ≡ joint_leads d joining) where
+    points_are : family t found.points ≡ C
+    points_are = Denotes-family t found.points C is.points
+
+    pub elements_planned : Covers t.plan (working_set t.vars (elements_list t.vars (family t found.points) (reverse leads)))
+    elements_planned = rw (points_are, one.vars, vars_are, one.plan, leads_are)
+        (covers_right d.inputs s.plan (first_phase_list d joining) _ planned)
+
+    pub are_leads : All (λ m. (m < 2 ^ t.vars) × IsLead t.vars (family t found.points) m) (reverse leads)
+    are_leads = rw (points_are, one.vars, vars_are, leads_are)
+        (All-from_has (λ m. (m < 2 ^ d.inputs) × IsLead d.inputs C m) (joint_leads d joining)
+        (λ m i. (leads_are_minimal d.inputs C (joint_fits d joining) m).0 i))
+
+    pub basis_held : {u : State} {elements : List Handle} → Grows t u
+        → HoldsElements u (family t found.points) (reverse leads) elements → HoldsBasis u d joining elements
+    basis_held {u = u} {elements = elements} two holds =
+        let u_vars : u.vars ≡ d.inputs = two.vars ∙ (one.vars ∙ vars_are) in
+        record {
+          known = holds.known;
+          are = rw (points_are, leads_are, u_vars) at holds.are ∙ basis_listed d joining;
+          held = covers_append d.inputs u.held (first_phase_list d joining) (elements_list d.inputs C (joint_leads d joining))
+              (λ f i. two.held f (is.held f i)) (rw (points_are, leads_are, u_vars) at holds.held);
+        }
+
+-- ---- what is counted of a reduced basis, and the first limit that it passes
+
+-- the elements in a store have the terms of the basis
+pub elements_counted : (t : State) (d : Description) (joining : Joining) (found : List Handle) → HoldsBasis t d joining found
+    → terms_of t found ≡ sum_by length (joint_basis_of d joining)
+elements_counted t d joining found is = sym (fold-map _ (family t) 0 found) ∙ ap (sum_by length) is.are
+
+-- ---- the first limit that is passed
+
+module _ (bits limit : ℕ) (d : Description) (joining : Joining) where
+  abbrev Refuses : BasisRefusal → Type 0
+  Refuses e = (basis : List Family) → IsJointBasis d joining basis → first_refused bits limit d joining basis ≡ Some e
+
+  -- as many elements as leads
+  leads_counted : length (joint_basis_of d joining) ≡ length (joint_leads d joining)
+  leads_counted = ap length (sym (basis_listed d joining)) ∙ length-map (joint_leads d joining) _
+
+  -- a fact of the basis that is found is one of each
+  of_each : {X : Type 0} (f : List Family → X) (x : X) → f (joint_basis_of d joining) ≡ x → (basis : List Family)
+      → IsJointBasis d joining basis → f basis ≡ x
+  of_each f x at basis is = ap f (joint_unique d joining basis (joint_basis_of d joining) is (joint_exists d joining)) ∙ at
+
+  abbrev refusal : List Family → Option BasisRefusal
+  refusal = first_refused bits limit d joining
+
+  pub stopped_first : (e : BasisRefusal) → FindsLeads (2 ^ bits) limit d joining (Err e) → e ≢ Memory → Refuses e
+  stopped_first Exhausted h other = of_each refusal (Some Exhausted) (grind (arith, nat_tests, h.exhausted refl))
+  stopped_first Terms h other = of_each refusal (Some Terms) (grind (arith, nat_tests, h.terms refl, leads_counted))
+  stopped_first Memory h other = absurd (other refl)
+
+  module _ (found : Family) (first : FindsLeads (2 ^ bits) limit d joining (Ok found)) where
+    stopped_last : (e : BasisRefusal) → FindsBasis (2 ^ bits) limit d joining (Err e) → e ≢ Memory → Refuses e
+    stopped_last Exhausted h other = of_each refusal (Some Exhausted)
+        (grind (arith, nat_tests, first.fits, first.few, leads_counted, h.exhausted refl))
+    stopped_last Terms h other = of_each refusal (Some Terms) (grind (arith, nat_tests, first.fits, first.few, leads_counted, h.terms refl))
+    stopped_last Memory h other = absurd (other refl)
+
+    pub not_found : (r : Result (List Family) BasisRefusal) → FindsBasis (2 ^ bits) limit d joining r
+        → IfErr r (λ e. e ≢ Memory → Refuses e)
+    not_found (Ok lists) h = tt
+    not_found (Err e) h = stopped_last e h
+
+    pub found_within : (r : Result (List Family) BasisRefusal) → FindsBasis (2 ^ bits) limit d joining r
+        → IfOk r (λ lists. refusal (map reverse lists) ≡ None)
+    found_within (Err e) h = tt
+    found_within (Ok lists) h = rw h.answer (grind (arith, nat_tests, first.fits, first.few, leads_counted, h.fits, h.few))
+
+    pub found_joint : (r : Result (List Family) BasisRefusal) → FindsBasis (2 ^ bits) limit d joining r
+        → IfOk r (λ lists. IsJointBasis d joining (map reverse lists))
+    found_joint (Err e) h = tt
+    found_joint (Ok lists) h = rw h.answer (joint_exists d joining)
+
+-- ---- a store that was made for a phase: what it has, and what the phase gives
+
+module _ (s : State) (vars slots : ℕ) (plan : List Family) (is : s ≡ plain_state vars slots plan 0 []) where
+  pub made_vars : s.vars ≡ vars
+  unfolding plain_state
+  made_vars = ap (λ (s : State). s.vars) is
+
+  pub made_plan : s.plan ≡ plan
+  unfolding plain_state
+  made_plan = ap (λ (s : State). s.plan) is
+
+  pub made_slots : s.capacity ≡ slots
+  unfolding plain_state
+  made_slots = ap (λ (s : State). s.capacity) is
+
+module _ {T : Type 0} (slots limit nodes count : ℕ) (IsAnswer : T → Type 0) (r : Result T BasisRefusal) where
+  -- where all were listed
+  pub phase_listed : {x : T} → r ≡ Ok x → IsAnswer x → nodes ≤ slots → count ≤ limit → PhaseGives slots limit nodes count IsAnswer r
+  phase_listed is answer fits few = rw is (record { answer = answer; fits = fits; few = few; exhausted = λ e. cc; terms = λ e. cc })
+
+  -- where there were too many members, or memory ran out
+  pub phase_unlisted : (x : WalkRefusal) → IsErrAnd r (λ e. e ≡ refusal_by x) → nodes ≤ slots → (x ≡ unlisted.Over → limit < count)
+      → PhaseGives slots limit nodes count IsAnswer r
+  phase_unlisted unlisted.Over named fits over =
+      let p = err_from_is_err_and r named in
+      rw (p.1, p.2) (record { answer = tt; fits = tt; few = tt; exhausted = λ e. cc; terms = λ _. (fits, over refl) })
+  phase_unlisted unlisted.Memory named fits over =
+      let p = err_from_is_err_and r named in
+      rw (p.1, p.2) (record { answer = tt; fits = tt; few = tt; exhausted = λ e. cc; terms = λ e. cc })

@@ -1,0 +1,248 @@
+-- What the calls of a pass leave, as calls of a store.
+use Rattle.std.proofs.Common.{◌≡◌, ℕ, suc, ◌+◌, ◌-◌, ◌^◌, ◌<◌, ◌≤◌, Some, None, Ok, Err, Option, IsNone, IfSome, IfNone, List, [], ◌∷◌}
+use Rattle.std.proofs.Common.{◌++◌, zero, ◌==◌, true, false, length-append, eq-eqb, eqb-true, length, sym, refl, ◌↔◌, ◌⊎◌, subst, arith}
+use Rattle.lattice.specs.Words.{Family, Has, var_of, lo_of, hi_of, place, refused}
+use Rattle.std.proofs.lemmas.List.{append-nil, append_assoc}
+use Rattle.std.proofs.lemmas.List.Elements.{Contains-append_right}
+use Rattle.std.proofs.lemmas.Nat.{pow_pos}
+use Rattle.lattice.specs.declared.entry.Entry.{Entry}
+use Rattle.lattice.specs.declared.entry.Entry.TheVariants.{Met, Ask, Full}
+use Rattle.lattice.proofs.Diagrams.{refusals_of-grows, refusals_of-quiet, refusals_of-refused, refused-append, hi_of-word, lo_of-word}
+use Rattle.lattice.proofs.Diagrams.{var_of-word}
+use Rattle.node_store.specs.Stores.{State, Knows, family, node_family, IsNode, Grows, Reads, Builds}
+use Rattle.node_store.specs.PackedNodes.{IsPackable, IsPacked}
+use Rattle.node_store.specs.declared.store.Node.{Node}
+use Rattle.node_store.specs.declared.store.Handle.{Handle}
+use Rattle.node_store.proofs.StoreLaws.{some_is}
+use Rattle.probe_core.proofs.ProbedWords.{node_of, packed}
+use Rattle.atomic_table.specs.Seated.{TableId}
+use Rattle.unique_table.specs.declared.view.View.{View}
+use Rattle.unique_table.specs.Kept.{IsKept}
+use Rattle.unique_table.specs.Views.{name_of, known_by, steps_of, after_load, after_store, view_state}
+use Rattle.unique_table.specs.Told.{AreChildren, HasChildren, MetOther, IsAsked, IsNext, HasNoRoom, Passes, IsCrowded, Goes, Meets}
+use Rattle.unique_table.specs.Told.{PassesBy, Interned, AllOthers, Looked, Stored, Sat}
+use Rattle.unique_table.specs.Passes.{word_of, IsInterned, FindsFull, HasMet}
+use Rattle.unique_table.specs.PassOf.{AreOfOne, pass_state, pass_steps, pass_sound, bits_of}
+use Rattle.unique_table.specs.declared.pass.Pass.{Pass}
+use Rattle.unique_table.proofs.Fitting.{over, covers}
+use Rattle.unique_table.proofs.PassNeeds.{small_known}
+
+-- ---- the walk along a path
+
+goes_on : (v u w : View) (more more' : List Entry) → Goes v more u → Goes u more' w → Goes v (more ++ more') w
+goes_on v u w more more' g g' = grind (arith, append_assoc)
+
+-- each place that was passed by was met with another word
+passed_at : (bits w d : ℕ) (es : List Entry) → PassesBy bits w d es → (e k : ℕ) → e < length es → k ≡ d + e → MetOther es w (place bits w k)
+passed_at bits w d [] by e k less is = absurd (omega arith)
+passed_at bits w d (Met h x ∷ es) by zero k less is = (x, (0, omega arith, let same : k ≡ d = omega arith in cc (by.0, same)), by.1)
+passed_at bits w d (Met h x ∷ es) by (suc e) k less is = let t = passed_at bits w (suc d) es by.2 e k (omega arith) (omega arith) in
+    (t.0, Contains-append_right (Met h x ∷ []) es (Met (suc (suc (place bits w k))) t.0) t.1, t.2)
+passed_at bits w d (Ask h x ∷ es) by e k less is = absurd by
+passed_at bits w d (Full x ∷ es) by e k less is = absurd by
+
+by_append : (bits w d k : ℕ) (es more : List Entry) → PassesBy bits w d es → PassesBy bits w k more → k ≡ d + length es
+    → PassesBy bits w d (es ++ more)
+by_append bits w d k [] more by rest is = let same : d ≡ k = omega arith in rw same rest
+by_append bits w d k (Met h x ∷ es) more by rest is = (by.0, by.1, by_append bits w (suc d) k es more by.2 rest (omega arith))
+by_append bits w d k (Ask h x ∷ es) more by rest is = absurd by
+by_append bits w d k (Full x ∷ es) more by rest is = absurd by
+
+-- what holds after the places before the d-th were passed
+pub record Walked (p : Pass) (w d : ℕ) (q : Pass) : Type 0 where
+  pub same : AreOfOne p q
+  pub within : d ≤ 2 ^ p.bits
+  pub before : List Entry
+  pub count : length before ≡ d
+  pub others : PassesBy p.bits w 0 before
+  pub goes : d < 2 ^ p.bits → Goes p.seat.me.0 before q.seat.me.0
+  pub full : d ≡ 2 ^ p.bits → Goes p.seat.me.0 (before ++ Full w ∷ []) q.seat.me.0 × HasNoRoom p.seat.me.0 w
+
+pub walked_none : (p : Pass) (w : ℕ) → Walked p w 0 p
+walked_none p w = grind (arith, append-nil, pow_pos)
+
+module _ (p : Pass) (w d : ℕ) (q : Pass) (walked : Walked p w d q) (less : d < 2 ^ p.bits) where
+  -- the next place of the path
+  pub next_of : IsNext q.seat.me.0 w d (place q.bits w d)
+  next_of = let g = walked.goes less in let bits : (q.seat.me.0).terms.bits ≡ p.bits = grind (arith, q.sizes, walked.same) in record {
+    within = grind (arith, p.sizes, q.sizes, walked.same);
+    there = grind (arith, q.sizes);
+    others = λ e less'. let t = passed_at p.bits w 0 walked.before walked.others e e (omega (arith, walked.count)) (omega arith) in
+        rw (bits, g.history) (t.0, Contains-append_right (p.seat.me.0).history walked.before _ t.1, t.2);
+  }
+
+  -- another word was passed there
+  pub walked_more : (q' : Pass) → AreOfOne q q'
+      → (other : ℕ) × Passes q.seat.me.0 (d + 1 == 2 ^ q.bits) (place q.bits w d) other w q'.seat.me.0 → Walked p w (d + 1) q'
+  walked_more q' same t =
+      let g = walked.goes less in let m = t.1.meets in
+      let here : List Entry = Met (suc (suc (place p.bits w d))) t.0 ∷ [] in record {
+        same = grind (arith, walked.same);
+        within = grind arith;
+        before = walked.before ++ here;
+        count = grind (arith, length-append, walked.count);
+        others = by_append p.bits w 0 d walked.before here walked.others (refl, t.1.differs, tt) (omega (arith, walked.count));
+        goes = λ less'. let e : (d + 1 == 2 ^ q.bits) ≡ false = grind (arith, walked.same, eqb-true) in
+            goes_on _ _ _ walked.before here g (grind (arith, m.goes, e, walked.same));
+        full = λ end. let e : (d + 1 == 2 ^ q.bits) ≡ true = grind (arith, walked.same, eq-eqb) in
+            let more = goes_on p.seat.me.0 q.seat.me.0 q'.seat.me.0 walked.before (here ++ Full w ∷ []) g (grind (
+              arith,
+              m.goes,
+              e,
+              walked.same,
+            )) in
+            (grind (arith, more, append_assoc), λ low high known. grind (arith, t.1.over e low high, g));
+      }
+
+module _ (z y : TableId) (v u : View) (same : y ≡ z) (more : List Entry) (goes : Goes v more u) where
+  -- what goes on is a later state
+  goes_grows : Grows (view_state (name_of z) v) (view_state (name_of y) u)
+  unfolding view_state
+  goes_grows = grind (arith, refusals_of-grows)
+
+  -- and without refusals only reads
+  goes_reads : refused more ≡ 0 → Reads (view_state (name_of z) v) (view_state (name_of y) u)
+  unfolding view_state
+  goes_reads none = grind (arith, goes_grows, refusals_of-quiet)
+
+-- the parts of a node's word
+parts_are : (n : Node) (w : ℕ) → IsPackable n → w ≡ word_of n → (var_of w ≡ n.var) × (lo_of w ≡ n.lo.0) × (hi_of w ≡ n.hi.0)
+parts_are n w ok is = grind (arith, var_of-word, lo_of-word, hi_of-word)
+
+-- a pass packs the nodes over its handles
+pub packable : (p : Pass) (n : Node) → IsNode (pass_state p) n → IsPackable n
+packable p n node = grind (arith, small_known, pass_sound p)
+
+-- no place that was passed was refused
+none_refused : (bits w d : ℕ) (es : List Entry) → PassesBy bits w d es → refused es ≡ 0
+none_refused bits w d [] by = refl
+none_refused bits w d (Met h x ∷ es) by = none_refused bits w (suc d) es by.2
+none_refused bits w d (Ask h x ∷ es) by = absurd by
+none_refused bits w d (Full x ∷ es) by = absurd by
+
+-- ---- an intern
+
+module _ (p : Pass) (n : Node) (w : ℕ) (node : IsNode (pass_state p) n) (is : w ≡ word_of n) where
+  abbrev low : Family
+  low = family (pass_state p) n.lo
+
+  abbrev high : Family
+  high = family (pass_state p) n.hi
+
+  abbrev whole : Family
+  whole = node_family (pass_state p) n
+
+  parts : (var_of w ≡ n.var) × (lo_of w ≡ n.lo.0) × (hi_of w ≡ n.hi.0)
+  parts = parts_are n w (packable p n node) is
+
+  children : AreChildren p.seat.me.0 w low high
+  unfolding pass_state view_state
+  children = grind (arith, some_is, parts)
+
+  pub asked_for : Has (pass_state p).plan whole → IsAsked p.seat.me.0 w
+  unfolding pass_state view_state
+  asked_for planned = grind (arith, parts, children)
+
+  module _ (q : Pass) (same : q.seat.table_id ≡ p.seat.table_id) where
+    -- what is told where the word was found
+    pub found_told : (at : ℕ) → Interned p.seat.me.0 w at q.seat.me.0 → let h : Handle = record { 0 = at + 2 } in
+        Builds (pass_state p) (pass_state q) (Ok h) whole × ((k : ℕ) → (pass_state p).known k ≡ Some whole → at + 2 ≡ k)
+        × IsInterned (pass_state p) (pass_state q) n h
+    unfolding pass_state view_state
+    found_told at found =
+        let known : (pass_state q).known (at + 2) ≡ Some whole = grind (arith, parts, found.handle low high children) in
+        let none : refused (found.before ++ Met (suc (suc at)) w ∷ Ask (suc (suc at)) w ∷ []) ≡ 0 =
+        grind (arith, refused-append, none_refused) in
+        let reads = goes_reads _ _ _ _ same _ found.goes none in
+        (grind (arith, reads, known, pass_sound q), (λ k was. grind (arith, reads, known, pass_sound q)), grind arith)
+
+    -- what is told where the table is full
+    pub full_told : Has (pass_state p).plan whole → AllOthers p.seat.me.0 w q.seat.me.0
+        → Builds (pass_state p) (pass_state q) (Err (record {})) whole × FindsFull (pass_state p) (pass_state q) n
+    unfolding pass_state view_state
+    full_told planned all =
+        let one : refused (all.before ++ Full w ∷ []) ≡ 1 = grind (arith, refused-append, none_refused) in
+        let crowded : IsCrowded (pass_state p).capacity (pass_state p).plan whole = grind (arith, parts, all.over low high children) in
+        let met : (slot : ℕ) → slot < (pass_state p).capacity → MetOther all.before w slot = λ slot less.
+        let c = covers (p.seat.me.0).terms.bits w slot less in
+        subst (MetOther all.before w) c.2
+        (passed_at (p.seat.me.0).terms.bits w 0 all.before all.others c.0 c.0 (grind arith) (omega arith)) in
+        let grows = goes_grows _ _ _ _ same _ all.goes in (
+          grind (arith, grows, one, refusals_of-refused, over _ _ whole crowded planned),
+          grind (arith, subst (λ x. (slot : ℕ) → slot < (pass_state p).capacity → MetOther all.before x slot) is met, crowded),
+        )
+
+-- ---- a look at a node
+
+-- what is told of the node of a handle
+pub record IsNodeTold (s t : State) (h : Handle) (r : Option Node) : Type 0 where
+  pub reads : Reads s t
+  pub constant : IsNone r ↔ (h.0 < 2)
+  pub node : IfSome r (IsNode t)
+  pub family : IfSome r (λ n. node_family t n ≡ family s h)
+  pub met : IfSome r (HasMet s t h)
+  pub nothing : IsNone r → t ≡ s
+
+known_of : (p : Pass) (h : Handle) → 2 ≤ h.0 → Knows (pass_state p) h
+    → known_by (p.seat.me.0).known (suc (suc (h.0 - 2))) ≡ Some (family (pass_state p) h)
+unfolding pass_state view_state
+known_of p h more known = grind (arith, some_is)
+
+pub is_known : (p : Pass) (h : Handle) → 2 ≤ h.0 → Knows (pass_state p) h
+    → (f : Family) × (known_by (p.seat.me.0).known (suc (suc (h.0 - 2))) ≡ Some f)
+is_known p h more known = (family (pass_state p) h, known_of p h more known)
+
+module _ (p q : Pass) (h : Handle) (w : ℕ) (same : q.seat.table_id ≡ p.seat.table_id) (more : 2 ≤ h.0) (known : Knows (pass_state p) h)
+    (meets : Meets p.seat.me.0 (Met (suc (suc (h.0 - 2))) w ∷ []) (h.0 - 2) w q.seat.me.0) where
+  kids : HasChildren q.seat.me.0 w (family (pass_state p) h)
+  kids = meets.teaches.children (family (pass_state p) h) (known_of p h more known)
+
+  module _ (n : Node) (is : IsPacked w n) where
+    ends : (var_of w ≡ n.var) × (lo_of w ≡ n.lo.0) × (hi_of w ≡ n.hi.0)
+    ends = parts_are n w is.packable (sym is.word_is)
+
+    node_is : IsNode (pass_state q) n
+    unfolding pass_state view_state
+    node_is = grind (arith, ends, kids)
+
+    family_is : node_family (pass_state q) n ≡ family (pass_state p) h
+    unfolding pass_state view_state
+    family_is = grind (arith, ends, kids)
+
+    met : HasMet (pass_state p) (pass_state q) h n
+    unfolding pass_state view_state
+    met = grind (arith, meets.goes, is.word_is)
+
+  pub node_told : (r : Option Node) → IfSome r (IsPacked w) → IfNone r ((n : Node) → ¬ IsPacked w n)
+      → IsNodeTold (pass_state p) (pass_state q) h r
+  unfolding pass_state view_state
+  node_told (Some n) some other = record {
+    reads = goes_reads _ _ _ _ same _ meets.goes refl;
+    constant = grind arith;
+    node = node_is n some;
+    family = family_is n some;
+    met = met n some;
+    nothing = grind arith;
+  }
+  node_told None some other = let t = meets.teaches in grind (arith, other (node_of w), packed, pass_sound q)
+
+-- ---- cache words
+
+module _ (p : Pass) (y : TableId) (m : Sat) (place at w : ℕ) (same : y ≡ p.seat.table_id) (there : at ≡ 2 ^ p.bits + place) where
+  -- what is told where a cache word was loaded
+  pub looked_told : Looked at p.seat.me w m → Reads (pass_state p) (view_state (name_of y) m.0)
+      × ((w ≡ 0) ⊎ IsKept (pass_state p) (view_state (name_of y) m.0) (bits_of p) place w)
+      × (steps_of m.0 ≡ after_load (pass_steps p) place w)
+  unfolding pass_state pass_steps bits_of
+  looked_told told =
+      let here : at ≡ 2 ^ (p.seat.me.0).terms.bits + place = grind (arith, p.sizes) in
+      let kept = told.word (name_of p.seat.table_id) place here in
+      (goes_reads _ _ _ _ same _ told.goes refl, grind (arith, p.sizes, kept), grind (arith, told.last place here))
+
+  -- what is told where one was stored
+  pub stored_told : Stored at p.seat.me w m
+      → (view_state (name_of y) m.0 ≡ pass_state p) × (steps_of m.0 ≡ after_store (pass_steps p) place w)
+  unfolding pass_state pass_steps
+  stored_told told =
+      let here : at ≡ 2 ^ (p.seat.me.0).terms.bits + place = grind (arith, p.sizes) in
+      grind (arith, told.put place here, told.same (name_of p.seat.table_id))
