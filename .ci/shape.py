@@ -3,9 +3,9 @@
 
 usage: shape.py [TOP]
 
-The rules: a crate gives its lemmas to other crates by two modules at most, where each lemma has a comment; no statement is proved in
-two crates; lines are short; each lemma is used; and the proofs as a whole are short. `rt ci` proves the repository: this script says
-nothing about that.
+The rules: a crate gives its lemmas to other crates by two modules at most, where each lemma has a comment, as it has where it is
+declared; no statement is proved in two crates; lines are short; each lemma is used; and the proofs as a whole are short. `rt ci`
+proves the repository: this script says nothing about that.
 """
 import collections
 import os
@@ -14,7 +14,7 @@ import sys
 
 COLUMNS = 140
 PUBLIC_MODULES = 2
-PROOF_LINES = 27_400
+PROOF_LINES = 26_000
 # Modules whose lemmas nothing need use: examples, and what the words of kept results are made of.
 EXAMPLES = re.compile(r"Examples|Worked|WordParts")
 
@@ -26,7 +26,8 @@ PASSED_ON = re.compile(r"^(?:unfoldable )?pub use ([\w.+]+)\.\{([^}]*)\}")
 IMPORT = re.compile(r"^\s*(?:ghost |unfoldable |pub )*use (?:package\.)?([\w.+]+)\.\{([^}]*)\}", re.M)
 TOKEN = re.compile(r"[(){}]|\.(?=\S)|[.,;]|[^\s(){}.,;]+")
 
-Lemma = collections.namedtuple("Lemma", "crate path line name statement local plain")
+Lemma = collections.namedtuple("Lemma", "crate path line name statement plain")
+Block = collections.namedtuple("Block", "indent parameters names")
 
 
 # ---- the files
@@ -128,40 +129,105 @@ def check_public_modules(top):
                     yield f"{os.path.relpath(path, top)}:{number + 1}: no comment above this public lemma: {line.strip()[:80]}"
 
 
+def passed_on(top, crate, module):
+    """(path, name) for each lemma that a public module passes on: the file that declares it, and its name there."""
+    for line in read_lines(os.path.join(top, "crates", crate, "proofs", module + ".antt")):
+        match = PASSED_ON.match(line)
+        parts = match.group(1).split(".") if match else []
+        path = os.path.join(top, "crates", *parts[1:]) + ".antt"
+        for name in match.group(2).split(",") if match and os.path.exists(path) else []:
+            yield path, name.split()[0]
+
+
+def check_comments(top):
+    """Each lemma that a public module passes on has a comment directly above it where it is declared."""
+    for crate in crates_of(top):
+        for module in public_modules(top, crate):
+            for path, name in passed_on(top, crate, module):
+                lines = read_lines(path)
+                heads = [SIGNATURE.match(line) or TYPE.match(line) for line in lines]
+                number = next(number for number, head in enumerate(heads) if head and head.group(3) == name)
+                if not lines[number - 1].lstrip().startswith("--"):
+                    yield f"{os.path.relpath(path, top)}:{number + 1}: no comment above {name}, which {module} passes on"
+
+
 # ---- lemmas and their statements
 
 
 def blocks_above(stack, indent):
     """Takes the blocks that end before a line with this indent from the stack."""
-    while stack and indent <= stack[-1][0]:
+    while stack and indent <= stack[-1].indent:
         stack.pop()
 
 
+def module_header(lines, number):
+    """The parameters of the module that begins at this line, which may go on over several lines, and the number of its last line."""
+    last = number
+    while last + 1 < len(lines) and not lines[last].rstrip().endswith("where"):
+        last += 1
+    header = " ".join(line.strip() for line in lines[number : last + 1])
+    return header[len("module _") : -len("where")].strip(), last
+
+
 def lemmas_of(top, crate, path):
-    """The lemmas of a file of proofs/, with the parameters of their modules in front of their statements."""
+    """The lemmas of a file, with the parameters of their modules that they use in front of their statements."""
     lines = read_lines(path)
-    fields, stack, found = fields_of_records(lines), [], []
+    fields, stack, found, header_end = fields_of_records(lines), [], [], -1
     for number, line in enumerate(lines):
         text = line.strip()
         indent = len(line) - len(line.lstrip())
-        if not text or text.startswith("--") or number in fields:
+        if not text or text.startswith("--") or number in fields or number <= header_end:
             continue
         blocks_above(stack, indent)
-        if text.startswith("module _") and text.endswith("where"):
-            stack.append((indent, text[len("module _") : -len("where")].strip(), False))
+        if text.startswith("module _"):
+            parameters, header_end = module_header(lines, number)
+            stack.append(Block(indent, parameters, []))
             continue
         if text == "where" or (text.endswith(" where") and not TYPE.match(line)):
-            stack.append((indent, "", True))
+            stack.append(Block(indent, "", []))
             continue
         match = SIGNATURE.match(line)
         if match:
-            parameters = " ".join(block[1] for block in stack if block[1])
-            statement = statement_at(lines, number, match)
-            whole = f"{parameters} → {statement}" if parameters else statement
-            local = any(block[2] for block in stack)
             plain = not {"abbrev", "unfoldable", "axiom"} & set(match.group(2).split())
-            found.append(Lemma(crate, path, number + 1, match.group(3), whole, local, plain))
+            lemma = Lemma(crate, path, number + 1, match.group(3), statement_at(lines, number, match), plain)
+            found.append(lemma._replace(statement=with_parameters(lines, lemma, stack)))
+            for block in stack:
+                block.names.append(lemma.name)
     return found
+
+
+def with_parameters(lines, lemma, stack):
+    """The statement of a lemma behind the parameters of its modules: all of them where its proof names another lemma of these modules,
+    which has them too, and else those that the lemma names."""
+    binders = [binder for block in stack for binder in binders_in(block.parameters)]
+    words = {word for number in own_lines(lines, lemma) for word in TOKEN.findall(lines[number])}
+    if not words & {name for block in stack for name in block.names} - {lemma.name}:
+        binders = binders_named(binders, words)
+    return " → ".join([" ".join(binders), lemma.statement] if binders else [lemma.statement])
+
+
+def binders_in(parameters):
+    """The parameters of a module, one by one: what stands in the outer brackets."""
+    found, depth = [], 0
+    for character in parameters:
+        if depth == 0 and character in "({":
+            found.append("")
+        depth += {"(": 1, "{": 1, ")": -1, "}": -1}.get(character, 0)
+        if depth or character in ")}":
+            found[-1] += character
+    return found
+
+
+def binders_named(binders, words):
+    """The binders whose names stand among the words or in the types of such binders, each with these names alone."""
+    kept = []
+    for binder in reversed(binders):
+        names, kind = binder[1:-1].split(":", 1)
+        used = [name for name in names.split() if name in words]
+        if used:
+            words = words | set(TOKEN.findall(kind))
+            kept.append(f"{binder[0]}{' '.join(used)} :{kind}{binder[-1]}")
+    return kept[::-1]
 
 
 def statement_at(lines, number, match):
@@ -285,18 +351,17 @@ def forms_of(top, crates, crate, path):
     text = "\n".join(read_lines(path))
     origins = origins_of(crates, crate, text, declared_in(text))
     for lemma in lemmas_of(top, crate, path):
-        if lemma.plain and not lemma.local:
-            statement = Statement(lemma.statement, origins)
-            form = statement.form()
-            if statement.dependent:
-                yield form, lemma
+        statement = Statement(lemma.statement, origins)
+        form = statement.form()
+        if lemma.plain and statement.dependent:
+            yield form, lemma
 
 
 def check_statements(top):
     """No statement is proved in two crates."""
     crates, by_form = set(crates_of(top)), collections.defaultdict(list)
     for crate in sorted(crates):
-        for path in proofs_of(top, crate):
+        for path in [*proofs_of(top, crate), *files_of(top, crate, "specs", ".antt")]:
             for form, lemma in forms_of(top, crates, crate, path):
                 by_form[form].append(lemma)
     for lemmas in by_form.values():
@@ -407,7 +472,7 @@ def check_uses(top):
                     yield f"{os.path.relpath(path, top)}:{lemma.line}: nothing uses {lemma.name}"
 
 
-CHECKS = (check_public_modules, check_statements, check_columns, check_uses, check_length)
+CHECKS = (check_public_modules, check_comments, check_statements, check_columns, check_uses, check_length)
 
 
 def main():

@@ -12,8 +12,7 @@ use Rattle.node_store.specs.declared.plain.PlainStore.{PlainStore}
 use Rattle.node_store.proofs.StoreLaws.{MayHoldAny-made, known_after}
 use Rattle.node_store.specs.declared.store.Handle.{Handle}
 use Rattle.set_algebra.specs.ReadyStores.{IsReady}
-use Rattle.bool_poly.proofs.OnesFamilies.{any_ones_set}
-use Rattle.bool_poly.proofs.ProductLemmas.{IsFamily-product_of, any_product_list}
+use Rattle.bool_poly.proofs.Families.{any_ones_set, IsFamily-product_of, any_product_list}
 
 -- a store that was made for any family is ready
 pub ready_made : (p : PlainStore) {vars : ℕ} (slots : ℕ) {fs : List Family} → state_of p ≡ plain_state vars slots fs 0 []

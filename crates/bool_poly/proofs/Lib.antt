@@ -1,7 +1,5 @@
 pub mod OnesLemmas
-mod OnesFamilies
+mod Families
 mod NodeLemmas
-mod OnesSteps
+mod Steps
 mod AnyNeeds
-mod ProductLemmas
-mod ProductSteps

@@ -22,8 +22,8 @@ use Rattle.node_store.specs.declared.store.Node.{Node}
 use Rattle.node_store.proofs.StoreLaws.{Grows-refl, Grows-family, Grows-knows, Grows-node, Grows-node_family, Reads-refl, Reads-trans}
 use Rattle.node_store.proofs.StoreLaws.{node_level, zero_family, MayGrow, one_family, Builds-grown, Builds-known, Knows-denotes, constant}
 use Rattle.node_store.proofs.StoreLaws.{known_after, builds_gives, Builds-after, Denotes-family, gives_builds, kept_given, then_call}
-use Rattle.bool_poly.proofs.OnesFamilies.{IsFamily-kept, ones_at-without, ones_at-with, ones_at-zero, ones_at-before}
-use Rattle.bool_poly.proofs.ProductLemmas.{raised_is, at_one_after, product_after, both_is, greatest_join, greatest_unit, value_cut}
+use Rattle.bool_poly.proofs.Families.{IsFamily-kept, ones_at-without, ones_at-with, ones_at-zero, ones_at-before}
+use Rattle.bool_poly.proofs.Families.{raised_is, at_one_after, product_after, both_is, greatest_join, greatest_unit, value_cut}
 
 -- whether one of two values is 1
 odd : (b c : Bool) (x y : ℕ) → x < 2 → y < 2 → (b ≡ true) ↔ (x ≡ 1) → (c ≡ true) ↔ (y ≡ 1) → (not (beq b c) ≡ true) ↔ ((x + y) % 2 ≡ 1)
@@ -91,17 +91,15 @@ module _ {s t : State} {a : Handle} {n : Node} (at : AtNode s t a n) where
     pub node_fits : {r : ℕ} → IsGreatest (family t n.hi) r → w + r < 2 ^ 64
     node_fits {r} top = grind (arith, below_bound, pow_mono)
 
-    node_value : (p : ℕ) → value (family s a) p ≡ cond (divides w p) ((value L p + value H p) % 2) (value L p)
-    node_value p = rw (at.whole, weight) (value_cut d L H p at.high_after)
-
     -- at a point without the variable
     pub node_without : (b : Bool) (p : ℕ) → divides w p ≡ false → (b ≡ true) ↔ (value L p ≡ 1) → (b ≡ true) ↔ (value (family s a) p ≡ 1)
-    node_without b p no' low' = rw (node_value p, no') low'
+    node_without b p no' low' = rw (at.whole, value_cut d L H p at.high_after, ← weight, no') low'
 
     -- at a point with the variable
     pub node_with : (b c : Bool) (p : ℕ) → divides w p ≡ true → (b ≡ true) ↔ (value L p ≡ 1) → (c ≡ true) ↔ (value H p ≡ 1)
         → (not (beq b c) ≡ true) ↔ (value (family s a) p ≡ 1)
-    node_with b c p yes' low' high' = rw (node_value p, yes') (odd b c (value L p) (value H p) (value-lt L p) (value-lt H p) low' high')
+    node_with b c p yes' low' high' = rw (at.whole, value_cut d L H p at.high_after, ← weight, yes')
+        (odd b c (value L p) (value H p) (value-lt L p) (value-lt H p) low' high')
 
 -- ---- a family that is planned, by its parts at var
 

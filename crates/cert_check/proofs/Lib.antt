@@ -1,12 +1,6 @@
-mod CountTables
-mod Cuts
 mod Examples
-mod Judged
-mod Leads
-mod LinesRead
 mod Marked
-mod Points
-mod Reversed
+mod LinesRead
 mod RightAnswers
-mod Factors
+mod Points
 pub mod Verdicts

@@ -1,18 +1,25 @@
--- The form of a line, the lines of an answer in turn, and that what they give fits the description.
-use Rattle.std.proofs.Common.{rules, ◌≡◌, ℕ, Bool, true, false, ◌||◌, eqb, List, [], ◌∷◌, ◌++◌, length, codes, Some, None, refl, sym, ap}
-use Rattle.std.proofs.Common.{◌∙◌, ⊎_elim, arith, ◌+◌, ◌<◌, ◌≤◌, cond, Ok, Err, zero, suc, ◌^◌, map, reverse, Option, Result, subst, IfOk}
-use Rattle.std.specs.Str.{bytes_eq}
+-- A text cut at a byte, the factors, terms and lines of an answer in turn, and that what they give fits the description.
+use Rattle.std.proofs.Common.{◌≡◌, ℕ, ◌+◌, ◌-◌, cond, ltb, eqb, List, [], ◌∷◌, length, take, drop, Option, Some, None, Bor, rules, arith}
+use Rattle.std.proofs.Common.{◌*◌, ◌^◌, ◌<◌, ◌≤◌, Bool, true, false, not, ◌||◌, codes, refl, sym, ap, ◌∙◌, ◌&&◌, ◌++◌, append_assoc}
+use Rattle.std.proofs.Common.{bytes_eq, ⊎_elim, Ok, Err, zero, suc, map, reverse, Result, subst, IfOk}
+use Rattle.std.specs.List.{position_or_len, list_all, list_any, All}
+use Rattle.std.proofs.lemmas.Bool.{cases_lt, lt-ltb, le-ltb, false≢true, and_parts, lt-leb, le-leb, cases_Bool, ne_eqb}
+use Rattle.std.proofs.lemmas.List.{take_all, length-drop, append-nil, length_push, nil_from_length}
+use Rattle.std.proofs.lemmas.List.Sums.{fails_before_first, sum_by-cons}
+use Rattle.std.proofs.lemmas.List.Splits.{slice_split_none, slice_split_first, join_with_byte-slice_split, length-slice_split}
+use Rattle.cert_check.specs.Reading.{parts, is_term, terms_in, factors_of, place_of, factors_product, monomial_of, are_known, ascends_from}
+use Rattle.cert_check.specs.Reading.{monomials_of, are_ordered, is_sum, words, is_right, is_left, is_line, is_element, left_fault}
+use Rattle.cert_check.specs.Reading.{right_fault, line_fault, with_element, with_line, bare, Reading, read_on, GivesAnswer, is_next}
+use Rattle.cert_check.specs.Reading.{left_of, right_of}
+use Rattle.std.proofs.lemmas.Grind.{pow_more}
+use Rattle.std.proofs.Math.Nat.{pow-le-pow_right, mul_comm}
+use Rattle.lattice.specs.Words.{includes, is_empty, has, IsFamily}
 use Rattle.std.specs.Option.{option_or, option_map_or}
-use Rattle.std.specs.List.{All}
 use Rattle.std.specs.List.Sorted.{IsStrictlyIncreasing}
-use Rattle.std.proofs.lemmas.Bool.{cases_Bool, lt-ltb, le-ltb, ne_eqb, false≢true}
 use Rattle.std.proofs.Math.Bool.{and-false}
-use Rattle.std.proofs.lemmas.List.{append-nil, length_push, nil_from_length}
 use Rattle.std.proofs.lemmas.Bool.Decides.{nat_tests}
 use Rattle.std.proofs.lemmas.Slice.Eq.{bytes_eq-Decides}
-use Rattle.std.proofs.lemmas.List.Splits.{join_with_byte-slice_split, length-slice_split}
 use Rattle.std.proofs.lemmas.List.Elements.{All-nil, All-cons, All-push, All-head, All-tail}
-use Rattle.lattice.specs.Words.{is_empty, has, IsFamily}
 use Rattle.lattice.proofs.Polynomials.{has_none, has_cases, ascends-nil, is_family}
 use Rattle.pla_reader.specs.declared.refusal.LineRefusal.{LineRefusal}
 use Rattle.pla_reader.specs.Parts.{Stops}
@@ -22,14 +29,162 @@ use Rattle.cert_check.specs.declared.answer.Given.{Given}
 use Rattle.cert_check.specs.declared.answer.GivenOutput.{GivenOutput}
 use Rattle.cert_check.specs.declared.refusal.AnswerWhy.{AnswerWhy}
 use Rattle.cert_check.specs.declared.refusal.AnswerWhy.TheVariants.{BadLine, MissingOutput}
-use Rattle.cert_check.specs.Reading.{words, is_sum, is_right, is_left, is_line, is_element, monomials_of, left_fault, right_fault}
-use Rattle.cert_check.specs.Reading.{line_fault, with_element, with_line, bare, Reading, read_on, GivesAnswer, is_next, left_of, right_of}
-use Rattle.cert_check.specs.Reading.{terms_in, monomial_of, are_ordered}
 use Rattle.cert_check.specs.Parts.{answer_refusal}
 use Rattle.cert_check.specs.Right.{polynomial, IsOutputOver, IsAnswerFor}
 use Rattle.cert_check.specs.declared.refusal.AnswerRefusal.{AnswerRefusal}
-use Rattle.cert_check.proofs.Reversed.{has-reverse, ascends_below}
+use Rattle.cert_check.proofs.Points.{has-reverse, ascends_below}
 use Rattle.pla_reader.specs.declared.refusal.LineRefusal.TheVariants as line_refusal
+
+-- how much is left, and one more where anything is
+abbrev pub left_length : Option (Bor (List ℕ)) → ℕ
+left_length None = 0
+left_length (Some rest) = length rest.now + 1
+
+abbrev place : (byte : ℕ) → List ℕ → ℕ
+place byte text = position_or_len (λ b. eqb b byte) text
+
+-- what a search for the byte answers
+abbrev pub FindsByte : ℕ → List ℕ → Option ℕ → Type 0
+FindsByte byte text found = found ≡ cond (ltb (place byte text) (length text)) (Some (place byte text)) None
+
+pub parts_whole : (byte : ℕ) (text : List ℕ) (found : Option ℕ) → FindsByte byte text found → found ≡ None → parts byte text ≡ text ∷ []
+parts_whole byte text found is none = grind (arith, lt-ltb, slice_split_none, eqb, fails_before_first, cases_lt)
+
+pub parts_first : (byte : ℕ) (text : List ℕ) (found : Option ℕ) (end : ℕ) → FindsByte byte text found → found ≡ Some end
+    → parts byte text ≡ take end text ∷ parts byte (take (length text - (end + 1)) (drop (end + 1) text))
+parts_first byte text found end is some = search (rules, arith, place, lt-ltb, take_all, length-drop, slice_split_first, le-ltb, cases_lt)
+
+-- ==== The terms and the factors on the right side of a line, read one after the other.
+
+pub factors_of_other : (term : List ℕ) → bytes_eq term (codes "1") ≡ false → factors_of term ≡ parts 42 term
+unfolding factors_of
+factors_of_other term other = rw other refl
+
+-- the words that are terms are all known where each word is no term, or known
+pub known_by_words : (names : List (List ℕ)) (words : List (List ℕ)) → list_all
+    (λ word. not (is_term word) || list_all (includes names) (factors_of word)) words ≡ are_known names (terms_in words)
+unfolding terms_in are_known
+known_by_words names [] = refl
+known_by_words names (word ∷ words) = grind (arith, known_by_words names words)
+
+-- ---- the places of names
+
+place_within : {X : Type 0} (p : X → Bool) (xs : List X) → list_any p xs ≡ true → position_or_len p xs < length xs
+place_within p [] some = absurd (false≢true some)
+place_within p (x ∷ xs) some = grind (arith, some, place_within p xs)
+
+-- the place of a name that is one of the names is one of theirs
+pub known_place : (names : List (List ℕ)) (name : List ℕ) → includes names name ≡ true → place_of names name < length names
+unfolding includes
+known_place names name known = place_within (λ other. bytes_eq other name) names known
+
+-- ---- the factors of a term
+
+-- what is read of the factors, and what is left of them
+pub record ReadsFactors (names factors left : List (List ℕ)) (product least : ℕ) : Type 0 where
+  pub known : list_all (includes names) left ≡ true
+  pub ascends : ascends_from names least left ≡ ascends_from names 0 factors
+  pub product_is : product + factors_product names left ≡ factors_product names factors
+  pub within : least ≤ length names
+  pub room : product + 2 ^ (length names - least) ≤ 2 ^ length names
+
+module _ (names factors rest : List (List ℕ)) (name : List ℕ) (place product least : ℕ)
+    (so_far : ReadsFactors names factors (name ∷ rest) product least) (is : place ≡ place_of names name) where
+  pub factor_within : place < length names
+  factor_within = rw is (known_place names name (and_parts (includes names name) (list_all (includes names) rest) so_far.known).0)
+
+  pub factors_fall : place < least → ascends_from names 0 factors ≡ false
+  unfolding ascends_from
+  factors_fall less = sym so_far.ascends ∙ rw (lt-leb least (place_of names name) (rw (← is) less)) refl
+
+  pub factors_more : (weight : ℕ) → least ≤ place → weight ≡ 2 ^ (length names - 1 - place)
+      → ReadsFactors names factors rest (product + weight) (place + 1)
+  unfolding ascends_from factors_product
+  factors_more weight less weight_is =
+      let small = factor_within in
+      let up : 2 ^ (length names - place) ≤ 2 ^ (length names - least) = pow-le-pow_right (omega arith) (omega arith) in
+      let doubled : 2 ^ (length names - place) ≡ 2 * 2 ^ (length names - 1 - place) = ap (λ (e : ℕ). 2 ^ e) (omega arith)
+      ∙ pow_more 2 (length names - 1 - place) ∙ mul_comm (2 ^ (length names - 1 - place)) 2 in
+      let same : 2 ^ (length names - (place + 1)) ≡ 2 ^ (length names - 1 - place) = ap (λ (e : ℕ). 2 ^ e) (omega arith) in
+      let here : 2 ^ (length names - 1 - place_of names name) ≡ weight = rw (← is) (sym weight_is) in
+      let whole = so_far.product_is in
+      let cons = sum_by-cons (λ other. 2 ^ (length names - 1 - place_of names other)) name rest in
+      grind (arith, and_parts, le-leb)
+
+pub factors_whole : (names factors : List (List ℕ)) (product least : ℕ) → ReadsFactors names factors [] product least
+    → (ascends_from names 0 factors ≡ true) × (product ≡ factors_product names factors)
+unfolding ascends_from factors_product
+factors_whole names factors product least so_far = (sym so_far.ascends, let e = so_far.product_is in omega (arith, e))
+
+-- the term 1 has no factors
+pub one_ascends : (names : List (List ℕ)) (term : List ℕ) → bytes_eq term (codes "1") ≡ true → ascends_from names 0 (factors_of term) ≡ true
+unfolding ascends_from factors_of
+one_ascends names term one = rw one refl
+
+pub one_is : (names : List (List ℕ)) (term : List ℕ) → bytes_eq term (codes "1") ≡ true → 0 ≡ monomial_of names term
+unfolding monomial_of factors_product factors_of
+one_is names term one = rw one refl
+
+-- ==== The terms on the right side of a line, read one after the other
+
+-- what is read of the terms, and what is left of the words
+pub record ReadsTerms (names words left : List (List ℕ)) (limit : ℕ) (monos : List ℕ) : Type 0 where
+  pub known : are_known names (terms_in left) ≡ true
+  pub ordered : are_ordered names limit (terms_in left) ≡ are_ordered names (2 ^ length names) (terms_in words)
+  pub monos_are : monos ++ monomials_of names left ≡ monomials_of names words
+
+pub terms_none : (names words : List (List ℕ)) (limit : ℕ) (monos : List ℕ) → are_known names (terms_in words) ≡ true
+    → limit ≡ 2 ^ length names → monos ≡ [] → ReadsTerms names words words limit monos
+terms_none names words limit monos known limit_is none = record { known = known; ordered = rw limit_is refl; monos_are = rw none refl }
+
+module _ (names words rest : List (List ℕ)) (word : List ℕ) (limit : ℕ) (monos : List ℕ)
+    (so_far : ReadsTerms names words (word ∷ rest) limit monos) where
+  pub terms_skip : is_term word ≡ false → ReadsTerms names words rest limit monos
+  unfolding terms_in monomials_of
+  terms_skip other = search (rules, arith)
+
+  module _ (term : is_term word ≡ true) where
+    both_known : (list_all (includes names) (factors_of word) ≡ true) × (are_known names (terms_in rest) ≡ true)
+    unfolding terms_in are_known
+    both_known = and_parts (list_all (includes names) (factors_of word)) _ (rw term at so_far.known)
+
+    pub term_known : list_all (includes names) (factors_of word) ≡ true
+    term_known = both_known.0
+
+    ordered_here : are_ordered names (2 ^ length names) (terms_in words) ≡ (ascends_from names 0 (factors_of word) &&
+        (ltb (monomial_of names word) limit && are_ordered names (monomial_of names word) (terms_in rest)))
+    unfolding terms_in are_ordered
+    ordered_here = sym so_far.ordered ∙ rw term refl
+
+    pub factors_refused : ascends_from names 0 (factors_of word) ≡ false → are_ordered names (2 ^ length names) (terms_in words) ≡ false
+    factors_refused falls = ordered_here ∙ rw falls refl
+
+    module _ (m : ℕ) (ascends : ascends_from names 0 (factors_of word) ≡ true) (is : m ≡ monomial_of names word) where
+      pub term_refused : limit ≤ m → are_ordered names (2 ^ length names) (terms_in words) ≡ false
+      term_refused most = ordered_here ∙ rw (ascends, ← is, le-ltb m limit most) refl
+
+      pub terms_more : (new : List ℕ) → m < limit → new ≡ monos ++ m ∷ [] → ReadsTerms names words rest m new
+      unfolding terms_in monomials_of
+      terms_more new less new_is = search (rules, arith, both_known, ordered_here, lt-ltb, append_assoc)
+
+pub terms_whole : (names words : List (List ℕ)) (limit : ℕ) (monos : List ℕ) → ReadsTerms names words [] limit monos
+    → (are_ordered names (2 ^ length names) (terms_in words) ≡ true) × (monos ≡ monomials_of names words)
+unfolding terms_in are_ordered monomials_of
+terms_whole names words limit monos so_far = (sym so_far.ordered, sym (append-nil monos) ∙ so_far.monos_are)
+
+-- ==== A sum, read term by term
+
+pub no_sum : (term : List ℕ) (words : List (List ℕ)) → is_term term ≡ false → is_sum (term ∷ words) ≡ false
+unfolding is_sum
+no_sum term [] other = other
+no_sum term (joint ∷ words) other = rw other refl
+
+pub sum_step : (term joint : List ℕ) (words : List (List ℕ)) → is_term term ≡ true
+    → is_sum (term ∷ joint ∷ words) ≡ (bytes_eq joint (codes "+") && is_sum words)
+unfolding is_sum
+sum_step term joint words good = rw good refl
+
+-- ==== The form of a line, the lines of an answer in turn, and that what they give fits the description.
 
 -- a right side is 0 alone, or a sum
 zero_from : (right : List ℕ) (ws : List (List ℕ)) → words right ≡ ws → is_right ws ≡ (bytes_eq right (codes "0") || is_sum ws)
@@ -146,6 +301,7 @@ module _ (ins outs : List (List ℕ)) (text rest : List ℕ) (count : ℕ) (read
   unfolding read_on
   all_read nothing enough = rw (so_far.goes_on, nothing, le-ltb (length read) (length outs) enough) refl
 
+-- a text is empty where its length is 0
 pub empty_is : (xs : List ℕ) (b : Bool) → b ≡ eqb (length xs) 0 → is_empty xs ≡ b
 empty_is [] b is = sym is
 empty_is (x ∷ xs) b is = sym (is ∙ ne_eqb (length (x ∷ xs)) 0 (λ e. omega (arith, e)))
@@ -172,6 +328,7 @@ module _ (names : List (List ℕ)) where
         λ x h. grind (arith, has_cases m (map (monomial_of names) terms) x h, later.1 x, parts.0),
       )
 
+  -- terms in order are a polynomial over the inputs
   pub ordered_family : (n : ℕ) (right : List (List ℕ)) → are_ordered names (2 ^ n) (terms_in right) ≡ true → IsFamily n
       (reverse (monomials_of names right))
   unfolding monomials_of

@@ -1,21 +1,53 @@
--- Tests and counts over all points, by tables over them.
-use Rattle.std.proofs.Common.{rules, ◌≡◌, ℕ, zero, suc, ◌+◌, ◌^◌, ◌%◌, ◌<◌, ◌≤◌, Bool, true, false, not, ◌&&◌, ◌||◌, ◌==◌, cond, List, []}
-use Rattle.std.proofs.Common.{◌∷◌, ◌++◌, length, get_or, take, filter, count_by, refl, sym, ap, ap₂, ◌∙◌, arith, add-one, reverse}
+-- Tests and counts over all points, terms that go from the greatest monomial to the least, and the leads of a list of points.
+use Rattle.std.proofs.Common.{◌≡◌, ℕ, ◌%◌, ◌<◌, true, List, [], ◌∷◌, ◌++◌, reverse, refl, sym, ap, ◌∙◌, subst, ⊎_elim, arith, rules, zero}
+use Rattle.std.proofs.Common.{suc, ◌+◌, ◌^◌, ◌≤◌, Bool, false, not, ◌&&◌, ◌||◌, ◌==◌, cond, length, get_or, take, filter, count_by, ap₂}
+use Rattle.std.proofs.Common.{add-one, ◌≢◌, ◌↔◌, inl, inr}
+use Rattle.std.specs.List.Sorted.{IsStrictlyIncreasing}
+use Rattle.std.proofs.lemmas.List.{reverse-append, take_all}
+use Rattle.lattice.specs.Words.{has, value, Family, divides, IsFamily, numbers_below, family_where, combine, union_of, Vanishes, IsGreatest}
+use Rattle.lattice.specs.Words.{Fits, IsStandard, IsLead, standard_of}
+use Rattle.lattice.proofs.Polynomials.{has-nil, has-cons, has_none, has_cases, has-append, ascends-nil, ascends-cons, ascends-append, count}
+use Rattle.lattice.proofs.Polynomials.{count-append, value-count, has_head, has_tail, has-family_where, has-family_where_below}
+use Rattle.lattice.proofs.Polynomials.{family_where_has, value_cases, divides_le, length_where, family_where-agree, All-has, All-from_has}
+use Rattle.lattice.proofs.Polynomials.{has-combine, standard_more, below_bound, IsFamily-family_where, divides_trans, standard_divisor}
+use Rattle.lattice.proofs.Polynomials.{standard_by_recursion, has-numbers_below, length-standard_of, standard_from_count, divides_self}
 use Rattle.std.specs.List.{All, list_any, zip}
-use Rattle.std.proofs.lemmas.Bool.{false≢true, or_cases, and_parts}
-use Rattle.std.proofs.lemmas.List.{take_all}
+use Rattle.std.proofs.lemmas.Bool.{false≢true, or_cases, and_parts, false_from_ne_true, or_parts, cases_Bool, cases_eq, true_from_ne_false}
+use Rattle.std.proofs.lemmas.Bool.{not-true, not-false, eq-eqb, eqb-true, ltb-true, lt-ltb}
 use Rattle.std.proofs.lemmas.List.Elements.{All-head, All-tail}
-use Rattle.std.proofs.lemmas.List.Folds.{list_any_more, list_any-append}
+use Rattle.std.proofs.lemmas.List.Folds.{list_any_more, list_any-append, list_any_none}
 use Rattle.std.proofs.lemmas.List.Sums.{length-filter, sum_by-cons, sum_by_more, sum_by_push}
 use Rattle.std.proofs.lemmas.Option.{slice_get-get_or}
 use Rattle.std.proofs.lemmas.Slice.Zip.{length-zip, get_or-zip}
-use Rattle.lattice.specs.Words.{Family, divides, has, IsFamily, numbers_below, family_where, combine, union_of, value}
-use Rattle.lattice.proofs.Polynomials.{has_none, has_head, has_tail, has_cases, has-family_where, has-family_where_below, family_where_has}
-use Rattle.lattice.proofs.Polynomials.{value_cases, divides_le, length_where, family_where-agree}
 use Rattle.cert_check.specs.declared.care.Care.{Care}
 use Rattle.cert_check.specs.Marks.{MarksCare, CountsDivisors}
-use Rattle.cert_check.specs.Faults.{misses, is_one_in, is_divided}
-use Rattle.cert_check.proofs.Reversed.{has-reverse, value-reverse}
+use Rattle.cert_check.specs.Faults.{misses, is_one_in, is_divided, miscounts}
+use Rattle.std.proofs.lemmas.Grind.{common_steps}
+
+pub reverse_cons : (x : ℕ) (xs : List ℕ) → reverse (x ∷ xs) ≡ reverse xs ++ x ∷ []
+reverse_cons x xs = reverse-append (x ∷ []) xs
+
+pub has-reverse : (xs : List ℕ) (x : ℕ) → has (reverse xs) x ≡ has xs x
+has-reverse [] x = refl
+has-reverse (y ∷ xs) x = grind (arith, reverse_cons, has-append, has-cons, has-nil, has-reverse xs x)
+
+-- strictly descending terms below a limit make a family below it
+pub ascends_below : (m : ℕ) (ms : List ℕ) → IsStrictlyIncreasing (reverse ms) → ((x : ℕ) → has ms x ≡ true → x < m) →
+    IsStrictlyIncreasing (reverse (m ∷ ms))
+ascends_below m ms up below =
+    subst IsStrictlyIncreasing (sym (reverse_cons m ms))
+    (ascends-append (reverse ms) (m ∷ []) up (ascends-cons m [] (λ y h. has_none y h) ascends-nil)
+    (λ x y h k. ⊎_elim (λ e. let less : x < m = below x (sym (has-reverse ms x) ∙ h) in omega arith)
+    (λ n. has_none y n) (has_cases m [] y k)))
+
+count-reverse : (p : List ℕ) (a : ℕ) → count (reverse p) a ≡ count p a
+count-reverse [] a = refl
+count-reverse (m ∷ p) a = rw reverse_cons (omega (arith, count-append (reverse p) (m ∷ []) a, count-append (m ∷ []) p a, count-reverse p a))
+
+pub value-reverse : (p : List ℕ) (a : ℕ) → value (reverse p) a ≡ value p a
+value-reverse p a = value-count (reverse p) a ∙ (ap (λ (n : ℕ). n % 2) (count-reverse p a) ∙ sym (value-count p a))
+
+-- ==== Tests and counts over all points, by tables over them.
 
 -- ---- lists, by their places
 
@@ -108,17 +140,7 @@ divided_where : (n : ℕ) (tops : List ℕ) (a : ℕ) → a < 2 ^ n → list_any
 unfolding is_divided
 divided_where n tops a below =
     let p = λ (t : ℕ). divides t a in let kept = family_where n (has tops) in
-    grind (
-      arith,
-      any_from p kept,
-      any_from p tops,
-      any_to p kept,
-      any_to p tops,
-      and_parts,
-      has-family_where n (has tops),
-      has-family_where_below n (has tops),
-      divides_le,
-    )
+    grind (arith, any_from p, any_to p, and_parts, has-family_where n (has tops), has-family_where_below n (has tops), divides_le)
 
 module _ (n : ℕ) (tops : List ℕ) (counts : List ℕ) (counted : CountsDivisors n (family_where n (has tops)) counts)
   where
@@ -132,14 +154,9 @@ module _ (n : ℕ) (tops : List ℕ) (counts : List ℕ) (counted : CountsDiviso
     pub reducible_by_table : (terms : List ℕ) → All (λ m. m < length counts) terms → list_any
         (λ m. not (get_or counts m 0 == 0)) terms ≡ list_any (is_divided tops) terms
     reducible_by_table [] below = refl
-    reducible_by_table (t ∷ terms) below = grind (
-      arith,
-      free_at t,
-      counted.size,
-      All-head (λ m. m < length counts) t terms,
-      All-tail (λ m. m < length counts) t terms,
-      reducible_by_table terms,
-    )
+    reducible_by_table (t ∷ terms) below =
+        let rest = reducible_by_table terms (All-tail (λ m. m < length counts) t terms below) in
+        grind (arith, free_at t, counted.size, All-head (λ m. m < length counts) t terms below, rest)
 
 -- ---- the table of a polynomial's terms
 
@@ -157,3 +174,144 @@ pub terms_counted : {n : ℕ} {terms seen counts table : List ℕ} → IsFamily 
 terms_counted {n} {terms} family seen_is table_is counted =
     let same = family_where-agree n _ _ (λ x below. sym (has-reverse terms x)) ∙ sym (family_where_has n (reverse terms) family) in
     rw (table_is, ← same, ← seen_is) counted
+
+-- ==== Tests of values and what they say, and the leads of a list of points.
+
+pub any_none : (p : ℕ → Bool) (xs : List ℕ) → ((x : ℕ) → has xs x ≡ true → p x ≡ false) → list_any p xs ≡ false
+any_none p xs none = list_any_none p xs (All-from_has (λ x. p x ≡ false) xs none)
+
+pub none_of : (p : ℕ → Bool) (xs : List ℕ) → list_any p xs ≡ false → (x : ℕ) → has xs x ≡ true → p x ≡ false
+none_of p xs none x h = grind (arith, any_to p xs x h)
+
+module _ (terms : List ℕ) where
+  is_zero_at : (a : ℕ) → ((value terms a == 1) ≡ false) ↔ (value (reverse terms) a ≡ 0)
+  is_zero_at a = (λ e. grind (arith, value-reverse terms a, value_cases terms a), λ e. grind (arith, value-reverse terms a))
+
+  is_one_at : (a : ℕ) → ((value terms a == 0) ≡ false) ↔ (value (reverse terms) a ≡ 1)
+  is_one_at a = (λ e. grind (arith, value-reverse terms a, value_cases terms a), λ e. grind (arith, value-reverse terms a))
+
+  -- the polynomial of the terms vanishes where it is 1 at none of the points
+  pub vanishes_iff : (points : Family) → (is_one_in points terms ≡ false) ↔ Vanishes (reverse terms) points
+  unfolding is_one_in
+  vanishes_iff points = (
+    λ none. All-from_has _ points (λ a h. (is_zero_at a).0 (none_of _ points none a h)),
+    λ van. any_none _ points (λ a h. (is_zero_at a).1 (All-has (λ b. value (reverse terms) b ≡ 0) points a van h)),
+  )
+
+  -- and it fits where it misses no value
+  pub fits_iff : (zeros ones : Family) → (misses zeros ones terms ≡ false) ↔ Fits zeros ones (reverse terms)
+  unfolding misses is_one_in
+  fits_iff zeros ones = (
+    λ none. grind (arith, common_steps, or_parts, All-from_has, is_zero_at, none_of, is_one_at),
+    λ fits. rw ((vanishes_iff zeros).1 fits.zero_at) (any_none _ ones
+        (λ a h. (is_one_at a).1 (All-has (λ b. value (reverse terms) b ≡ 1) ones a fits.one_at h))),
+  )
+
+-- ---- standard monomials of two lists of points, and of their union
+
+module _ (n : ℕ) (zeros ones : Family) (zf : IsFamily n zeros) (of : IsFamily n ones) where
+  has-union : (a : ℕ) → has (union_of n zeros ones) a ≡ has (zeros ++ ones) a
+  has-union a = has-combine (λ x y. x || y) n zeros ones a refl zf of ∙ sym (has-append zeros ones a)
+
+  pub standard_in_both : (m : ℕ) → IsStandard n (union_of n zeros ones) m ↔ IsStandard n (zeros ++ ones) m
+  standard_in_both m = (standard_more n _ _ m (λ a h. sym (has-union a) ∙ h), standard_more n _ _ m (λ a h. has-union a ∙ h))
+
+-- ==== Leads: they do not divide one another, and one of them divides each monomial that is not standard
+
+divides_antisym : (a b : ℕ) → divides a b ≡ true → divides b a ≡ true → a ≡ b
+divides_antisym a b ab ba = omega (arith, divides_le a b ab, divides_le b a ba)
+
+-- a divisor that fails a test and whose divisors pass it
+first_divisor : (p : ℕ → Bool) (b m : ℕ) → m < b → p m ≡ false
+    → (t : ℕ) × (p t ≡ false) × (divides t m ≡ true) × ((d : ℕ) → divides d t ≡ true → d ≢ t → p d ≡ true)
+first_divisor p zero m less fails = absurd (omega arith)
+first_divisor p (suc b) m less fails = elim (cases_Bool (list_any (λ d. divides d m && not (p d)) (numbers_below m))) [
+  | inl some ↦
+      let from = any_from (λ d. divides d m && not (p d)) (numbers_below m) some in
+      let both = and_parts (divides from.0 m) (not (p from.0)) from.2 in
+      let first = first_divisor p b from.0 (grind (arith, ltb-true, has-numbers_below, from.1)) (not-true _ both.1) in
+      (first.0, first.1, divides_trans first.0 from.0 m first.2 both.0, first.3)
+  | inr none ↦
+      let past = none_of (λ d. divides d m && not (p d)) (numbers_below m) none in
+      (m, fails, divides_self m, λ d div ne. grind (arith, past d, has-numbers_below m d, lt-ltb d m, divides_le d m div))
+]
+
+module _ (n : ℕ) (points : Family) (f : IsFamily n points) where
+  -- two leads of which one divides the other are the same
+  pub leads_apart : (s t : ℕ) → IsLead n points s → IsLead n points t → divides s t ≡ true → s ≡ t
+  leads_apart s t ls lt div = ⊎_elim (λ e. e) (λ (ne : s ≢ t). absurd (ls.not_standard (lt.least s div ne))) (cases_eq s t)
+
+  is_std : (m : ℕ) → (has (standard_of n points) m ≡ true) ↔ ((m < 2 ^ n) × IsStandard n points m)
+  is_std = (standard_by_recursion n points f).1
+
+  -- a lead divides each monomial that is not standard
+  lead_below : (m : ℕ) → m < 2 ^ n → has (standard_of n points) m ≡ false → (t : ℕ) × (t < 2 ^ n) × IsLead n points t × (divides t m ≡ true)
+  lead_below m below other =
+      let first = first_divisor (has (standard_of n points)) (suc m) m (omega arith) other in
+      let le = divides_le first.0 m first.2 in
+      let small : first.0 < 2 ^ n = omega arith in (
+        first.0,
+        small,
+        record {
+          not_standard = λ std. false≢true (sym first.1 ∙ (is_std first.0).1 (small, std));
+          least = λ d div ne. ((is_std d).0 (first.3 d div ne)).1;
+        },
+        first.2,
+      )
+
+  -- ---- monomials that no top divides, where these are the leads
+
+  module _ (tops : List ℕ) (all : (m : ℕ) → (has tops m ≡ true) ↔ ((m < 2 ^ n) × IsLead n points m)) where
+    pub undivided_is_standard : (m : ℕ) → m < 2 ^ n → IsStandard n points m → is_divided tops m ≡ false
+    unfolding is_divided
+    undivided_is_standard m below std = any_none (λ t. divides t m) tops (λ t h. false_from_ne_true (divides t m)
+        (λ div. ((all t).0 h).1.not_standard (standard_divisor n points f.below m t below div std)))
+
+    standard_is_undivided : (m : ℕ) → m < 2 ^ n → is_divided tops m ≡ false → has (standard_of n points) m ≡ true
+    unfolding is_divided
+    standard_is_undivided m below none = true_from_ne_false _ (λ other. let lead = lead_below m below other in
+        false≢true (sym (none_of (λ t. divides t m) tops none lead.0 ((all lead.0).1 (lead.1, lead.2))) ∙ lead.3))
+
+    pub counts_right : miscounts n points tops ≡ false
+    unfolding miscounts
+    counts_right = ap not (eq-eqb (length (family_where n (λ m. not (is_divided tops m)))) (length points)
+        (ap length (family_where-agree n _ (has (standard_of n points))
+        (λ m below. grind (arith, undivided_is_standard m below, is_std m, standard_is_undivided m below))
+        ∙ sym (family_where_has n _ (standard_by_recursion n points f).0)) ∙ length-standard_of n points f))
+
+  -- ---- monomials that no top divides, where there are as many as points
+
+  module _ (tops : List ℕ) (elements : (t : ℕ) → has tops t ≡ true → (t < 2 ^ n) ×
+      ((p : List ℕ) × IsFamily n p × IsGreatest p t × Vanishes p points)) (counted : miscounts n points tops ≡ false)
+    where
+      pub standard_undivided : (m : ℕ) → m < 2 ^ n → is_divided tops m ≡ false → IsStandard n points m
+      unfolding miscounts is_divided
+      standard_undivided m below none =
+          let rest = family_where n (λ m. not (is_divided tops m)) in
+          let family = IsFamily-family_where n (λ m. not (is_divided tops m)) in
+          ((standard_from_count n points tops rest f family elements (λ k. (
+            λ h. let small = below_bound n rest k family h in
+                (small, none_of (λ t. divides t k) tops (not-true _ (sym (has-family_where_below n _ k small) ∙ h))),
+            λ c. has-family_where_below n _ k c.0 ∙ ap not (any_none (λ t. divides t k) tops c.1),
+          )) (eqb-true _ _ (not-false _ counted)) m).0 (has-family_where_below n _ m below ∙ ap not none)).1
+
+      -- where no top divides another one, they are the leads
+      pub tops_are_leads : ((s t : ℕ) → has tops s ≡ true → has tops t ≡ true → divides s t ≡ true → s ≡ t)
+          → (m : ℕ) → (has tops m ≡ true) ↔ ((m < 2 ^ n) × IsLead n points m)
+      unfolding is_divided
+      tops_are_leads apart m = (
+        λ h. let e = elements m h in (
+          e.0,
+          record {
+            not_standard = λ std. std e.1.0 e.1.1 e.1.2 e.1.3;
+            least = λ d div ne. let le = divides_le d m div in let below = e.0 in standard_undivided d (omega arith)
+                (any_none (λ t. divides t d) tops (λ s i. false_from_ne_true (divides s d) (λ by. ne (divides_antisym d m div
+                (subst (λ (t : ℕ). divides t d ≡ true) (apart s m i h (divides_trans s d m by div)) by)))));
+          },
+        ),
+        λ c.
+            let from = any_from (λ t. divides t m) tops (true_from_ne_false _ (λ none. c.1.not_standard (standard_undivided m c.0 none))) in
+            let e = elements from.0 from.1 in
+            ⊎_elim (λ (same : from.0 ≡ m). subst (λ (t : ℕ). has tops t ≡ true) same from.1)
+            (λ (ne : from.0 ≢ m). absurd (c.1.least from.0 from.2 ne e.1.0 e.1.1 e.1.2 e.1.3)) (cases_eq from.0 m),
+      )

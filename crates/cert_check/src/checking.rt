@@ -153,6 +153,7 @@ fn tail_of(terms: &[Mono]) -> &[Mono]
 }
 
 /// Judges that no monomial is divided by a greatest one, but the greatest of each element by itself.
+#[tactic(auto, using(crate::proofs::RightAnswers::tail_below, crate::proofs::RightAnswers::tail_here, crate::proofs::RightAnswers::tails_fine), unfolding(crate::specs::Faults::first_verdict, crate::specs::Faults::reduced_checks))]
 fn judge_reduced(counts: &[u16], given: &GivenOutput) -> Result<(), Stop>
     requires poly { All (λ m. m < length counts.now) given.now.poly.terms }
     requires basis { All (λ element. All (λ m. m < length counts.now) element.terms) given.now.basis }

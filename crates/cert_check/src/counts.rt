@@ -35,6 +35,7 @@ fn count_divisors(table: &mut [u16], variables: u32)
 }
 
 /// The table of the points over so many inputs in which the monomials are marked by 1.
+#[tactic(auto, using(crate::proofs::Marked::marks_nothing, crate::proofs::Marked::marks_more, crate::proofs::Marked::marks_small, crate::proofs::Marked::marked_is, std::proofs::lemmas::List::take_all, lattice::proofs::Diagrams::weight_is))]
 fn marks_of(alloc: Global, inputs: u32, monomials: &[Mono]) -> Result<Vec<u16>, AllocError>
     requires few { inputs ≤ 14 }
     requires below { All (λ m. m < 2 ^ inputs) monomials.now }

@@ -25,6 +25,7 @@ pub(crate) fn is_term(word: &[u8]) -> bool
 }
 
 /// Whether the right side of a line is terms joined by ` + `.
+#[tactic(auto, using(crate::proofs::LinesRead::no_sum, crate::proofs::LinesRead::sum_step), unfolding(crate::specs::Reading::is_sum))]
 fn is_sum(right: &[u8]) -> bool
     ensures { result ≡ is_sum (words right.now) }
 {

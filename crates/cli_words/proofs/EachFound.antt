@@ -1,22 +1,19 @@
 -- What a parse that succeeds has of an argument that takes one value.
 use Rattle.std.proofs.Common.{◌≡◌, ◌⊎◌, ◌∙◌, ◌<◌, ◌≤◌, ap, arith, Bool, List, ℕ, [], ◌∷◌, length, Option, Some, None, is_some, refl, subst}
-use Rattle.std.proofs.Common.{sym, unwrap_or, true, true≢false, inl, inr, ⊎_elim, zero, suc, codes, map, false, bytes_eq, Bor}
+use Rattle.std.proofs.Common.{sym, unwrap_or, true, true≢false, inl, inr, zero, suc, codes, map, false, bytes_eq, Bor}
 use Rattle.std.specs.List.{All, slice_index_or, Any, list_all, list_any}
 use Rattle.std.specs.Prelude.{find, option_map}
-use Rattle.std.proofs.lemmas.List.Elements.{All-get_or}
 use Rattle.std.proofs.lemmas.Slice.Eq.{bytes_eq-Decides}
 use Rattle.std.proofs.lemmas.List.{get_or-map, length-map}
 use Rattle.std.proofs.lemmas.Bool.{or_cases}
 use Rattle.clap.specs.Built.{SameRules, IsAuto, IsParsedFrom, IsPlain}
 use Rattle.clap.specs.Facts.{AllowsNone, Entry, EntryPasses, HasReading, IsCountArg, IsGroupEntry, IsKnownGroup, PassesArg, ValuesPass}
-use Rattle.clap.specs.Facts.{args_of, groups_of, least_values, parser_of, parser_of_value, IsParsed, unwrap_or_range}
+use Rattle.clap.specs.Facts.{args_of, groups_of, least_values, IsParsed}
 use Rattle.clap.specs.Matches.{first_value, matched_of, one_text, found_of, has_subcommand}
 use Rattle.clap.specs.Values.{Accepts, read_as, reading_of}
-use Rattle.clap.specs.declared.builder.action.ArgAction.{ArgAction}
-use Rattle.clap.specs.declared.builder.action.ArgAction.TheVariants.{Count, Set}
+use Rattle.clap.specs.declared.builder.action.ArgAction.TheVariants.{Set}
 use Rattle.clap.specs.declared.builder.arg.Arg.{Arg}
 use Rattle.clap.specs.declared.builder.command.Command.{Command}
-use Rattle.clap.specs.declared.builder.value_parser.Reading.{Reading}
 use Rattle.clap.specs.declared.builder.value_parser.ValueParser.{ValueParser}
 use Rattle.clap.specs.declared.parser.matches.Found.{Found}
 use Rattle.clap.specs.declared.parser.matches.MatchedArg.{MatchedArg}
@@ -25,7 +22,6 @@ use Rattle.clap.specs.Faults.{has_free_rules}
 use Rattle.clap.specs.Simple.{App, IsSimple, IsSimpleArg, Shape, app_of, is_ready, is_ready_leaf, shape_of}
 use Rattle.clap.specs.Texts.{items_of}
 use Rattle.clap.specs.Walk.{Rule, Text, rule_of}
-use Rattle.clap.specs.declared.builder.range.ValueRange.{ValueRange}
 use Rattle.clap.specs.declared.parser.matches.ArgMatches.{ArgMatches}
 use Rattle.clap.proofs.FaultLemmas.{free_args}
 use Rattle.clap.proofs.SimpleLemmas.{all_simple, ready_simple, simple_groups}

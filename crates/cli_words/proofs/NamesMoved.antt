@@ -1,7 +1,7 @@
 -- What a parse makes of the words stays the same where the parsers of a command's arguments are
 -- changed for others that take the same texts.
 use Rattle.std.proofs.Common.{◌≡◌, ◌∙◌, ◌∷◌, ◌&&◌, not, ap, ap₂, ℕ, zero, suc, Bool, List, [], map, length, fold, Option, Some, None, arith}
-use Rattle.std.proofs.Common.{option_map, refl, sym, ◌==◌, ◌||◌, false, pos, negsuc, bytes_eq, chars, Bor}
+use Rattle.std.proofs.Common.{option_map, refl, sym, ◌==◌, false, pos, negsuc, bytes_eq, chars, Bor}
 use Rattle.std.specs.Prelude.{if◌then◌else◌, encode_utf8, drop, find, slice_get, is_some}
 use Rattle.std.specs.List.{list_any}
 use Rattle.std.specs.Option.{option_map_or}
@@ -11,18 +11,16 @@ use Rattle.clap.specs.Facts.{explicit_source, parser_of_value, unwrap_or_range}
 use Rattle.clap.specs.Values.{reading_of, refused_kind, same_text}
 use Rattle.clap.specs.Walk.{Held, Names, Outcome, Row, Rule, Step, Text, Waiting, Walk, action_of, has_long, has_short, has_row, done}
 use Rattle.clap.specs.Walk.{waits, plain, option, next, trailing, value, arg_by_id, attached_value, default_rows, pushed, is_pending}
-use Rattle.clap.specs.Walk.{is_empty, most_values, reacted, settled, settled_rows, takes_several, takes_values, used, used_as, used_by_id}
+use Rattle.clap.specs.Walk.{most_values, reacted, settled, settled_rows, takes_several, takes_values, used, used_as, used_by_id}
 use Rattle.clap.specs.Walk.{values_or_missing, option_met, flag_met, long_met, short_met, bundle_step, bundle_met, option_word, plain_word}
 use Rattle.clap.specs.Walk.{after_flag, short_or_plain, long_or_other, subcommand_met, subcommand_or_other, word_met, to_positional}
 use Rattle.clap.specs.Walk.{after_step, walked, walked_from, walk, walk_from, with_default, finished, nothing_held}
 use Rattle.clap.specs.Simple.{App, Shape, entered, names_of}
 use Rattle.clap.specs.Takes.{is_given}
-use Rattle.clap.specs.Kinds.{Kinds, check_kinds, or_else, range_kinds, request_kinds, value_kinds, values_kinds}
-use Rattle.clap.specs.Faults.{count_fault, action_fault, use_fault, settle_fault, react_fault, option_fault, long_fault, short_fault}
-use Rattle.clap.specs.Faults.{bundle_step_fault, flags_fault, bundle_fault, flag_word_fault, other_fault, positional_fault, step_fault}
-use Rattle.clap.specs.Faults.{stray_fault, turn_fault, walk_fault, default_fault, defaults_fault, check_fault, level_fault, entered_fault}
-use Rattle.clap.specs.Faults.{built_fault}
-use Rattle.clap.specs.declared.builder.action.ArgAction.{ArgAction}
+use Rattle.clap.specs.Kinds.{Kinds, check_kinds, or_else, range_kinds, value_kinds}
+use Rattle.clap.specs.Faults.{use_fault, settle_fault, react_fault, option_fault, long_fault, short_fault, bundle_step_fault, flags_fault}
+use Rattle.clap.specs.Faults.{bundle_fault, flag_word_fault, other_fault, positional_fault, step_fault, stray_fault, turn_fault, walk_fault}
+use Rattle.clap.specs.Faults.{defaults_fault, check_fault, level_fault, entered_fault, built_fault}
 use Rattle.clap.specs.declared.builder.value_parser.ValueParser.{ValueParser}
 use Rattle.clap.proofs.WalkLemmas.{find-map, list_any-map}
 use Rattle.clap.specs.Words.{built, fault_of, matches_of}

@@ -1,14 +1,14 @@
 -- What the getters give, in terms of the matches.
-use Rattle.std.proofs.Common.{◌≡◌, ◌∙◌, ◌≤◌, ap, ap₂, arith, true, ℕ, List, [], Option, Some, refl, sym, subst, inl, inr}
-use Rattle.std.specs.Prelude.{Result, Ok, option_map}
-use Rattle.std.specs.Str.Parse.{ParsesUnsigned, digits_value, without_leading_plus}
+use Rattle.std.proofs.Common.{◌≡◌, ◌≤◌, arith, true, ℕ, List, [], Option, Some, refl, sym, subst}
+use Rattle.std.specs.Prelude.{Result, Ok}
+use Rattle.std.specs.Str.Parse.{ParsesUnsigned}
 use Rattle.clap.specs.Matches.{ReadsOne, first_value, one_text}
-use Rattle.clap.specs.Walk.{first_of, one_of, rows_of}
+use Rattle.clap.specs.Walk.{first_of, rows_of}
 use Rattle.clap.specs.declared.parser.matches.Found.{Found}
 use Rattle.clap.proofs.WalkLemmas.{first_value-rows, one_text-rows}
 use Rattle.cli_words.specs.CommandLine.{HasNumber, IsModeNames, NameList, interp_command, interp_command_at, number_of}
 use Rattle.cli_words.proofs.NamesMoved.{fault_is, matches_is}
-use Rattle.clap.specs.Words.{App, HasKind, HasMatchesOf, Text, fault_of, found_of, is_simple, is_simple_and_free, kind_of, matches_of}
+use Rattle.clap.specs.Words.{App, HasKind, HasMatchesOf, Text, fault_of, found_of, is_simple_and_free, kind_of, matches_of}
 use Rattle.clap.specs.declared.error.Error.{Error}
 use Rattle.clap.specs.declared.error.kind.ErrorKind.TheVariants.{OutOfMemory}
 use Rattle.clap.specs.declared.parser.matches.ArgMatches.{ArgMatches}

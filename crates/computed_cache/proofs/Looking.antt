@@ -1,10 +1,10 @@
 -- What a word of a key's place tells, where its quotient is the key's.
-use Rattle.std.proofs.Common.{◌≡◌, ◌≢◌, ◌⊎◌, inl, inr, ℕ, ◌/◌, ◌<◌, sym, ap, ◌∙◌, arith}
-use Rattle.lattice.specs.Words.{var_of, lo_of, hi_of, cache_bits, cache_place, quotient, result_of, number_of, key_for, takes_family}
+use Rattle.std.proofs.Common.{◌≡◌, ◌≢◌, ◌⊎◌, inl, inr, ℕ, ◌/◌, ◌<◌}
+use Rattle.lattice.specs.Words.{cache_bits, cache_place, quotient, result_of, number_of, key_for}
 use Rattle.lattice.specs.declared.limits.TheConstants.{HANDLE_UNIT}
 use Rattle.lattice.specs.declared.op.Op.{Op}
 use Rattle.lattice.proofs.Diagrams.{same_number, key_below, same_key, quotient_of-word, result_of-word, hi_of-word, lo_of-word, var_of-word}
-use Rattle.node_store.specs.Stores.{State, Knows, AreOperands, IsResult}
+use Rattle.node_store.specs.Stores.{State, AreOperands, IsResult}
 use Rattle.node_store.specs.declared.store.Handle.{Handle}
 use Rattle.unique_table.specs.Kept.{IsKept}
 
@@ -22,11 +22,9 @@ module _ (s t : State) (bits : ℕ) (op : Op) (a : Handle) (b w : ℕ) (a_fits :
       (cc (quotient_of-word (cache_bits bits) own kept.r.0 kept.r_fits, (kept.word).word, same))
 
   op_is : kept.op ≡ op
-  op_is = same_number kept.op op (cc (
-    var_of-word (number_of kept.op) kept.a.0 kept.b kept.a_fits kept.b_fits,
-    key_is,
-    var_of-word (number_of op) a.0 b a_fits b_fits,
-  ))
+  op_is =
+      let own = var_of-word (number_of kept.op) kept.a.0 kept.b kept.a_fits kept.b_fits in
+      same_number kept.op op (cc (own, key_is, var_of-word (number_of op) a.0 b a_fits b_fits))
 
   a_is : kept.a.0 ≡ a.0
   a_is = cc (lo_of-word (number_of kept.op) kept.a.0 kept.b kept.a_fits kept.b_fits, key_is, lo_of-word (number_of op) a.0 b a_fits b_fits)

@@ -2,9 +2,10 @@
 use Rattle.std.proofs.Common.{ℕ, Bool, List, [], ◌∷◌, ◌++◌, Ok, subst, arith, rules}
 use Rattle.lattice.specs.Words.{Family, Covers, combine, power, minus_of, working_set}
 use Rattle.lattice.proofs.Diagrams.{covers_append, covers_head, covers_left, covers_nil, covers_right}
-use Rattle.node_store.specs.Stores.{State, family, Denotes, IsPlanned, Grows, Reads, Gives, Builds}
+use Rattle.node_store.specs.Stores.{State, family, Knows, Denotes, IsPlanned, Grows, Reads, Gives, Builds}
 use Rattle.node_store.specs.declared.store.Handle.{Handle}
-use Rattle.node_store.proofs.StoreLaws.{builds_gives, Denotes-family, Gives-reads, Grows-refl, Grows-trans, Reads-refl, Reads-trans}
+use Rattle.node_store.proofs.StoreLaws.{builds_gives, Denotes-family, Grows-family, Gives-reads, Grows-refl, Grows-trans, Reads-refl}
+use Rattle.node_store.proofs.StoreLaws.{Reads-trans}
 use Rattle.set_algebra.specs.GivenPoints.{GivesPoints}
 use Rattle.cube_build.specs.GivenCareSets.{outside_list}
 
@@ -35,23 +36,22 @@ module _ (s t : State) (all rest : List Family) (list : ℕ → List Family) (he
 
 -- ---- a call that combines two families
 
-module _ {s t : State} {all : List Family} (rest : List Family) (test : Bool → Bool → Bool) (A B : Family) (a b : Handle)
-    (here : Underway s t all (combine test s.vars A B ∷ rest)) (a_is : Denotes t a A) (b_is : Denotes t b B) where
+module _ {s t : State} {all : List Family} (rest : List Family) (test : Bool → Bool → Bool) (a b : Handle)
+    (here : Underway s t all (combine test s.vars (family s a) (family s b) ∷ rest)) (ka : Knows s a) (kb : Knows s b) where
   pub combined_planned : IsPlanned t (combine test t.vars (family t a) (family t b))
   combined_planned =
-      rw (here.reads.grows.plan, here.reads.grows.vars, Denotes-family t a A a_is, Denotes-family t b B b_is)
-      (covers_head s.vars s.plan rest (combine test s.vars A B) here.planned)
+      let grows = here.reads.grows in
+      rw (grows.plan, grows.vars, Grows-family s t a grows ka, Grows-family s t b grows kb) (covers_head _ _ _ _ here.planned)
 
   module _ {u : State} {h : Handle} (is : Builds t u (Ok h) (combine test t.vars (family t a) (family t b))) where
-    named : Builds t u (Ok h) (combine test t.vars A B)
-    named = rw (Denotes-family t a A a_is, Denotes-family t b B b_is) at is
+    named : Builds t u (Ok h) (combine test t.vars (family s a) (family s b))
+    named = rw (Grows-family s t a here.reads.grows ka, Grows-family s t b here.reads.grows kb) at is
 
     pub combined_next : Underway s u all rest
     combined_next =
-        next s t all rest (λ v. combine test v A B ∷ []) here u h (combine test t.vars A B)
-        (builds_gives t u (Ok h) (combine test t.vars A B) named)
+        next s t all rest (λ v. combine test v (family s a) (family s b) ∷ []) here u h _ (builds_gives t u (Ok h) _ named)
 
-    pub combined_is : Denotes u h (combine test s.vars A B)
+    pub combined_is : Denotes u h (combine test s.vars (family s a) (family s b))
     combined_is = rw here.reads.grows.vars at named.ok
 
 -- ---- a call that finds the points outside a family

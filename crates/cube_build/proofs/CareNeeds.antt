@@ -7,23 +7,11 @@ use Rattle.lattice.specs.declared.row.Row.{Row}
 use Rattle.lattice.specs.declared.kind.Kind.{Kind}
 use Rattle.lattice.proofs.Diagrams.{covers_part}
 use Rattle.cube_build.specs.GivenCareSets.{care_needs}
-use Rattle.cube_build.proofs.UsedCubeLemmas.{output_part}
--- the handles of the rows' cubes stay so in later states
-pub use Rattle.cube_build.proofs.UsedCubeLemmas.{cubes_later}
--- where the care sets of an output are planned, each of its covers is
-pub use Rattle.cube_build.proofs.GivenCovers.{cover_planned}
--- a cover stays one in later states
-pub use Rattle.cube_build.proofs.GivenCovers.{cover_later}
--- the list of an element is a part of the list of all
-pub use Rattle.cube_build.proofs.GivenCovers.{part_at}
--- what holds at each place of two lists of one length holds of both
-pub use Rattle.cube_build.proofs.GivenCovers.{zip_from}
--- the list of an output has the cube of each row in one of its sets
-pub use Rattle.cube_build.proofs.UsedCubeLemmas.{in_care_list}
--- a row in a set of an output says something
-pub use Rattle.cube_build.proofs.UsedCubeLemmas.{names_where}
--- the points of a row that says something are its cube
-pub use Rattle.cube_build.proofs.UsedCubeLemmas.{used_cube-some}
+use Rattle.cube_build.proofs.CoverLemmas.{output_part}
+-- the rows that are used, their cubes in later states, and their places in the lists
+pub use Rattle.cube_build.proofs.CoverLemmas.{cubes_later, in_care_list, names_where, used_cube-some}
+-- covers: that they are planned, later states, and what holds of each of a list
+pub use Rattle.cube_build.proofs.CareLemmas.{cover_planned, cover_later, part_at, zip_from}
 
 -- the plan of the care sets of all outputs has those of each
 pub all_cares_have : (n outputs : ℕ) (kind : Kind) (rows : List Row) (output : ℕ) → 1 ≤ output → output ≤ outputs

@@ -1,6 +1,6 @@
--- A cube cut at its first variable, by the row's bits at this variable.
+-- A cube cut at its first variable, by the row's bits at this variable, and a cube that is built from the last variable on.
 use Rattle.std.proofs.Common.{◌≡◌, ◌≢◌, ℕ, zero, suc, ◌+◌, ◌*◌, ◌%◌, ◌^◌, ◌<◌, ◌≤◌, ◌==◌, true, cond, [], ◌∷◌, bit_and, sym, ◌∙◌, ap, subst}
-use Rattle.std.proofs.Common.{arith, add-one, eqb-true, eq-eqb, ne_eqb, mod-eq_of_lt, ⊎_elim}
+use Rattle.std.proofs.Common.{arith, add-one, eqb-true, eq-eqb, ne_eqb, mod-eq_of_lt, ⊎_elim, ◌-◌, Ok, Some}
 use Rattle.std.specs.Int.{bit_at}
 use Rattle.std.proofs.lemmas.Nat.{and_block, and_le_l, and_le_r, and_comm, shr_split, mod_below, mod-pow-add, pow_pos, one_shl}
 use Rattle.std.proofs.lemmas.Nat.Bits.{and_pow, bit_at_and, bit_at-lt, shr_and_one}
@@ -11,7 +11,11 @@ use Rattle.lattice.specs.Words.{sub, cube, in_cube}
 use Rattle.lattice.specs.declared.row.Row.{Row}
 use Rattle.lattice.proofs.Diagrams.{join_cofactors_suc, sub-narrow, sub-low_cofactor, sub-high_cofactor}
 use Rattle.lattice.proofs.Polynomials.{IsFamily-family_where, has-family_where_below, family_where-agree, family_where-none}
+use Rattle.lattice.proofs.Polynomials.{IsFamily-low_cofactor, IsFamily-high_cofactor}
 use Rattle.cube_build.specs.PartialCubes.{cube_behind}
+use Rattle.node_store.specs.Stores.{State, Denotes, IsSound, IsPlanned, Builds}
+use Rattle.node_store.specs.declared.store.Handle.{Handle}
+use Rattle.node_store.proofs.StoreLaws.{Builds-known, Gives-reads, MayGrow}
 
 -- ---- numbers by their bit k and what is below it
 
@@ -151,3 +155,31 @@ sub-cube_behind (suc j) k n r within few f has =
     let e : k + suc j ≡ k + j + 1 = omega arith in
     subst (λ i. Has (sub n (cube_behind i r)) f) (sym e)
     (sub-next (k + j) n r within (omega arith) f (sub-cube_behind j k n r within (omega arith) f has))
+
+-- the cube over no variables
+pub cube_start : (s : State) (r : Row) → IsSound s → Builds s s (Ok (record { 0 = 1 })) (cube_behind 0 r)
+cube_start s r ok = Builds-known s (record { 0 = 1 }) (cube_behind 0 r) ok (ok.unit ∙ ap Some (sym (cube_behind-zero r)))
+
+-- s is the state before, t the one after k variables, of n
+pub step_grown : {s t : State} (n k : ℕ) (r : Row) {rest lo hi : Handle} → n ≡ s.vars → k < n → Builds s t (Ok rest) (cube_behind k r)
+    → Denotes t lo (low_cofactor k (cube_behind (k + 1) r)) → Denotes t hi (high_cofactor k (cube_behind (k + 1) r))
+    → r.care < 2 ^ s.vars → divides r.value r.care ≡ true → IsPlanned s (cube s.vars r) → MayGrow s t (n - k) lo hi (cube_behind (k + 1) r)
+step_grown {s} {t} n k r {rest} all less before low' high' small within planned =
+    let next : Family = cube_behind (k + 1) r in let behind : s.vars - (n - k) ≡ k = omega (arith, all, less) in
+    let more : k + 1 + (s.vars - (k + 1)) ≡ s.vars = omega (arith, all, less) in
+    let is : cube_behind (k + 1 + (s.vars - (k + 1))) r ≡ cube s.vars r = ap (λ (i : ℕ). cube_behind i r) more
+    ∙ cube_behind-all s.vars r small within in
+    record {
+      reads = Gives-reads s t rest _ _ before;
+      first = omega (arith, less);
+      last = omega (arith, all);
+      low = low_cofactor k next;
+      high = high_cofactor k next;
+      lo_is = low';
+      hi_is = high';
+      low_after = rw behind (IsFamily-low_cofactor k next);
+      high_after = rw behind (IsFamily-high_cofactor k next);
+      whole = rw behind (cut_whole k r);
+      planned = λ f has. planned f (subst (λ g. Has (sub s.vars g) f) is
+          (sub-cube_behind (s.vars - (k + 1)) (k + 1) s.vars r within (omega (arith, all, less)) f has));
+    }

@@ -57,6 +57,7 @@ module _ (n outputs : ℕ) (rows : List Row) where
 
   -- ---- consistent descriptions
 
+  -- no rows contradict each other in a consistent description
   pub none_of_consistent : IsConsistent n outputs rows → (c : Clash) → IsClash n outputs rows rows c → ⊥
   none_of_consistent consistent c clash =
       (consistent_by_rows n outputs rows).0 consistent c.output clash.shared.0 clash.on_row clash.off_row clash.first clash.last

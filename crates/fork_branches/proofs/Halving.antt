@@ -1,6 +1,7 @@
 -- How a crew is halved: what each half gets of a counter's parts is enough for it.
 use Rattle.std.proofs.Common.{◌≡◌, ℕ, ◌+◌, ◌-◌, ◌*◌, ◌/◌, ◌^◌, ◌≤◌, ◌⊎◌, inl, inr, ap, arith}
 use Rattle.std.proofs.Math.Nat.{add-mul, mul-add, mul-le-mul, mul-le-mul_left}
+use Rattle.job_counter.specs.declared.counter.TheConstants.{ALL_PARTS}
 
 -- the square of a number, by its halves l and h
 square_of : (l h : ℕ) → (l + h) * (l + h) ≡ l * l + l * h + (h * l + h * h)
@@ -38,5 +39,5 @@ workers_add k each more front le =
     omega (arith, add-mul (k - k / 2) (k / 2) each, ap (λ n. n * each) whole, le)
 
 -- all parts of a counter are enough for 16 job workers
-pub all_suffice : (j : ℕ) → j ≤ 16 → j * j * 2 ^ 30 ≤ 2 ^ 40
+pub all_suffice : (j : ℕ) → j ≤ 16 → j * j * 2 ^ 30 ≤ ALL_PARTS
 all_suffice j few = omega (arith, mul-le-mul few few)

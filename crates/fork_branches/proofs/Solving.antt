@@ -1,18 +1,17 @@
 -- All jobs have answers, and each stands at its number.
 use Rattle.std.proofs.Common.{◌≡◌, ◌≢◌, ◌∙◌, ℕ, ◌+◌, ◌<◌, ◌≤◌, ◌⊎◌, inl, inr, Ok, List, [], ◌∷◌, ◌++◌, length, slice_index_or, slice_set}
 use Rattle.std.proofs.Common.{zero, suc, sym, ap, refl, arith}
-use Rattle.std.specs.Prelude.{◌==◌, Bool, cond}
+use Rattle.std.specs.Prelude.{◌==◌, cond}
 use Rattle.std.specs.List.{All, Contains}
 use Rattle.std.proofs.lemmas.Bool.Decides.{nat_tests}
-use Rattle.std.proofs.lemmas.List.{get_or-set_same, get_or-set_other, length-set, take_more}
+use Rattle.std.proofs.lemmas.List.{get_or-set_same, get_or-set_other, length-set}
 use Rattle.std.proofs.lemmas.List.Elements.{All-weaker, All-contains, All-contains_itself, Contains-append_right}
 use Rattle.std.proofs.lemmas.List.Sums.{sum_by-cons}
 use Rattle.job_counter.specs.Rule.{times, once_below}
-use Rattle.lattice.specs.Words.{Covers}
 use Rattle.node_store.specs.Stores.{State, Denotes}
 use Rattle.node_store.specs.declared.store.Handle.{Handle}
-use Rattle.fork_branches.specs.Jobs.{Tasks, needed_by}
-use Rattle.fork_branches.specs.Work.{IsAnswer, IsAnswered, LeavesNone, Works}
+use Rattle.fork_branches.specs.Jobs.{Tasks}
+use Rattle.fork_branches.specs.Work.{IsAnswered, LeavesNone, Works}
 use Rattle.fork_branches.specs.Solves.{AreSolved, placed}
 use Rattle.fork_branches.specs.declared.crew.Answer.{Answer}
 

@@ -1,8 +1,9 @@
 //! All jobs of a list.
-ghost use Rattle.std.specs.Prelude.{◌≡◌, ◌≤◌, ◌<◌, ◌^◌, IfOk, IfErr, All, length};
+ghost use Rattle.std.specs.Prelude.{◌≡◌, ◌≤◌, ◌<◌, IfOk, IfErr, All, length};
 ghost use Rattle.node_store.specs.Stores.{Grows};
 ghost use Rattle.computed_cache.specs.Cached.{cached_state};
 ghost use Rattle.job_counter.specs.Drawing.{drawing, first_drawing, name};
+ghost use Rattle.job_counter.specs.declared.counter.TheConstants.{ALL_PARTS};
 ghost use Rattle.fork_branches.specs.Work.{MayWork, IsReady, answers_of, workers_of};
 ghost use Rattle.fork_branches.specs.Solves.{AreSolved, Refuses, placed};
 
@@ -61,7 +62,7 @@ fn prepare(alloc: Global, count: u32, workers: u32) -> Result<Prepared, Memory>
     requires some { 1 ≤ count }
     requires workers { (1 ≤ workers) × (workers ≤ 16) }
     ensures handles { IfOk result (λ p. length p.handles.items ≡ count) }
-    ensures ready { IfOk result (λ p. IsReady count (2 ^ 40) p.crew) }
+    ensures ready { IfOk result (λ p. IsReady count ALL_PARTS p.crew) }
     ensures workers { IfOk result (λ p. workers_of p.crew ≡ workers) }
     ensures drawer { IfOk result (λ p. drawing p.drawer ≡ first_drawing (name p.counter)) }
 {

@@ -1,5 +1,4 @@
-mod FewerVariables
-mod PointSteps
 mod Recursion
+mod PointSteps
 mod LeastStep
 pub mod InterpolationNeeds

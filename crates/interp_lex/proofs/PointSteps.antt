@@ -1,14 +1,14 @@
 -- The steps of finding points: the union of two results, and the points of the upper and the lower part.
-use Rattle.std.proofs.Common.{◌≡◌, ℕ, Bool, Result, Ok, Some, List, [], ◌∷◌, ◌++◌, refl, sym, ◌∙◌, ap, subst, arith}
-use Rattle.lattice.specs.Words.{Family, Covers, combine, union_of, minus_of, ones_of, working_set, ones_list}
+use Rattle.std.proofs.Common.{◌≡◌, Bool, Result, Ok, List, [], ◌∷◌, ◌++◌, refl, arith}
+use Rattle.lattice.specs.Words.{Family, Covers, combine, union_of, ones_of, working_set, ones_list}
 use Rattle.lattice.specs.declared.op.Op.TheVariants.{Ones}
-use Rattle.lattice.proofs.Diagrams.{Has-head, Has-tail, Has-append_left, Has-append_right, covers_family, covers_part, covers_head}
-use Rattle.lattice.proofs.Diagrams.{covers_left, covers_right, covers_nothing, covers_more, covers_lists}
+use Rattle.lattice.proofs.Diagrams.{Has-head, Has-tail, Has-append_left, Has-append_right, covers_family, covers_part}
+use Rattle.lattice.proofs.Diagrams.{covers_nothing, covers_more, covers_lists}
 use Rattle.node_store.specs.Stores.{State, Knows, Denotes, family, IsSound, IsPlanned, Grows, Reads, Gives, Builds, needs_of}
 use Rattle.node_store.specs.declared.store.Handle.{Handle}
 use Rattle.node_store.specs.declared.store.Full.{Full}
 use Rattle.node_store.proofs.StoreLaws.{Found, builds_gives, found_after, found_gives, found_part, found_result, found_start, found_built}
-use Rattle.node_store.proofs.StoreLaws.{found_call, Denotes-family, Denotes-knows, Grows-family, Grows-knows}
+use Rattle.node_store.proofs.StoreLaws.{found_call, reads_one, Denotes-family, Denotes-knows, Knows-denotes}
 use Rattle.set_algebra.proofs.Levels.{combine_later}
 use Rattle.set_algebra.specs.GivenPoints.{GivesPoints}
 use Rattle.set_algebra.specs.declared.points.ValuedPoints.{ValuedPoints}
@@ -16,9 +16,15 @@ use Rattle.set_algebra.specs.declared.pairs.Cofactors.{Cofactors}
 use Rattle.bool_poly.proofs.OnesLemmas.{needs_ones}
 use Rattle.interp_lex.specs.Parts.{common_of, common_list, replaced_of, replaced_list, upper_list, lower_of, lower_list, AreKnown}
 
--- ---- calls that give points
+-- ---- calls one after the other
 
--- one more call
+-- one more call, its result named too
+pub found_named : {s t u : State} {h : Handle} {f g : Family} {needed xs : List Family} (ys : List Family) → Found s t xs → IsSound u
+    → f ≡ g → needed ≡ working_set s.vars ys → Gives t u (Ok h) f needed → Found s u (xs ++ (ys ++ g ∷ []))
+found_named {s} {t} {u} {h} {f} {g} {needed} {xs} ys before sound same all given =
+    found_after s t u xs (ys ++ g ∷ []) before (found_result t u h g ys sound (rw (same, all, ← before.reads.grows.vars) at given))
+
+-- one more call that gives points
 pub points_found_after : {s t u : State} {p : ValuedPoints} {z o : Family} {needed xs : List Family} (ys : List Family) → Found s t xs
     → needed ≡ working_set s.vars ys → GivesPoints t u (Ok p) z o needed → Found s u (xs ++ ys)
 points_found_after {p = p} {z = z} ys one e two =
@@ -29,278 +35,209 @@ points_found : {s t : State} {z o : Handle} {p q : Family} {list : List Family} 
     → GivesPoints s t (Ok (record { zeros = z; ones = o })) p q (working_set s.vars list)
 points_found is zp oq = record { grows = is.reads.grows; zeros = zp; ones = oq; held = is.held; quiet = is.reads.quiet; full = tt }
 
+-- a part of what is planned is so after reads
+pub planned_later : {s u : State} {needed : List Family} (list part : List Family) → Covers s.plan (working_set s.vars list) → Reads s u
+    → needed ≡ working_set s.vars part → Covers list part → Covers u.plan needed
+planned_later {s} list part planned reads e more = rw (reads.grows.plan, e) (covers_part s.vars s.plan list part planned more)
+
 -- ---- the union of two results
 
--- both results are planned, and the operands of the second one are known
-pub record Both (k l : Bool → Bool → Bool) (s : State) (a b c d : Handle) : Type 0 where
-  pub third : Knows s c
-  pub fourth : Knows s d
-  pub planned : Covers s.plan (working_set s.vars (combine k s.vars (family s a) (family s b) ∷ combine l s.vars (family s c) (family s d)
-      ∷ union_of s.vars (combine k s.vars (family s a) (family s b)) (combine l s.vars (family s c) (family s d)) ∷ []))
-
-module _ {k l : Bool → Bool → Bool} {s : State} {a b c d : Handle} (both : Both k l s a b c d) where
-  abbrev F : Family
-  F = combine k s.vars (family s a) (family s b)
-
+-- in t there is the first of them, x, and all of them are planned
+module _ (l : Bool → Bool → Bool) {s t : State} {x : Handle} {F : Family} (c d : Handle) (kc : Knows s c) (kd : Knows s d)
+    (planned : Covers s.plan (working_set s.vars (F ∷ combine l s.vars (family s c) (family s d)
+    ∷ union_of s.vars F (combine l s.vars (family s c) (family s d)) ∷ []))) (one : Builds s t (Ok x) F) where
   abbrev G : Family
   G = combine l s.vars (family s c) (family s d)
 
   abbrev R : Family
   R = union_of s.vars F G
 
-  pub first_planned : IsPlanned s F
-  first_planned = covers_head s.vars s.plan (G ∷ R ∷ []) F both.planned
+  second_is : combine l t.vars (family t c) (family t d) ≡ G
+  second_is = combine_later l s t c d one.grows kc kd
 
-  -- t is the state after the first result x
-  module _ {t : State} {x : Handle} (one : Builds s t (Ok x) F) where
-    to_t : Found s t (F ∷ [])
-    to_t = found_built F (found_start s) refl one
+  pub second_planned : IsPlanned t (combine l t.vars (family t c) (family t d))
+  second_planned = rw (one.grows.plan, second_is, one.grows.vars)
+      (covers_family s.vars s.plan (F ∷ G ∷ R ∷ []) G planned (search (Has-head, Has-tail)))
 
-    pub first_reads : Reads s t
-    first_reads = to_t.reads
+  -- u is the state after the second one, y
+  module _ {u : State} {y : Handle} (two : Builds t u (Ok y) (combine l t.vars (family t c) (family t d))) where
+    to_u : Found s u (F ∷ G ∷ [])
+    to_u = found_built G (found_built F (found_start s) refl one) second_is two
 
-    second_is : combine l t.vars (family t c) (family t d) ≡ G
-    second_is = combine_later l s t c d one.grows both.third both.fourth
+    last_is : union_of u.vars (family u x) (family u y) ≡ R
+    last_is = grind (arith, Denotes-family)
 
-    pub second_planned : IsPlanned t (combine l t.vars (family t c) (family t d))
-    second_planned = rw (one.grows.plan, second_is, one.grows.vars)
-        (covers_family s.vars s.plan (F ∷ G ∷ R ∷ []) G both.planned (search (Has-head, Has-tail)))
+    pub last_planned : IsPlanned u (union_of u.vars (family u x) (family u y))
+    last_planned = rw (to_u.reads.grows.plan, last_is, to_u.reads.grows.vars)
+        (covers_family s.vars s.plan (F ∷ G ∷ R ∷ []) R planned (search (Has-head, Has-tail)))
 
-    -- u is the state after the second one, y
-    module _ {u : State} {y : Handle} (two : Builds t u (Ok y) (combine l t.vars (family t c) (family t d))) where
-      to_u : Found s u (F ∷ G ∷ [])
-      to_u = found_built G to_t second_is two
+    pub last_gives : {v : State} (r : Result Handle Full) → Builds u v r (union_of u.vars (family u x) (family u y))
+        → Gives s v r R (working_set s.vars (F ∷ G ∷ R ∷ []))
+    last_gives {v} r three = found_gives s u v r R (F ∷ G ∷ []) (R ∷ []) to_u (builds_gives u v r R (rw last_is at three))
 
-      last_is : union_of u.vars (family u x) (family u y) ≡ R
-      last_is = grind (arith, Denotes-family)
+-- ---- the four cofactors and their families
 
-      pub last_planned : IsPlanned u (union_of u.vars (family u x) (family u y))
-      last_planned = rw (to_u.reads.grows.plan, last_is, to_u.reads.grows.vars)
-          (covers_family s.vars s.plan (F ∷ G ∷ R ∷ []) R both.planned (search (Has-head, Has-tail)))
+pub record Four (s : State) (c : Cofactors) (z0 z1 o0 o1 : Family) : Type 0 where
+  pub a_low : Denotes s c.a_low z0
+  pub a_high : Denotes s c.a_high z1
+  pub b_low : Denotes s c.b_low o0
+  pub b_high : Denotes s c.b_high o1
 
-      pub last_gives : {v : State} (r : Result Handle Full) → Builds u v r (union_of u.vars (family u x) (family u y))
-          → Gives s v r R (working_set s.vars (F ∷ G ∷ R ∷ []))
-      last_gives {v = v} r three =
-          found_gives s u v r R (F ∷ G ∷ []) (R ∷ []) to_u (builds_gives u v r R (subst (Builds u v r) last_is three))
+pub four_of : {s : State} {c : Cofactors} → AreKnown s c
+    → Four s c (family s c.a_low) (family s c.a_high) (family s c.b_low) (family s c.b_high)
+four_of known = search (Knows-denotes, known)
 
--- ---- the four cofactors in a later state
+module _ {s : State} {c : Cofactors} {z0 z1 o0 o1 : Family} (four : Four s c z0 z1 o0 o1) where
+  pub four_known : AreKnown s c
+  four_known = search (Denotes-knows, four)
 
-module _ {s t : State} {c : Cofactors} (known : AreKnown s c) (grows : Grows s t) where
-  pub AreKnown-later : AreKnown t c
-  AreKnown-later = grind (arith, Grows-knows)
-
-  o0_same : family t c.b_low ≡ family s c.b_low
-  o0_same = Grows-family s t c.b_low grows known.b_low
-
-  o1_same : family t c.b_high ≡ family s c.b_high
-  o1_same = Grows-family s t c.b_high grows known.b_high
+  pub four_later : {t : State} → Grows s t → Four t c z0 z1 o0 o1
+  four_later grows = search (grows.known, four)
 
 -- ---- the points of the upper part
 
-module _ (a b c d e f : Family) where
-  upper_first : Covers (a ∷ b ∷ c ∷ d ∷ e ∷ f ∷ []) (a ∷ b ∷ e ∷ [])
-  upper_first = search (covers_more, covers_nothing, Has-head, Has-tail) depth 14
-
-  upper_second : Covers (a ∷ b ∷ c ∷ d ∷ e ∷ f ∷ []) (c ∷ d ∷ f ∷ [])
-  upper_second = search (covers_more, covers_nothing, Has-head, Has-tail) depth 14
-
-  upper_both : Covers (a ∷ b ∷ e ∷ c ∷ d ∷ f ∷ []) (a ∷ b ∷ c ∷ d ∷ e ∷ f ∷ [])
-  upper_both = search (covers_more, covers_nothing, Has-head, Has-tail) depth 14
-
--- what the points need is planned, and the cofactors are known
-pub record Upper (s : State) (c : Cofactors) : Type 0 where
-  pub known : AreKnown s c
-  pub planned : Covers s.plan
-      (working_set s.vars (upper_list s.vars (family s c.a_low) (family s c.a_high) (family s c.b_low) (family s c.b_high)))
-
-pub upper_at : {s : State} {c : Cofactors} → AreKnown s c → Covers s.plan
-    (working_set s.vars (upper_list s.vars (family s c.a_low) (family s c.a_high) (family s c.b_low) (family s c.b_high))) → Upper s c
-upper_at known planned = record { known = known; planned = planned }
-
-module _ {s : State} {c : Cofactors} (k : Upper s c) where
-  abbrev n : ℕ
-  n = s.vars
-
-  abbrev z0 : Family
-  z0 = family s c.a_low
-
-  abbrev z1 : Family
-  z1 = family s c.a_high
-
-  abbrev o0 : Family
-  o0 = family s c.b_low
-
-  abbrev o1 : Family
-  o1 = family s c.b_high
-
-  pub upper_zeros_planned : Covers s.plan (working_set n (common_list n z0 z1 o0 o1))
-  upper_zeros_planned = covers_part n s.plan (upper_list n z0 z1 o0 o1) (common_list n z0 z1 o0 o1) k.planned (upper_first _ _ _ _ _ _)
-
+module _ {s : State} {c : Cofactors} {z0 z1 o0 o1 : Family} (four : Four s c z0 z1 o0 o1)
+    (planned : Covers s.plan (working_set s.vars (upper_list s.vars z0 z1 o0 o1))) where
   -- t is the state after the zeros z were found
-  module _ {t : State} {z : Handle} (one : Gives s t (Ok z) (common_of n z0 z1 o0 o1) (working_set n (common_list n z0 z1 o0 o1))) where
-    to_zeros : Found s t (common_list n z0 z1 o0 o1)
-    to_zeros = found_call (common_list n z0 z1 o0 o1) (found_start s) refl one
-
-    pub upper_reads : Reads s t
-    upper_reads = to_zeros.reads
-
+  module _ {t : State} {z : Handle}
+      (one : Gives s t (Ok z) (common_of s.vars z0 z1 o0 o1) (working_set s.vars (common_list s.vars z0 z1 o0 o1))) where
     abbrev list_at : List Family
     list_at = common_list t.vars (family t c.a_low) (family t c.b_high) (family t c.b_low) (family t c.a_high)
 
-    list_is : list_at ≡ common_list n z0 o1 o0 z1
-    list_is = grind arith
+    list_is : working_set t.vars list_at ≡ working_set s.vars (common_list s.vars z0 o1 o0 z1)
+    list_is = let at = four_later four one.grows in rw (one.grows.vars, at.a_low, at.a_high, at.b_low, at.b_high) refl
 
     pub upper_ones_planned : Covers t.plan (working_set t.vars list_at)
-    upper_ones_planned = rw (one.grows.plan, list_is, one.grows.vars)
-        (covers_part n s.plan (upper_list n z0 z1 o0 o1) (common_list n z0 o1 o0 z1) k.planned (upper_second _ _ _ _ _ _))
+    upper_ones_planned = planned_later (upper_list s.vars z0 z1 o0 o1) _ planned (reads_one one) list_is
+        (search (covers_more, covers_nothing, Has-head, Has-tail) depth 14)
 
     pub upper_gives : {u : State} {o : Handle}
         → Gives t u (Ok o) (common_of t.vars (family t c.a_low) (family t c.b_high) (family t c.b_low) (family t c.a_high))
         (working_set t.vars list_at)
-        → GivesPoints s u (Ok (record { zeros = z; ones = o })) (common_of n z0 z1 o0 o1) (common_of n z0 o1 o0 z1)
-        (working_set n (upper_list n z0 z1 o0 o1))
-    upper_gives {u = u} two = points_found
-        (found_part s u (common_list n z0 z1 o0 o1 ++ common_list n z0 o1 o0 z1) (upper_list n z0 z1 o0 o1)
-        (found_call (common_list n z0 o1 o0 z1) to_zeros (rw (list_is, one.grows.vars) refl) two) (upper_both _ _ _ _ _ _))
-        (two.grows.known z.0 (common_of n z0 z1 o0 o1) one.ok) (grind arith)
+        → GivesPoints s u (Ok (record { zeros = z; ones = o })) (common_of s.vars z0 z1 o0 o1) (common_of s.vars z0 o1 o0 z1)
+        (working_set s.vars (upper_list s.vars z0 z1 o0 o1))
+    upper_gives {u} two = let at = four_later four one.grows in points_found
+        (found_part s u (common_list s.vars z0 z1 o0 o1 ++ common_list s.vars z0 o1 o0 z1) (upper_list s.vars z0 z1 o0 o1)
+        (found_call (common_list s.vars z0 o1 o0 z1) (found_call (common_list s.vars z0 z1 o0 o1) (found_start s) refl one) list_is two)
+        (search (covers_more, covers_nothing, Has-head, Has-tail) depth 14))
+        (two.grows.known z.0 _ one.ok) (rw (one.grows.vars, at.a_low, at.a_high, at.b_low, at.b_high) at two.ok)
 
 -- ---- the points of the lower part
 
-module _ (xs ys : List Family) (a b c d e f g h : Family) where
-  abbrev lower_families : List Family
-  lower_families = a ∷ b ∷ c ∷ d ∷ e ∷ f ∷ g ∷ h ∷ []
-
-  lower_zeros_of : Covers (xs ++ (ys ++ lower_families)) (e ∷ c ∷ g ∷ [])
-  lower_zeros_of = search (covers_more, covers_nothing, Has-head, Has-tail, Has-append_right) depth 16
-
-  lower_ones_of : Covers (xs ++ (ys ++ lower_families)) (f ∷ d ∷ h ∷ [])
-  lower_ones_of = search (covers_more, covers_nothing, Has-head, Has-tail, Has-append_right) depth 16
-
-  -- what the four calls need, in their order
-  abbrev lower_order : List Family
-  lower_order = (((xs ++ a ∷ []) ++ (ys ++ b ∷ [])) ++ (e ∷ c ∷ g ∷ [])) ++ (f ∷ d ∷ h ∷ [])
-
-  lower_all : Covers lower_order (xs ++ (ys ++ lower_families))
-  lower_all = covers_lists lower_order xs (ys ++ lower_families) (λ k i. search (Has-append_left, Has-append_right) depth 8)
-      (covers_lists lower_order ys lower_families (λ k i. search (Has-append_left, Has-append_right) depth 8)
-      (covers_more _ _ a (search (Has-head, Has-append_left, Has-append_right) depth 8)
-      (covers_more _ _ b (search (Has-head, Has-append_left, Has-append_right) depth 8)
-      (covers_more _ _ c (search (Has-head, Has-tail, Has-append_left, Has-append_right) depth 8)
-      (covers_more _ _ d (search (Has-head, Has-tail, Has-append_right) depth 8)
-      (covers_more _ _ e (search (Has-head, Has-tail, Has-append_left, Has-append_right) depth 8)
-      (covers_more _ _ f (search (Has-head, Has-tail, Has-append_right) depth 8)
-      (covers_more _ _ g (search (Has-head, Has-tail, Has-append_left, Has-append_right) depth 8)
-      (covers_more _ _ h (search (Has-head, Has-tail, Has-append_right) depth 8) (covers_nothing lower_order))))))))))
-
 -- what the points at h need is planned, and h and the cofactors are known
-pub record Lower (s : State) (c : Cofactors) (h : Handle) : Type 0 where
-  pub known : AreKnown s c
-  pub h_known : Knows s h
-  pub planned : Covers s.plan
-      (working_set s.vars (lower_list s.vars (family s h) (family s c.a_low) (family s c.a_high) (family s c.b_low) (family s c.b_high)))
+pub record Lower (s : State) (c : Cofactors) (h : Handle) (H z0 z1 o0 o1 : Family) : Type 0 where
+  pub four : Four s c z0 z1 o0 o1
+  pub h_is : Denotes s h H
+  pub planned : Covers s.plan (working_set s.vars (lower_list s.vars H z0 z1 o0 o1))
 
-pub lower_at : {s : State} {c : Cofactors} {h : Handle} → AreKnown s c → Knows s h → Covers s.plan
-    (working_set s.vars (lower_list s.vars (family s h) (family s c.a_low) (family s c.a_high) (family s c.b_low) (family s c.b_high)))
-    → Lower s c h
-lower_at known h_known planned = record { known = known; h_known = h_known; planned = planned }
+pub lower_at : {s : State} {c : Cofactors} {p : Handle} {R : Type 0} → record {
+  known : AreKnown s c;
+  h : Knows s p;
+  planned : Covers s.plan
+      (working_set s.vars (lower_list s.vars (family s p) (family s c.a_low) (family s c.a_high) (family s c.b_low) (family s c.b_high)));
+  ready : R;
+} → Lower s c p (family s p) (family s c.a_low) (family s c.a_high) (family s c.b_low) (family s c.b_high)
+lower_at {s} {c} {p} asked = record { four = four_of asked.known; h_is = Knows-denotes s p asked.h; planned = asked.planned }
 
-module _ {s : State} {c : Cofactors} {h : Handle} (k : Lower s c h) where
-  abbrev H : Family
-  H = family s h
+-- what a call of replaced asks for
+abbrev pub Asked : State → Handle → Handle → Handle → Handle → Type 0 → Type 0
+Asked t a b p q R = record {
+  known : Knows t a × Knows t b × Knows t p × Knows t q;
+  planned : Covers t.plan (working_set t.vars (replaced_list t.vars (family t a) (family t b) (family t p) (family t q)));
+  ready : R;
+}
 
-  abbrev low0 : Family
-  low0 = family s c.a_low
+-- what it gave
+abbrev pub GivesSwapped : State → State → Handle → Handle → Handle → Handle → Handle → Type 0
+GivesSwapped t u z a b p q = Gives t u (Ok z) (replaced_of t.vars (family t a) (family t b) (family t p) (family t q))
+    (working_set t.vars (replaced_list t.vars (family t a) (family t b) (family t p) (family t q)))
 
-  abbrev high0 : Family
-  high0 = family s c.a_high
+module _ {s : State} {c : Cofactors} {h : Handle} {H z0 z1 o0 o1 : Family} (k : Lower s c h H z0 z1 o0 o1) where
+  abbrev needed : List Family
+  needed = lower_list s.vars H z0 z1 o0 o1
 
-  abbrev low1 : Family
-  low1 = family s c.b_low
+  -- a call of ones_of at the points f of p; t is the state before it
+  module _ {t : State} {xs : List Family} (before : Found s t xs) {p : Handle} {f : Family} (is : Denotes t p f) where
+    ones_same : ones_of t.vars (family t h) (family t p) ≡ ones_of s.vars H f
+    ones_same = rw (before.reads.grows.vars, before.reads.grows.known h.0 H k.h_is, is) refl
 
-  abbrev high1 : Family
-  high1 = family s c.b_high
+    ones_needs : needs_of t Ones h p.0 ≡ working_set s.vars (ones_list s.vars H f)
+    ones_needs = rw (before.reads.grows.vars, before.reads.grows.known h.0 H k.h_is, is) (needs_ones s.vars H f p.0)
 
-  abbrev m : ℕ
-  m = s.vars
+    ones_planned : Covers needed (ones_list s.vars H f) → Covers t.plan (needs_of t Ones h p.0)
+    ones_planned = planned_later needed (ones_list s.vars H f) k.planned before.reads ones_needs
+
+    ones_found : {u : State} {e : Handle} → IsSound u → Gives t u (Ok e) (ones_of t.vars (family t h) (family t p)) (needs_of t Ones h p.0)
+        → Found s u (xs ++ (ones_list s.vars H f ++ ones_of s.vars H f ∷ []))
+    ones_found sound = found_named (ones_list s.vars H f) before sound ones_same ones_needs
+
+  -- a call of replaced at A, B, C and D
+  module _ {t : State} {xs : List Family} (before : Found s t xs) {a b p q : Handle} {A B C D : Family} (ia : Denotes t a A)
+      (ib : Denotes t b B) (ip : Denotes t p C) (iq : Denotes t q D) where
+    swap_needs : working_set t.vars (replaced_list t.vars (family t a) (family t b) (family t p) (family t q))
+        ≡ working_set s.vars (replaced_list s.vars A B C D)
+    swap_needs = rw (before.reads.grows.vars, ia, ib, ip, iq) refl
+
+    swap_asked : {R : Type 0} → Covers needed (replaced_list s.vars A B C D) → R → Asked t a b p q R
+    swap_asked part ready = record {
+      known = (Denotes-knows t a A ia, Denotes-knows t b B ib, Denotes-knows t p C ip, Denotes-knows t q D iq);
+      planned = planned_later needed (replaced_list s.vars A B C D) k.planned before.reads swap_needs part;
+      ready = ready;
+    }
+
+    swap_found : {u : State} {z : Handle} → GivesSwapped t u z a b p q → Found s u (xs ++ replaced_list s.vars A B C D)
+    swap_found = found_call (replaced_list s.vars A B C D) before swap_needs
+
+    swap_at : {u : State} {z : Handle} → GivesSwapped t u z a b p q → Denotes u z (replaced_of s.vars A B C D)
+    swap_at given = rw (before.reads.grows.vars, ia, ib, ip, iq) at given.ok
 
   abbrev E : Family
-  E = ones_of m H high0
+  E = ones_of s.vars H z1
 
   abbrev B : Family
-  B = ones_of m H high1
-
-  abbrev needed : List Family
-  needed = lower_list m H low0 high0 low1 high1
+  B = ones_of s.vars H o1
 
   pub first_ones_planned : Covers s.plan (needs_of s Ones h c.a_high.0)
-  first_ones_planned = rw (needs_ones m H high0 c.a_high.0) (covers_left m s.plan (ones_list m H high0) _ k.planned)
+  first_ones_planned = ones_planned (found_start s) k.four.a_high (λ f i. search Has-append_left)
 
   -- t is the state after ones_of gave e
-  module _ {t : State} {e : Handle} (sound_t : IsSound t) (one : Gives s t (Ok e) E (needs_of s Ones h c.a_high.0)) where
-    to_e : Found s t (ones_list m H high0 ++ E ∷ [])
-    to_e = found_result s t e E (ones_list m H high0) sound_t (rw (← needs_ones m H high0 c.a_high.0) one)
+  module _ {t : State} {e : Handle} (sound_t : IsSound t)
+      (one : Gives s t (Ok e) (ones_of s.vars (family s h) (family s c.a_high)) (needs_of s Ones h c.a_high.0)) where
+    to_e : Found s t (ones_list s.vars H z1 ++ E ∷ [])
+    to_e = ones_found (found_start s) k.four.a_high sound_t one
 
-    pub one_reads : Reads s t
-    one_reads = to_e.reads
-
-    H_is : family t h ≡ H
-    H_is = Grows-family s t h one.grows k.h_known
-
-    needs_is : needs_of t Ones h c.b_high.0 ≡ working_set m (ones_list m H high1)
-    needs_is = rw (one.grows.vars, H_is, o1_same k.known one.grows, needs_ones m H high1 c.b_high.0) refl
-
-    B_is : ones_of t.vars (family t h) (family t c.b_high) ≡ B
-    B_is = rw (one.grows.vars, H_is, o1_same k.known one.grows) refl
+    high_t : Denotes t c.b_high o1
+    high_t = one.grows.known c.b_high.0 o1 k.four.b_high
 
     pub second_ones_planned : Covers t.plan (needs_of t Ones h c.b_high.0)
-    second_ones_planned = rw (needs_is, one.grows.plan)
-        (covers_left m s.plan (ones_list m H high1) _ (covers_right m s.plan (ones_list m H high0) _ k.planned))
+    second_ones_planned = ones_planned to_e high_t (λ f i. search (Has-append_left, Has-append_right))
 
     -- u is the state after it gave f
     module _ {u : State} {f : Handle} (sound_u : IsSound u)
         (two : Gives t u (Ok f) (ones_of t.vars (family t h) (family t c.b_high)) (needs_of t Ones h c.b_high.0)) where
-      f_at : Denotes u f B
-      f_at = two.ok ∙ ap Some B_is
+      to_f : Found s u ((ones_list s.vars H z1 ++ E ∷ []) ++ (ones_list s.vars H o1 ++ B ∷ []))
+      to_f = ones_found to_e high_t sound_u two
 
       e_at : Denotes u e E
-      e_at = two.grows.known e.0 E one.ok
+      e_at = two.grows.known e.0 E (rw (ones_same (found_start s) k.four.a_high) at one.ok)
 
-      to_f : Found s u ((ones_list m H high0 ++ E ∷ []) ++ (ones_list m H high1 ++ B ∷ []))
-      to_f = found_after s t u (ones_list m H high0 ++ E ∷ []) (ones_list m H high1 ++ B ∷ []) to_e
-          (found_result t u f B (ones_list m H high1) sound_u
-          (subst (Gives t u (Ok f) B) (needs_is ∙ ap (λ i. working_set i (ones_list m H high1)) (sym one.grows.vars))
-          (subst (λ x. Gives t u (Ok f) x (needs_of t Ones h c.b_high.0)) B_is two)))
+      f_at : Denotes u f B
+      f_at = rw (ones_same to_e high_t) at two.ok
 
-      pub both_reads : Reads s u
-      both_reads = to_f.reads
+      four_u : Four u c z0 z1 o0 o1
+      four_u = four_later k.four to_f.reads.grows
 
-      pub zeros_known : Knows u c.a_low × Knows u f × Knows u c.a_high × Knows u e
-      zeros_known = grind (arith, Denotes-knows)
-
-      abbrev zeros_list_at : List Family
-      zeros_list_at = replaced_list u.vars (family u c.a_low) (family u f) (family u c.a_high) (family u e)
-
-      abbrev zeros_at : Family
-      zeros_at = replaced_of u.vars (family u c.a_low) (family u f) (family u c.a_high) (family u e)
-
-      zeros_list_is : zeros_list_at ≡ replaced_list m low0 B high0 E
-      zeros_list_is = grind (arith, Denotes-family)
-
-      zeros_is : zeros_at ≡ replaced_of m low0 B high0 E
-      zeros_is = grind (arith, Denotes-family)
-
-      pub lower_zeros_planned : Covers u.plan (working_set u.vars zeros_list_at)
-      lower_zeros_planned = rw (both_reads.grows.plan, zeros_list_is, both_reads.grows.vars)
-          (covers_part m s.plan needed (replaced_list m low0 B high0 E) k.planned
-          (lower_zeros_of (ones_list m H high0) (ones_list m H high1) _ _ _ _ _ _ _ _))
+      pub zeros_asked : {R : Type 0} → R → Asked u c.a_low f c.a_high e R
+      zeros_asked = swap_asked to_f four_u.a_low f_at four_u.a_high e_at
+          (search (covers_more, covers_nothing, Has-head, Has-tail, Has-append_right) depth 16)
 
       -- v is the state after the zeros z were found
-      module _ {v : State} {z : Handle} (three : Gives u v (Ok z) zeros_at (working_set u.vars zeros_list_at)) where
-        to_z : Found s v (((ones_list m H high0 ++ E ∷ []) ++ (ones_list m H high1 ++ B ∷ [])) ++ replaced_list m low0 B high0 E)
-        to_z = found_call (replaced_list m low0 B high0 E) to_f (rw (zeros_list_is, both_reads.grows.vars) refl) three
+      module _ {v : State} {z : Handle} (three : GivesSwapped u v z c.a_low f c.a_high e) where
+        to_z : Found s v (((ones_list s.vars H z1 ++ E ∷ []) ++ (ones_list s.vars H o1 ++ B ∷ [])) ++ replaced_list s.vars z0 B z1 E)
+        to_z = swap_found to_f four_u.a_low f_at four_u.a_high e_at three
 
-        pub three_reads : Reads s v
-        three_reads = to_z.reads
+        four_v : Four v c z0 z1 o0 o1
+        four_v = four_later four_u three.grows
 
         e_later : Denotes v e E
         e_later = three.grows.known e.0 E e_at
@@ -308,35 +245,15 @@ module _ {s : State} {c : Cofactors} {h : Handle} (k : Lower s c h) where
         f_later : Denotes v f B
         f_later = three.grows.known f.0 B f_at
 
-        pub ones_known : Knows v c.b_low × Knows v e × Knows v c.b_high × Knows v f
-        ones_known = let later = AreKnown-later k.known three_reads.grows in
-            (later.b_low, Denotes-knows v e E e_later, later.b_high, Denotes-knows v f B f_later)
+        pub ones_asked : {R : Type 0} → R → Asked v c.b_low e c.b_high f R
+        ones_asked = swap_asked to_z four_v.b_low e_later four_v.b_high f_later
+            (search (covers_more, covers_nothing, Has-head, Has-tail, Has-append_right) depth 16)
 
-        abbrev ones_list_at : List Family
-        ones_list_at = replaced_list v.vars (family v c.b_low) (family v e) (family v c.b_high) (family v f)
-
-        abbrev ones_at : Family
-        ones_at = replaced_of v.vars (family v c.b_low) (family v e) (family v c.b_high) (family v f)
-
-        ones_list_is : ones_list_at ≡ replaced_list m low1 E high1 B
-        ones_list_is = let grows = three_reads.grows in
-            rw (grows.vars, o0_same k.known grows, Denotes-family v e E e_later, o1_same k.known grows, Denotes-family v f B f_later) refl
-
-        ones_are : ones_at ≡ replaced_of m low1 E high1 B
-        ones_are = let grows = three_reads.grows in
-            rw (grows.vars, o0_same k.known grows, Denotes-family v e E e_later, o1_same k.known grows, Denotes-family v f B f_later) refl
-
-        pub lower_ones_planned : Covers v.plan (working_set v.vars ones_list_at)
-        lower_ones_planned = rw (three_reads.grows.plan, ones_list_is, three_reads.grows.vars)
-            (covers_part m s.plan needed (replaced_list m low1 E high1 B) k.planned
-            (lower_ones_of (ones_list m H high0) (ones_list m H high1) _ _ _ _ _ _ _ _))
-
-        pub lower_gives : {w : State} {o : Handle} → Gives v w (Ok o) ones_at (working_set v.vars ones_list_at)
-            → GivesPoints s w (Ok (record { zeros = z; ones = o })) (lower_of m H low0 high0 high1) (lower_of m H low1 high1 high0)
-            (working_set m needed)
-        lower_gives {w = w} four = points_found
-            (found_part s w (lower_order (ones_list m H high0) (ones_list m H high1) E B (minus_of m high0 E) (minus_of m high1 B)
-            (union_of m low0 B) (union_of m low1 E) (lower_of m H low0 high0 high1) (lower_of m H low1 high1 high0)) needed
-            (found_call (replaced_list m low1 E high1 B) to_z (rw (ones_list_is, three_reads.grows.vars) refl) four)
-            (lower_all (ones_list m H high0) (ones_list m H high1) _ _ _ _ _ _ _ _))
-            (four.grows.known z.0 (replaced_of m low0 B high0 E) (three.ok ∙ ap Some zeros_is)) (four.ok ∙ ap Some ones_are)
+        pub lower_gives : {w : State} {o : Handle} → GivesSwapped v w o c.b_low e c.b_high f
+            → GivesPoints s w (Ok (record { zeros = z; ones = o })) (lower_of s.vars H z0 z1 o1) (lower_of s.vars H o0 o1 z1)
+            (working_set s.vars needed)
+        lower_gives {w} four = points_found
+            (found_part s w _ needed (swap_found to_z four_v.b_low e_later four_v.b_high f_later four)
+            (search (covers_lists, covers_more, covers_nothing, Has-head, Has-tail, Has-append_left, Has-append_right) depth 20 fits 4000))
+            (four.grows.known z.0 _ (swap_at to_f four_u.a_low f_at four_u.a_high e_at three))
+            (swap_at to_z four_v.b_low e_later four_v.b_high f_later four)

@@ -1,191 +1,121 @@
--- The recursion at the first variable of the zeros and the ones, which d variables follow.
-use Rattle.std.proofs.Common.{◌≡◌, ◌≢◌, ℕ, suc, ◌<◌, ◌≤◌, false, ◌&&◌, ◌||◌, List, [], ◌∷◌, ◌++◌, refl, sym, ◌∙◌, ap₂, arith, ◌⊎◌, inl, inr}
-use Rattle.std.proofs.Common.{append_assoc}
-use Rattle.lattice.specs.Words.{Family, IsFamily, AreDisjoint, inter_of, low_cofactor, high_cofactor, join, is_empty, IsLeast, IsUpperPart}
-use Rattle.lattice.specs.Words.{IsLowerPart, interpolate, upper_zeros, upper_ones, lower_points, interpolation_list}
-use Rattle.lattice.proofs.Diagrams.{not_empty}
-use Rattle.lattice.proofs.Polynomials.{IsFamily-combine, IsFamily-low_cofactor, IsFamily-high_cofactor, upper_disjoint, lower_disjoint}
-use Rattle.lattice.proofs.Polynomials.{upper, lower, IsLeast-interpolate, interpolate-narrow, interpolation_list-narrow}
+-- The recursion at the first variable of the zeros and the ones, which d variables follow: a step over n variables is one over d.
+use Rattle.std.proofs.Common.{◌≡◌, ◌≢◌, ℕ, suc, ◌<◌, ◌≤◌, Bool, false, ◌&&◌, List, [], ◌∷◌, ◌++◌, refl, ◌∙◌, ◌⊎◌, inl, inr, append_assoc}
+use Rattle.lattice.specs.Words.{Family, IsFamily, AreDisjoint, combine, low_cofactor, high_cofactor, join, is_empty}
+use Rattle.lattice.specs.Words.{interpolate, upper_zeros, upper_ones, lower_points, interpolation_list}
+use Rattle.lattice.proofs.Diagrams.{not_empty, combine-narrow}
+use Rattle.lattice.proofs.Polynomials.{IsFamily-combine, IsFamily-ones_of, IsFamily-low_cofactor, IsFamily-high_cofactor, upper_disjoint}
+use Rattle.lattice.proofs.Polynomials.{lower_disjoint, upper, lower, IsLeast-interpolate, interpolate-narrow, interpolation_list-narrow}
+use Rattle.bool_poly.proofs.OnesLemmas.{ones_of-narrow, ones_list-narrow}
 use Rattle.interp_lex.specs.Parts.{common_of, upper_list, lower_of, lower_list}
-use Rattle.interp_lex.proofs.FewerVariables.{common-narrow, upper_list-narrow, lower-narrow, lower_list-narrow}
 
--- the families of a step, found over m variables: the points of the upper part and its polynomial h, those of the lower part and
--- its polynomial g, and what is needed, in the order in which it is found
-module _ (m d : ℕ) (Z O : Family) where
-  abbrev pub hz : Family
-  hz = common_of m (low_cofactor d Z) (high_cofactor d Z) (low_cofactor d O) (high_cofactor d O)
+-- ---- the points of a step over more variables
 
-  abbrev pub ho : Family
-  ho = common_of m (low_cofactor d Z) (high_cofactor d O) (low_cofactor d O) (high_cofactor d Z)
+module _ (d n : ℕ) (le : d ≤ n) where
+  narrow : (k : Bool → Bool → Bool) (f g : Family) → k false false ≡ false → IsFamily d f → IsFamily d g → combine k n f g ≡ combine k d f g
+  narrow k f g e ff fg = combine-narrow k e d n f g ff fg le
 
+  module _ (Z O : Family) where
+    pub upper_zeros_are : common_of n (low_cofactor d Z) (high_cofactor d Z) (low_cofactor d O) (high_cofactor d O) ≡ upper_zeros d Z O
+    unfolding upper_zeros
+    upper_zeros_are = simp (narrow, IsFamily-combine, IsFamily-low_cofactor, IsFamily-high_cofactor)
+
+    pub upper_ones_are : common_of n (low_cofactor d Z) (high_cofactor d O) (low_cofactor d O) (high_cofactor d Z) ≡ upper_ones d Z O
+    unfolding upper_ones
+    upper_ones_are = simp (narrow, IsFamily-combine, IsFamily-low_cofactor, IsFamily-high_cofactor)
+
+    pub upper_list_is : upper_list n (low_cofactor d Z) (high_cofactor d Z) (low_cofactor d O) (high_cofactor d O)
+        ≡ upper_list d (low_cofactor d Z) (high_cofactor d Z) (low_cofactor d O) (high_cofactor d O)
+    upper_list_is = simp (narrow, IsFamily-combine, IsFamily-low_cofactor, IsFamily-high_cofactor)
+
+    pub lower_points_are : (h : Family) → lower_of n h (low_cofactor d Z) (high_cofactor d Z) (high_cofactor d O) ≡ lower_points d h Z O
+    unfolding lower_points
+    lower_points_are h =
+        simp (narrow, ones_of-narrow d n, IsFamily-combine, IsFamily-ones_of, IsFamily-low_cofactor, IsFamily-high_cofactor)
+
+    pub lower_list_is : (h : Family) → IsFamily d h
+        → lower_list n h (low_cofactor d Z) (high_cofactor d Z) (low_cofactor d O) (high_cofactor d O)
+        ≡ lower_list d h (low_cofactor d Z) (high_cofactor d Z) (low_cofactor d O) (high_cofactor d O)
+    lower_list_is h is =
+        let ones = ones_of-narrow d n in let list = ones_list-narrow d n in
+        simp (narrow, ones, list, IsFamily-combine, IsFamily-ones_of, IsFamily-low_cofactor, IsFamily-high_cofactor)
+
+-- ---- the families of a step
+
+-- the polynomials of the upper and the lower part, and what is needed, in the order in which it is found
+module _ (d : ℕ) (Z O : Family) where
   abbrev pub h : Family
-  h = interpolate m hz ho
-
-  abbrev pub gz : Family
-  gz = lower_of m h (low_cofactor d Z) (high_cofactor d Z) (high_cofactor d O)
-
-  abbrev pub go : Family
-  go = lower_of m h (low_cofactor d O) (high_cofactor d O) (high_cofactor d Z)
+  h = interpolate d (upper_zeros d Z O) (upper_ones d Z O)
 
   abbrev pub g : Family
-  g = interpolate m gz go
+  g = interpolate d (lower_points d h Z O) (lower_points d h O Z)
 
   abbrev pub upper_needs : List Family
-  upper_needs = upper_list m (low_cofactor d Z) (high_cofactor d Z) (low_cofactor d O) (high_cofactor d O)
+  upper_needs = upper_list d (low_cofactor d Z) (high_cofactor d Z) (low_cofactor d O) (high_cofactor d O)
 
   abbrev pub lower_needs : List Family
-  lower_needs = lower_list m h (low_cofactor d Z) (high_cofactor d Z) (low_cofactor d O) (high_cofactor d O)
+  lower_needs = lower_list d h (low_cofactor d Z) (high_cofactor d Z) (low_cofactor d O) (high_cofactor d O)
+
+  abbrev pub high_needs : List Family
+  high_needs = upper_needs ++ (interpolation_list d (upper_zeros d Z O) (upper_ones d Z O) ++ h ∷ [])
 
   abbrev pub part_needs : List Family
-  part_needs = ((upper_needs ++ (interpolation_list m hz ho ++ h ∷ [])) ++ lower_needs) ++ (interpolation_list m gz go ++ g ∷ [])
+  part_needs = (high_needs ++ lower_needs) ++ (interpolation_list d (lower_points d h Z O) (lower_points d h O Z) ++ g ∷ [])
 
 some_high : (f g : Family) → (f ≢ []) ⊎ (g ≢ []) → (is_empty f && is_empty g) ≡ false
 some_high f g (inl ne) = rw (not_empty f ne) refl
 some_high [] g (inr ne) = not_empty g ne
 some_high (x ∷ f) g (inr ne) = refl
 
-interpolate_step : (d : ℕ) (Z O : Family) → Z ≢ [] → O ≢ [] → interpolate (suc d) Z O ≡ join d (g d d Z O) (h d d Z O)
-unfolding interpolate upper_zeros upper_ones lower_points
+interpolate_step : (d : ℕ) (Z O : Family) → Z ≢ [] → O ≢ [] → interpolate (suc d) Z O ≡ join d (g d Z O) (h d Z O)
+unfolding interpolate
 interpolate_step d [] O nz nn = absurd (nz refl)
 interpolate_step d (z ∷ Z) [] nz nn = absurd (nn refl)
 interpolate_step d (z ∷ Z) (o ∷ O) nz nn = refl
 
 -- the working list of a step
 pub list_step : (d : ℕ) (Z O : Family) → Z ≢ [] → O ≢ [] → (high_cofactor d Z ≢ []) ⊎ (high_cofactor d O ≢ [])
-    → interpolation_list (suc d) Z O ≡ part_needs d d Z O ++ join d (g d d Z O) (h d d Z O) ∷ []
+    → interpolation_list (suc d) Z O ≡ part_needs d Z O ++ join d (g d Z O) (h d Z O) ∷ []
 unfolding interpolation_list upper_zeros upper_ones lower_points
 list_step d Z O some_zero some_one high = simp (not_empty, some_high, append_assoc)
 
-same_parts : {us us' hs hs' ls ls' gs gs' : List Family} {x x' y y' r r' : Family} → us ≡ us' → hs ≡ hs' → x ≡ x' → ls ≡ ls' → gs ≡ gs'
-    → y ≡ y' → r ≡ r' → (((us ++ (hs ++ x ∷ [])) ++ ls) ++ (gs ++ y ∷ [])) ++ r ∷ [] ≡
-    (((us' ++ (hs' ++ x' ∷ [])) ++ ls') ++ (gs' ++ y' ∷ [])) ++ r' ∷ []
-same_parts eu eh ex el eg ey er = rw (eu, eh, ex, el, eg, ey, er) refl
-
--- zeros and ones that have members with the variable and none with one before it, and that have no member in common
-pub record Split (n d : ℕ) (Z O : Family) : Type 0 where
-  pub zeros_after : IsFamily (suc d) Z
-  pub ones_after : IsFamily (suc d) O
-  pub less : d < n
+-- points over d variables that have no member in common
+pub record Points (d : ℕ) (Z O : Family) : Type 0 where
+  pub zeros_fit : IsFamily d Z
+  pub ones_fit : IsFamily d O
   pub apart : AreDisjoint Z O
+
+-- zeros and ones that have members with the variable and none with one before it
+pub record Split (n d : ℕ) (Z O : Family) : Type 0 where
+  pub points : Points (suc d) Z O
+  pub less : d < n
   pub some_zero : Z ≢ []
   pub some_one : O ≢ []
   pub high : (high_cofactor d Z ≢ []) ⊎ (high_cofactor d O ≢ [])
 
 module _ {n d : ℕ} {Z O : Family} (k : Split n d Z O) where
-  le : d ≤ n
-  le = omega (arith, k.less)
-
-  abbrev z0 : Family
-  z0 = low_cofactor d Z
-
-  abbrev z1 : Family
-  z1 = high_cofactor d Z
-
-  abbrev o0 : Family
-  o0 = low_cofactor d O
-
-  abbrev o1 : Family
-  o1 = high_cofactor d O
-
-  fz0 : IsFamily d z0
-  fz0 = IsFamily-low_cofactor d Z
-
-  fz1 : IsFamily d z1
-  fz1 = IsFamily-high_cofactor d Z
-
-  fo0 : IsFamily d o0
-  fo0 = IsFamily-low_cofactor d O
-
-  fo1 : IsFamily d o1
-  fo1 = IsFamily-high_cofactor d O
-
-  -- ---- over d variables
-
-  hz_fits : IsFamily d (hz d d Z O)
-  hz_fits = IsFamily-combine (λ a b. a || b) d (inter_of d z0 z1) (inter_of d o0 o1)
-
-  ho_fits : IsFamily d (ho d d Z O)
-  ho_fits = IsFamily-combine (λ a b. a || b) d (inter_of d z0 o1) (inter_of d o0 z1)
-
-  upper_is : IsUpperPart d Z O (hz d d Z O) (ho d d Z O)
+  pub points_above : Points d (upper_zeros d Z O) (upper_ones d Z O)
   unfolding upper_zeros upper_ones
-  upper_is = upper d Z O
+  points_above = record {
+    zeros_fit = IsFamily-combine _ d _ _;
+    ones_fit = IsFamily-combine _ d _ _;
+    apart = upper_disjoint d Z O _ _ k.points.apart (upper d Z O);
+  }
 
-  apart_above : AreDisjoint (hz d d Z O) (ho d d Z O)
-  apart_above = upper_disjoint d Z O (hz d d Z O) (ho d d Z O) k.apart upper_is
-
-  least_above : IsLeast d (hz d d Z O) (ho d d Z O) (h d d Z O)
-  least_above = IsLeast-interpolate d (hz d d Z O) (ho d d Z O) hz_fits.below ho_fits.below apart_above
-
-  gz_fits : IsFamily d (gz d d Z O)
-  gz_fits = IsFamily-combine (λ a b. a || b) d _ _
-
-  go_fits : IsFamily d (go d d Z O)
-  go_fits = IsFamily-combine (λ a b. a || b) d _ _
-
-  lower_is : IsLowerPart d Z O (h d d Z O) (gz d d Z O) (go d d Z O)
+  pub points_below : Points d (lower_points d (h d Z O) Z O) (lower_points d (h d Z O) O Z)
   unfolding lower_points
-  lower_is = lower d Z O (h d d Z O)
-
-  apart_below : AreDisjoint (gz d d Z O) (go d d Z O)
-  apart_below = lower_disjoint d Z O (h d d Z O) (hz d d Z O) (ho d d Z O) (gz d d Z O) (go d d Z O) k.apart upper_is least_above.fits
-      lower_is
-
-  -- ---- over n variables
-
-  hz_is : hz n d Z O ≡ hz d d Z O
-  hz_is = common-narrow d n le z0 z1 o0 o1 fz0 fz1 fo0 fo1
-
-  ho_is : ho n d Z O ≡ ho d d Z O
-  ho_is = common-narrow d n le z0 o1 o0 z1 fz0 fo1 fo0 fz1
-
-  pub upper_fits : IsFamily d (hz n d Z O) × IsFamily d (ho n d Z O)
-  upper_fits = (rw hz_is hz_fits, rw ho_is ho_fits)
-
-  pub upper_apart : AreDisjoint (hz n d Z O) (ho n d Z O)
-  upper_apart = rw (hz_is, ho_is) apart_above
-
-  h_is : h n d Z O ≡ h d d Z O
-  h_is = rw (hz_is, ho_is) (interpolate-narrow d n (hz d d Z O) (ho d d Z O) hz_fits ho_fits le apart_above)
-
-  pub h_fits : IsFamily d (h n d Z O)
-  h_fits = rw h_is least_above.family
-
-  gz_is : gz n d Z O ≡ gz d d Z O
-  gz_is = rw h_is (lower-narrow d n le (h d d Z O) z0 z1 o1 fz0 fz1 fo1)
-
-  go_is : go n d Z O ≡ go d d Z O
-  go_is = rw h_is (lower-narrow d n le (h d d Z O) o0 o1 z1 fo0 fo1 fz1)
-
-  pub lower_fits : IsFamily d (gz n d Z O) × IsFamily d (go n d Z O)
-  lower_fits = (rw gz_is gz_fits, rw go_is go_fits)
-
-  pub lower_apart : AreDisjoint (gz n d Z O) (go n d Z O)
-  lower_apart = rw (gz_is, go_is) apart_below
-
-  g_is : g n d Z O ≡ g d d Z O
-  g_is = rw (gz_is, go_is) (interpolate-narrow d n (gz d d Z O) (go d d Z O) gz_fits go_fits le apart_below)
-
-  pub g_fits : IsFamily d (g n d Z O)
-  g_fits = rw g_is (IsLeast-interpolate d (gz d d Z O) (go d d Z O) gz_fits.below go_fits.below apart_below).family
+  points_below = let up = points_above in record {
+    zeros_fit = IsFamily-combine _ d _ _;
+    ones_fit = IsFamily-combine _ d _ _;
+    apart = lower_disjoint d Z O (h d Z O) _ _ _ _ k.points.apart (upper d Z O)
+        (IsLeast-interpolate d _ _ up.zeros_fit.below up.ones_fit.below up.apart).fits (lower d Z O (h d Z O));
+  }
 
   -- the result
-  pub result_is : interpolate n Z O ≡ join d (g n d Z O) (h n d Z O)
-  result_is = interpolate-narrow (suc d) n Z O k.zeros_after k.ones_after k.less k.apart
-      ∙ (interpolate_step d Z O k.some_zero k.some_one ∙ sym (ap₂ (join d) g_is h_is))
-
-  high_list : interpolation_list n (hz n d Z O) (ho n d Z O) ≡ interpolation_list d (hz d d Z O) (ho d d Z O)
-  high_list = rw (hz_is, ho_is) (interpolation_list-narrow d n (hz d d Z O) (ho d d Z O) hz_fits ho_fits le)
-
-  low_list : interpolation_list n (gz n d Z O) (go n d Z O) ≡ interpolation_list d (gz d d Z O) (go d d Z O)
-  low_list = rw (gz_is, go_is) (interpolation_list-narrow d n (gz d d Z O) (go d d Z O) gz_fits go_fits le)
-
-  lower_list_is : lower_needs n d Z O ≡ lower_needs d d Z O
-  lower_list_is = rw h_is (lower_list-narrow d n le (h d d Z O) z0 z1 o0 o1 least_above.family fz0 fz1 fo0 fo1)
+  pub result_is : interpolate n Z O ≡ join d (g d Z O) (h d Z O)
+  result_is = interpolate-narrow (suc d) n Z O k.points.zeros_fit k.points.ones_fit k.less k.points.apart
+      ∙ interpolate_step d Z O k.some_zero k.some_one
 
   -- the working list
-  pub list_is : interpolation_list n Z O ≡ part_needs n d Z O ++ interpolate n Z O ∷ []
-  list_is = interpolation_list-narrow (suc d) n Z O k.zeros_after k.ones_after k.less
-      ∙ (list_step d Z O k.some_zero k.some_one k.high
-      ∙ sym (same_parts (upper_list-narrow d n le z0 z1 o0 o1 fz0 fz1 fo0 fo1) high_list h_is lower_list_is low_list g_is
-      (result_is ∙ ap₂ (join d) g_is h_is)))
+  pub list_is : interpolation_list n Z O ≡ part_needs d Z O ++ interpolate n Z O ∷ []
+  list_is = interpolation_list-narrow (suc d) n Z O k.points.zeros_fit k.points.ones_fit k.less
+      ∙ (list_step d Z O k.some_zero k.some_one k.high ∙ rw result_is refl)

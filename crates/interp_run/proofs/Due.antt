@@ -14,6 +14,7 @@ use Rattle.std.specs.Result.{IsErrAnd}
 use Rattle.std.proofs.lemmas.Bool.{cases_Bool, le-ltb, lt-ltb}
 use Rattle.std.proofs.lemmas.List.{same_lists}
 use Rattle.std.proofs.lemmas.Option.{slice_get-get_or}
+use Rattle.std.proofs.lemmas.Bool.Decides.{nat_tests}
 use Rattle.lattice.specs.Words.{IsConsistent, care_zeros, care_ones, care_set, is_basis}
 use Rattle.lattice.specs.declared.kind.Mode.{Mode}
 use Rattle.lattice.specs.declared.kind.Mode.TheVariants.{Anf, Basis, Check, Gen}
@@ -38,7 +39,6 @@ use Rattle.cert_check.specs.declared.refusal.AnswerRefusal.TheVariants.{Bad, Mem
 use Rattle.cert_check.specs.declared.refusal.Verdict.{Verdict}
 use Rattle.cert_check.specs.declared.refusal.Verdict.TheVariants.{Yes}
 use Rattle.cert_check.proofs.Verdicts.{answer_fits, yes_where_right}
-use Rattle.gen_pla.specs.Generated.{generated}
 use Rattle.cli_words.specs.CommandLine.{mode_name}
 use Rattle.cli_words.specs.declared.job.Job.{Job}
 use Rattle.watch.specs.Notes.{WatcherState, left_after_all}
@@ -49,8 +49,8 @@ use Rattle.interp_run.specs.Answers.{AreAnswers, IsAnswerOf, notes_from}
 use Rattle.interp_run.specs.Due.{Due, IsDue, IsDueChecking, IsDueSolving, IsSolving, checking, contradicted, contradiction}
 use Rattle.interp_run.specs.Due.{contradiction_behind, file_of, first_passed, given_of, has_answers, in_order, is_gen, judged, least_jobs}
 use Rattle.interp_run.specs.Due.{no_answer, no_file, silent, solving, verdict}
-use Rattle.interp_run.specs.Parts.{EndsUnsolved, EndsWithout, IsContradiction, due_unsolved, due_without, jobs_for, no_memory}
-use Rattle.interp_run.specs.Parts.{disordered_outcome, no_memory_to_solve, refused_outcome, undescribed_outcome}
+use Rattle.interp_run.specs.Parts.{EndsUnsolved, EndsWithout, IsContradiction, due_without, jobs_for, no_memory}
+use Rattle.interp_run.specs.Parts.{disordered_outcome, refused_outcome, undescribed_outcome}
 use Rattle.interp_run.specs.Run.{Ends, HasText, IsAsked, IsRefused, Ran, as_due, memory, read_fault, refused, status_of, write_fault}
 use Rattle.interp_run.specs.declared.outcome.Outcome.{Outcome}
 use Rattle.interp_run.specs.declared.outcome.Outcome.TheVariants as ends
@@ -110,25 +110,18 @@ judged_shape mode v = grind arith
 
 module _ (job : Job) (bytes : List ℕ) where
   solving_shape : (d : Description) → IsSolving job.mode → {due : Due} → IsDueSolving job d due → Shape job.mode due
-  solving_shape d mode (contradiction c least) = (refl, inr refl, inr refl, λ _. refl)
-  solving_shape d mode (has_answers answers are) = passed_shape job d answers mode
+  solving_shape d mode is = grind (arith, passed_shape)
 
   checking_shape : (d : Description) (text : List ℕ) {due : Due} → IsDueChecking d text due → Shape job.mode due
-  checking_shape d text (no_answer o e) = (given_owed d text o e, inr refl, inr refl, λ _. refl)
-  checking_shape d text (contradiction_behind answer c e least) = (refl, inr refl, inr refl, λ _. refl)
-  checking_shape d text (verdict answer e ok) = judged_shape job.mode (verdict_on d answer)
+  checking_shape d text is = grind (arith, given_owed, judged_shape)
 
   shape : {due : Due} → IsDue job bytes due → Shape job.mode due
-  shape (no_file o e) = (file_owed job bytes o e, inr refl, inr refl, λ _. refl)
-  shape (solving d due e mode is) = solving_shape d mode is
-  shape (checking d due e mode is) = checking_shape d _ is
+  shape is = grind (arith, file_owed, solving_shape, checking_shape)
 
 -- an end without an answer is no fault
 pub without_owed : {job : Job} {bytes : List ℕ} {o : Outcome} → EndsWithout job bytes o
     → (o ≢ ends.Usage) × (o ≢ ends.ReadFault) × (o ≢ ends.WriteFault)
-without_owed (due_without o is) =
-    let owed = (shape _ _ is).0 in (λ e. cc (ap is_owed e), λ e. cc (ap is_owed e), λ e. cc (ap is_owed e))
-without_owed no_memory = (λ e. cc, λ e. cc, λ e. cc)
+without_owed is = grind (arith, shape)
 
 pub checked_owed : (v : Verdict) → ((judged v).outcome ≢ ends.Usage) × ((judged v).outcome ≢ ends.ReadFault)
     × ((judged v).outcome ≢ ends.WriteFault)
@@ -229,14 +222,11 @@ module _ (job : Job) (reads : is_gen job.mode ≡ false) (bytes : List ℕ) wher
 
   -- ends of a run without a file
   pub undescribed_ends : (refusal : DescribeRefusal) → Undescribes bytes refusal → EndsWithout job bytes (undescribed_outcome refusal)
-  undescribed_ends undescribed.TooLong is = due_without _ (no_file _ (file_too_long is))
-  undescribed_ends (undescribed.Text line why) is = due_without _ (no_file _ (file_read (Err _) is.0 is.1 refl))
-  undescribed_ends undescribed.Memory is = no_memory
+  undescribed_ends refusal is = grind (arith, due_without, no_file, file_too_long, file_read, no_memory)
 
   pub disordered_ends : (d : Description) → Describes bytes d → {o : Outcome} → (in_order job.order (Ok d) ≡ Err o) ⊎ (o ≡ ends.Memory)
       → EndsWithout job bytes o
-  disordered_ends d is (inl bad) = due_without _ (no_file _ (file_read (Ok d) is.few is.reading bad))
-  disordered_ends d is (inr none) = rw none no_memory
+  disordered_ends d is bad = grind (arith, due_without, no_file, file_read, no_memory)
 
 -- the description by the order that a text asks for
 module _ (p : Pla) (text : List ℕ) (asked : Option (List ℕ)) (is : asked ≡ Some text) where
@@ -263,8 +253,7 @@ module _ {job : Job} (reads : is_gen job.mode ≡ false) {bytes read : List ℕ}
 
   -- and so is an end without an answer
   pub without_of_read : {o : Outcome} → EndsWithout job read o → EndsWithout job bytes o
-  without_of_read (due_without o due) = due_without o (due_of_read due)
-  without_of_read no_memory = no_memory
+  without_of_read is = grind (arith, due_without, due_of_read, no_memory)
 
 -- ==== ends without an answer, from what the steps of a run found
 
@@ -273,8 +262,7 @@ module _ {job : Job} {bytes : List ℕ} {d : Description} (file : file_of job by
   contradiction_ends mode h = rw h.outcome_is (due_without _ (solving d (contradicted h.clash) file mode (contradiction h.clash h.least)))
 
   pub unsolved_ends : IsSolving job.mode → {o : Outcome} → EndsUnsolved job d o → EndsWithout job bytes o
-  unsolved_ends mode (due_unsolved o due) = due_without o (solving d (silent o) file mode due)
-  unsolved_ends mode no_memory_to_solve = no_memory
+  unsolved_ends mode is = grind (arith, due_without, solving, no_memory)
 
   -- in mode check, with the text behind the description
   module _ (checks : job.mode ≡ Check) {text : List ℕ} (is : text ≡ drop (bytes_taken bytes) bytes) where
@@ -286,8 +274,7 @@ module _ {job : Job} {bytes : List ℕ} {d : Description} (file : file_of job by
 
     pub refused_ends : d.inputs ≤ MOST_INPUTS → (refusal : AnswerRefusal) → GivesAnswer (Err refusal) (answer_reading d text)
         → EndsWithout job bytes (refused_outcome refusal)
-    refused_ends few (Bad line why) e = due_without _ (behind (no_answer _ (rw (le-ltb MOST_INPUTS d.inputs few, e))))
-    refused_ends few Memory e = no_memory
+    refused_ends few refusal e = grind (arith, nat_tests, due_without, behind, no_answer, no_memory)
 
     module _ (few : d.inputs ≤ MOST_INPUTS) {answer : List GivenOutput} (read : answer_reading d text ≡ Ok answer) where
       pub clash_ends : {o : Outcome} → IsContradiction d o → EndsWithout job bytes o

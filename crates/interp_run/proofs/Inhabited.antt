@@ -17,7 +17,7 @@ use Rattle.pla_reader.specs.Lines.{content, words_of}
 use Rattle.pla_reader.specs.Grammar.{kind_named, command_fault, arguments_of, symbols, size_fault, kind_fault, names_fault, row_fault}
 use Rattle.pla_reader.specs.Grammar.{fault_of}
 use Rattle.pla_reader.specs.Orders.{arranged_mask, is_order, names_in_order, order_named, position_named}
-use Rattle.pla_reader.specs.Reading.{Description, input_mask, output_mask, row_of, rows_of, up_to_end, first_fault, description}
+use Rattle.pla_reader.specs.Reading.{Description, input_mask, output_mask, row_of, rows_of, up_to_end, first_fault}
 use Rattle.pla_reader.specs.Reading.{description_of, reading_of, bytes_taken}
 use Rattle.pla_reader.specs.PrintedNames.{numbered, printed_names}
 use Rattle.anf_printer.specs.Text.{variables_of, monomial_text, sum_text, line, output_text, texts_of}

@@ -161,12 +161,8 @@ module _ (d : Description) (mode : Mode) where
       both a b c forth back = grind arith
 
       forth : Has (flat_map elements numbers) f → (includes first f || includes (flat_map basis numbers) f) ≡ true
-      forth h = grind (
-        arith,
-        each_covers (λ o. leads o ++ basis o) elements (elements_within (is_basis mode)) numbers f h,
-        apart leads basis numbers f,
-        leads_within f,
-      )
+      forth h =
+          grind (arith, each_covers _ elements (elements_within (is_basis mode)) numbers f h, apart leads basis numbers f, leads_within f)
 
       back : Has (flat_map basis numbers) f → Has (flat_map elements numbers) f
       back = each_covers elements basis (λ o. each_covers (λ m. element_list d.inputs m (points_in d o)) (element o)

@@ -44,12 +44,8 @@ answers_are d mode ok = record {
   consistent = ok;
   count = length-map (output_numbers d.outputs) (answer_for d mode) ∙ length-output_numbers d.outputs;
   each = λ k a e.
-      let inside : k < d.outputs = omega (
-        arith,
-        slice_get_within (answers_for d mode) k a e,
-        length-map (output_numbers d.outputs) (answer_for d mode),
-        length-output_numbers d.outputs,
-      ) in
+      let mapped = length-map (output_numbers d.outputs) (answer_for d mode) in
+      let inside : k < d.outputs = omega (arith, slice_get_within (answers_for d mode) k a e, mapped, length-output_numbers d.outputs) in
       subst (IsAnswerOf d mode (k + 1)) (sym (output_at (answer_for d mode) d.outputs k a inside)
       ∙ get_or_from_slice_get (answers_for d mode) k a a e)
       (record {

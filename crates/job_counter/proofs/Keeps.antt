@@ -1,5 +1,5 @@
 -- The steps of the counter keep its rule: sums over what the seats know, and what a step makes of them.
-use Rattle.std.proofs.Common.{◌≡◌, ℕ, zero, suc, ◌+◌, ◌/◌, ◌%◌, ◌^◌, ◌<◌, ◌≤◌, List, [], ◌∷◌, ◌++◌, length, get_or, set, sym, refl, ap, ap₂}
+use Rattle.std.proofs.Common.{◌≡◌, ℕ, zero, suc, ◌+◌, ◌/◌, ◌%◌, ◌<◌, ◌≤◌, List, [], ◌∷◌, ◌++◌, length, get_or, set, sym, refl, ap, ap₂}
 use Rattle.std.proofs.Common.{◌∙◌, subst, arith, length-set, length-append, get_or-set_same}
 use Rattle.std.specs.List.{sum_by}
 use Rattle.std.proofs.Math.Nat.{mod-eq_of_lt}
@@ -10,6 +10,7 @@ use mathlib.Core.Option.{some, some-ne-none, some-injective}
 use lib.ListN.{get_elem?}
 use Rattle.atomic_table.specs.Table.{State, Me, keeps, stepped, Allows, Splits, Joins}
 use Rattle.atomic_table.proofs.Lists.{at_set, at_snoc, set_else, set_again}
+use Rattle.job_counter.specs.declared.counter.TheConstants.{ALL_PARTS}
 use Rattle.job_counter.specs.declared.view.Hand.{Hand}
 use Rattle.job_counter.specs.Rule.{Rule, hand, times, once_below, Drew, Counted, first_half, second_half, both_hands}
 
@@ -34,13 +35,9 @@ within_set l i w all new j v e = grind (arith, at_set l i j w v e)
 -- where each seat drew no more than its parts, so did all together
 total_within : (l : List Hand) → AllWithin l → sum_by (λ v. length v.drawn) l ≤ sum_by (λ v. v.parts) l
 total_within [] all = omega arith
-total_within (x ∷ xs) all = omega (
-  arith,
-  total_within xs (λ i v e. all (suc i) v e),
-  all zero x refl,
-  sum_by-cons (λ (v : Hand). length v.drawn) x xs,
-  sum_by-cons (λ (v : Hand). v.parts) x xs,
-)
+total_within (x ∷ xs) all =
+    let rest = total_within xs (λ i v e. all (suc i) v e) in let here = all zero x refl in
+    omega (arith, sum_by-cons (λ (v : Hand). length v.drawn) x xs, sum_by-cons (λ (v : Hand). v.parts) x xs)
 
 -- a number is drawn no more often than numbers are drawn
 total_times : (x : ℕ) (l : List Hand) → sum_by (λ v. times x v.drawn) l ≤ sum_by (λ v. length v.drawn) l
@@ -121,7 +118,7 @@ unites id v other w s given at apart at' =
       once = λ x. omega (arith, total (λ (h : Hand). times x h.drawn), given.once x, times-append x v.drawn w.drawn);
     }
 
-pub counts : (slots id : ℕ) (me : Me (Unit {0}) Hand) → me.0.parts ≡ 2 ^ 40 → Allows Rule slots id me 0 (λ n. n) (Counted me)
+pub counts : (slots id : ℕ) (me : Me (Unit {0}) Hand) → me.0.parts ≡ ALL_PARTS → Allows Rule slots id me 0 (λ n. n) (Counted me)
 counts slots id me all s given _ at small =
     let drew = alone s.views given.within id me.0 at (all ∙ sym given.parts) in
     let words = sym (set-get_or s.words 0 0) in

@@ -1,7 +1,8 @@
 -- What contracts see of a drawer, and what the calls of its counter make of it.
-use Rattle.std.specs.Prelude.{◌≡◌, ℕ, ◌+◌, ◌-◌, ◌/◌, ◌^◌, List, [], ◌∷◌, ◌++◌}
+use Rattle.std.specs.Prelude.{◌≡◌, ℕ, ◌+◌, ◌-◌, ◌/◌, List, [], ◌∷◌, ◌++◌}
 use Rattle.atomic_table.specs.Seated.{TableId}
 use Rattle.job_counter.specs.declared.counter.Counter.{Counter}
+use Rattle.job_counter.specs.declared.counter.TheConstants.{ALL_PARTS}
 use Rattle.job_counter.specs.declared.counter.Drawer.{Drawer}
 
 -- of which counter a drawer is, its parts, and the numbers that it drew, in order
@@ -23,7 +24,7 @@ IsOf d c = (drawing d).counter ≡ name c
 
 -- all parts, and no number
 abbrev pub first_drawing : TableId → Drawing
-first_drawing c = record { counter = c; parts = 2 ^ 40; drawn = [] }
+first_drawing c = record { counter = c; parts = ALL_PARTS; drawn = [] }
 
 -- one number more
 abbrev pub more_drawn : Drawing → ℕ → Drawing

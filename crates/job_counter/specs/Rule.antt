@@ -1,9 +1,10 @@
 -- The rule of the counter: the numbers that its seats drew are those below its word, each once.
-use Rattle.std.specs.Prelude.{◌≡◌, ℕ, ◌+◌, ◌-◌, ◌/◌, ◌^◌, ◌≤◌, ◌==◌, cond, ltb, List, [], ◌∷◌, ◌++◌, length, slice_index}
+use Rattle.std.specs.Prelude.{◌≡◌, ℕ, ◌+◌, ◌-◌, ◌/◌, ◌≤◌, ◌==◌, cond, ltb, List, [], ◌∷◌, ◌++◌, length, slice_index}
 use Rattle.std.specs.List.{sum_by, count_by}
 use mathlib.Core.Option.{some}
 use lib.ListN.{get_elem?}
 use Rattle.atomic_table.specs.Table.{State, Me}
+use Rattle.job_counter.specs.declared.counter.TheConstants.{ALL_PARTS}
 use Rattle.job_counter.specs.declared.view.Hand.{Hand}
 
 -- what a seat knows: so many parts, and the numbers drawn
@@ -18,11 +19,11 @@ times x numbers = count_by (λ y. y == x) numbers
 abbrev pub once_below : ℕ → ℕ → ℕ
 once_below x n = cond (ltb x n) 1 0
 
--- the seats have 2^40 parts in all, and each drew no more numbers than it has parts. As many numbers were drawn as the word
+-- the seats have all parts together, and each drew no more numbers than it has parts. As many numbers were drawn as the word
 -- says: each number below the word once, by one seat, and no other number
 pub record Rule (s : State (Unit {0}) Hand) : Type 0 where
   pub one_word : length s.words ≡ 1
-  pub parts : sum_by (λ v. v.parts) s.views ≡ 2 ^ 40
+  pub parts : sum_by (λ v. v.parts) s.views ≡ ALL_PARTS
   pub within : (id : ℕ) (v : Hand) → get_elem? s.views id ≡ some v → length v.drawn ≤ v.parts
   pub count : sum_by (λ v. length v.drawn) s.views ≡ slice_index s.words 0
   pub once : (x : ℕ) → sum_by (λ v. times x v.drawn) s.views ≡ once_below x (slice_index s.words 0)

@@ -1,12 +1,16 @@
 //! The counter, and those who draw its numbers.
-ghost use Rattle.std.specs.Prelude.{◌≡◌, ℕ, ◌^◌, ◌<◌, ◌≤◌, ◌/◌, [], length, IfOk};
+ghost use Rattle.std.specs.Prelude.{◌≡◌, ℕ, ◌<◌, ◌≤◌, ◌/◌, [], length, IfOk};
 ghost use Rattle.job_counter.specs.Rule.{times, once_below};
+ghost use Rattle.job_counter.specs.declared.counter.TheConstants.{ALL_PARTS};
 
 use crate::plays::{Count, Draw, Halves, Numbers, Union};
 use crate::view::Hand;
 use atomic_table::{Seat, Table};
 use lattice::Memory;
 use std::alloc::Global;
+
+/// The parts that the drawers of a counter have in all. Each bounds one draw.
+pub const ALL_PARTS: u64 = 1 << 40;
 
 /// A counter that threads share. It gives out the numbers from 0 on, each once, by one atomic addition a number.
 #[derive(Drop)]
@@ -15,7 +19,7 @@ pub struct Counter {
     ghost one_word: { table.shared.table_id.words ≡ 1 },
 }
 
-/// One who draws numbers of a counter. Clauses see its parts, of which there are 2^40 in all and which bound how many numbers
+/// One who draws numbers of a counter. Clauses see its parts, of which there are `ALL_PARTS` in all and which bound how many numbers
 /// it may draw, and the numbers that it drew: `drawing`. It has no lifetime, so that a thread can be handed one.
 #[derive(Drop)]
 pub struct Drawer {
@@ -72,7 +76,7 @@ impl Counter {
     #[tactic(auto, unfolding(crate::specs::Drawing::drawing, crate::specs::Drawing::name))]
     pub fn all_drawn(&self, drawer: &mut Drawer) -> u64
         requires of { IsOf drawer.old self.now }
-        requires all { (drawing drawer.old).parts ≡ 2 ^ 40 }
+        requires all { (drawing drawer.old).parts ≡ ALL_PARTS }
         ensures same { drawing drawer.new ≡ drawing drawer.old }
         ensures count { length (drawing drawer.old).drawn ≡ result }
         ensures once { (x : ℕ) → times x (drawing drawer.old).drawn ≡ once_below x result }

@@ -5,7 +5,7 @@ mod counter;
 mod plays;
 mod view;
 
-pub use crate::counter::{Counter, Drawer};
+pub use crate::counter::{ALL_PARTS, Counter, Drawer};
 
 #[cfg(test)]
 mod tests;

@@ -1,5 +1,6 @@
-ghost use Rattle.std.specs.Prelude.{◌≡◌, ℕ, ◌^◌, ◌<◌, ◌≤◌, [], length};
+ghost use Rattle.std.specs.Prelude.{◌≡◌, ℕ, ◌/◌, ◌<◌, ◌≤◌, [], length};
 ghost use Rattle.job_counter.specs.Drawing.{drawing, IsOf};
+ghost use Rattle.job_counter.specs.declared.counter.TheConstants.{ALL_PARTS};
 
 use crate::{Counter, Drawer};
 use std::alloc::Global;
@@ -40,19 +41,19 @@ fn work_twice<R: Threads + Sync>(
 ) -> (Drawer, [Option<Vec<u64>>; 2])
     requires of { IsOf drawer counter.now }
     requires fresh { (drawing drawer).drawn ≡ [] }
-    requires all { (drawing drawer).parts ≡ 2 ^ 40 }
+    requires all { (drawing drawer).parts ≡ ALL_PARTS }
     ensures of { IsOf result.0 counter.entry.now }
-    ensures all { (drawing result.0).parts ≡ 2 ^ 40 }
+    ensures all { (drawing result.0).parts ≡ ALL_PARTS }
 {
     let mut drawer = drawer;
     let other = counter.split(&mut drawer);
     let front = move || -> (Drawer, Option<Vec<u64>>)
-        requires { IsOf drawer counter.now × ((drawing drawer).drawn ≡ []) × ((drawing drawer).parts ≡ 2 ^ 39) }
-        ensures { IsOf result.0 counter.entry.now × ((drawing result.0).parts ≡ 2 ^ 39) }
+        requires { IsOf drawer counter.now × ((drawing drawer).drawn ≡ []) × ((drawing drawer).parts ≡ ALL_PARTS / 2) }
+        ensures { IsOf result.0 counter.entry.now × ((drawing result.0).parts ≡ ALL_PARTS / 2) }
     { work(counter, drawer, alloc) };
     let back = move || -> (Drawer, Option<Vec<u64>>)
-        requires { IsOf other counter.now × ((drawing other).drawn ≡ []) × ((drawing other).parts ≡ 2 ^ 39) }
-        ensures { IsOf result.0 counter.entry.now × ((drawing result.0).parts ≡ 2 ^ 39) }
+        requires { IsOf other counter.now × ((drawing other).drawn ≡ []) × ((drawing other).parts ≡ ALL_PARTS / 2) }
+        ensures { IsOf result.0 counter.entry.now × ((drawing result.0).parts ≡ ALL_PARTS / 2) }
     { work(counter, other, alloc) };
     let ((mut drawer, found), (other, more)) = join(rt, front, back);
     counter.join(&mut drawer, other);

@@ -2,8 +2,10 @@
 -- nodes. The comment above each lemma says what it gives.
 -- Lists of families.
 pub use Rattle.lattice.proofs.Families.{Has-nil, Has-cases, Has-head, Has-tail, Has-append_left, Has-append_right, Has-append_cases}
--- Distinct lists, lists behind a map, and the two constants.
-pub use Rattle.lattice.proofs.Families.{Has_at, index_of, distinct_from, none_of, covered_length, get_map, IsFamily-nil, IsFamily-unit}
+-- Distinct lists, and lists behind a map or with one element more.
+pub use Rattle.lattice.proofs.Families.{Has_at, index_of, distinct_from, none_of, covered_length, get_map, get_cases}
+-- The two constants.
+pub use Rattle.lattice.proofs.Families.{IsFamily-nil, IsFamily-unit}
 -- Empty families, and what is steady.
 pub use Rattle.lattice.proofs.Cofactors.{cases_empty, not_empty, steady}
 -- Cofactors and joins.

@@ -22,8 +22,8 @@ pub use Rattle.lattice.proofs.Families.{IsFamily-combine, has-combine}
 pub use Rattle.lattice.proofs.Cofactors.{IsFamily-low_cofactor, IsFamily-high_cofactor, has-low_cofactor, has-high_cofactor}
 -- Joins.
 pub use Rattle.lattice.proofs.Cofactors.{IsFamily-join, has-join_low, has-join_high, join_member}
--- Which monomials divide which points.
-pub use Rattle.lattice.proofs.Values.{divides_high_point, divides_high_monomial, divides_both_high, divides_by_bits}
+-- Which monomials divide which points, and each other.
+pub use Rattle.lattice.proofs.Values.{divides_high_point, divides_high_monomial, divides_both_high, divides_by_bits, divides_trans}
 -- How many monomials of a polynomial divide a point.
 unfoldable pub use Rattle.lattice.proofs.Values.{count}
 -- Laws of these counts.

@@ -10,11 +10,10 @@ use Rattle.std.specs.List.{list_any, Contains}
 use Rattle.std.specs.Map.{lookup}
 use Rattle.std.specs.Prelude.{IfSome, Err}
 use Rattle.lattice.specs.Words.{Family, Has, is_distinct, level, Rose}
-use Rattle.lattice.proofs.Diagrams.{covers_more, Has_at, index_of, none_of, covered_length, level-nil, level-unit, join_parts}
+use Rattle.lattice.proofs.Diagrams.{covers_more, Has_at, index_of, none_of, covered_length, get_cases, level-nil, level-unit, join_parts}
 use Rattle.node_store.specs.Stores.{State, Knows, family, node_family, IsNode, IsSound, Adds, Grows, Builds, IsResult}
 use Rattle.node_store.specs.Plain.{families, plain_state, IsTable, AreResults}
-use Rattle.node_store.specs.PlainLaws.{get_more, get_last, get_cases, grown-push, two_on, entry, length-families, length-held, held-known}
-use Rattle.node_store.specs.PlainLaws.{plain_sound}
+use Rattle.node_store.specs.PlainLaws.{get_more, get_last, grown-push, two_on, entry, length-families, length-held, held-known, plain_sound}
 use Rattle.node_store.specs.PlainOf.{state_of}
 use Rattle.node_store.specs.declared.store.Handle.{Handle}
 use Rattle.node_store.specs.declared.store.Node.{Node}

@@ -390,6 +390,10 @@ MayHoldAny-made s vars slots fs made plan = rw (made, plan) (record {
       working_set_members vars (every_family vars) g ∙ Has-all_of (sub vars) (every_family vars) f g (every_has vars f is) h;
 })
 
+-- such a plan has each family over the store's variables
+pub any_family : (vars : ℕ) (s : State) → MayHoldAny vars s → (f : Family) → IsFamily s.vars f → IsPlanned s f
+any_family vars s any f is = any.planned f (rw any.vars_are at is)
+
 -- such a plan has two families combined
 pub any_combined : (test : Bool → Bool → Bool) (vars : ℕ) (s : State) (f g : Family) → MayHoldAny vars s
     → IsPlanned s (combine test s.vars f g)

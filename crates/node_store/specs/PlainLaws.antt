@@ -2,6 +2,7 @@
 use Rattle.std.specs.Prelude.{◌≡◌, ◌≢◌, ℕ, zero, suc, ◌+◌, ◌-◌, ◌^◌, ◌<◌, ◌≤◌, ◌⊎◌, Option, Some, None, List, [], ◌∷◌, ◌++◌, slice_get}
 use Rattle.std.specs.Prelude.{drop, length, unwrap_or, refl, true, false, is_some}
 use Rattle.std.proofs.Common.{sym, ◌∙◌, ap, subst, inl, inr, arith, length-append, length-drop}
+use Rattle.std.proofs.lemmas.Option.{slice_get_within}
 use Rattle.lattice.specs.Family.{Family, IsFamily, Has, Covers, includes, is_node_list, is_distinct}
 use Rattle.lattice.specs.Cofactors.{join, low_cofactor, high_cofactor, sub}
 use Rattle.lattice.proofs.Diagrams.{Has-nil, Has-cases, Has-append_cases, Has_at, index_of, distinct_from, none_of, IsFamily-nil}
@@ -14,6 +15,7 @@ use Rattle.node_store.specs.declared.store.Node.{Node}
 use Rattle.node_store.specs.declared.store.Handle.{Handle}
 use Rattle.lattice.specs.declared.limits.TheConstants.{MAX_VARS}
 
+-- the family of a known handle
 pub some_is : (o : Option Family) → is_some o ≡ true → o ≡ Some (unwrap_or o [])
 some_is (Some f) h = refl
 some_is None h = cc
@@ -31,16 +33,6 @@ get_more (x ∷ xs) ys (suc k) f e = get_more xs ys k f e
 pub get_last : {X : Type 0} (xs : List X) (y : X) → slice_get (xs ++ y ∷ []) (length xs) ≡ Some y
 get_last [] y = refl
 get_last (x ∷ xs) y = get_last xs y
-
-pub get_cases : {X : Type 0} (xs : List X) (y : X) (k : ℕ) (f : X) → slice_get (xs ++ y ∷ []) k ≡ Some f
-    → (slice_get xs k ≡ Some f) ⊎ ((k ≡ length xs) × (y ≡ f))
-get_cases [] y zero f e = inr (refl, cc)
-get_cases [] y (suc k) f e = cc
-get_cases (x ∷ xs) y zero f e = inl e
-get_cases (x ∷ xs) y (suc k) f e = elim (get_cases xs y k f e) [
-  | inl h ↦ inl h
-  | inr h ↦ inr (ap suc h.0, h.1)
-]
 
 pub grown-push : (vars : ℕ) (fs : List Family) (ns : List Node) (n : Node)
     → grown vars fs (ns ++ n ∷ []) ≡ grown vars fs ns ++ at_node vars (grown vars fs ns) n ∷ []
@@ -61,11 +53,6 @@ pub some_at : (xs : List Node) (k : ℕ) → k < length xs → (n : Node) × (sl
 some_at [] k h = absurd (omega arith)
 some_at (x ∷ xs) zero h = (x, refl)
 some_at (x ∷ xs) (suc k) h = some_at xs k (omega arith)
-
-pub within : {X : Type 0} (xs : List X) (k : ℕ) (x : X) → slice_get xs k ≡ Some x → k < length xs
-within [] k x e = cc
-within (y ∷ ys) zero x e = omega arith
-within (y ∷ ys) (suc k) x e = let h : k < length ys = within ys k x e in omega arith
 
 pub two_on : (fs : List Family) (k : ℕ) → slice_get (drop 2 fs) k ≡ slice_get fs (k + 2)
 two_on [] k = refl
@@ -104,7 +91,7 @@ module _ (vars capacity : ℕ) (plan : List Family) (refusals : ℕ) (nodes : Li
     entry (suc zero) f e = inr (inl (sym (some_same (sym unit_known ∙ e))))
     entry (suc (suc k)) f e =
         let fits : suc (suc k) < 2 + length nodes = subst (λ i. suc (suc k) < i) length-families
-        (within (families vars nodes) (suc (suc k)) f (sym (known-is (suc (suc k))) ∙ e)) in
+        (slice_get_within (families vars nodes) (suc (suc k)) f (sym (known-is (suc (suc k))) ∙ e)) in
         let n = some_at nodes k (omega arith) in
         let at : k + 2 ≡ suc (suc k) = omega arith in
         inr (inr (k, n.0, sym at, n.1, some_same (sym e ∙ (ap s.known (sym at) ∙ is.here k n.0 n.1))))

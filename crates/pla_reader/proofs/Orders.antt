@@ -215,6 +215,7 @@ module _ (n : ℕ) where
   all_to : (xs : List ℕ) → list_all is_position xs ≡ true → All IsPosition xs
   all_to xs all k d less = grind (arith, cases_Bool, nat_tests, true≢false, list_all_at)
 
+-- the test answers yes exactly for the orders of so many inputs
 pub orders_by_test : (n : ℕ) (order : List ℕ) → (is_order n order ≡ true) ↔ IsOrder n order
 unfolding is_order
 orders_by_test n order = (λ test. grind (arith, all_to, pairs_from), λ is. grind (arith, all_from, once_from))
@@ -312,13 +313,9 @@ plain_from : (names : List (List ℕ)) → 0 < length names → EachIsPlain name
 unfolding are_plain
 plain_from names some each one =
     let all = list_all-from_AllPass is_plain names (All-from_get_or (λ n. is_plain n ≡ true) names [] each) in
-    let distinct = distinct_from names (λ i j name first second. grind (
-      arith,
-      one i j,
-      slice_get_cases,
-      get_or_from_slice_get names i name [] first,
-      get_or_from_slice_get names j name [] second,
-    )) in grind arith
+    let distinct = distinct_from names (λ i j name first second.
+    grind (arith, one i j, slice_get_cases, get_or_from_slice_get names i name [], get_or_from_slice_get names j name [])) in
+    grind arith
 
 each_plain : (names : List (List ℕ)) → are_plain names ≡ true → EachIsPlain names
 unfolding are_plain

@@ -8,7 +8,7 @@ use Rattle.std.proofs.lemmas.Bool.Decides.{nat_tests}
 use Rattle.lattice.specs.Words.{Family, IsFamily, divides, exactly_one, has, inter_of, sum_of, union_of, Vanishes, value, IsBasisElement}
 use Rattle.lattice.specs.Words.{IsStandard, IsLead, IsReducedBasis, has_divisors, leads_of, standard_of, polynomial_where}
 use Rattle.lattice.proofs.Polynomials.{All-from_has, All-has, IsBasisElement-basis_element_of, IsFamily-combine, below_bound}
-use Rattle.lattice.proofs.Polynomials.{divides_by_bits, divides_self, has-combine, has-family_where_below, has_divisor, has_head, has_tail}
+use Rattle.lattice.proofs.Polynomials.{divides_self, divides_trans, has-combine, has-family_where_below, has_divisor, has_head, has_tail}
 use Rattle.lattice.proofs.Polynomials.{leads_are_minimal, polynomial_by_values, same_below, standard_by_recursion, standard_divisor}
 use Rattle.lattice.proofs.Polynomials.{value-sum, value_cases}
 use Rattle.point_ideals.specs.Ideals.{Ideal, Intersection, IsElementOf, IsLeadOf, IsReducedBasisOf, Polynomials, Sum}
@@ -77,11 +77,9 @@ module _ (n : ℕ) (points others : Family) (fits : IsFamily n points) (others_f
     sum_from : Sum n (Ideal n points) (Ideal n others) p
     sum_from =
         let second_fits = IsFamily-combine exactly_one n first p in
-        let whole = same_below n p (sum_of n first second) pf (IsFamily-combine exactly_one n first second) (λ x less. grind (
-          arith,
-          has-combine exactly_one n first second x refl first_fits second_fits,
-          has-combine exactly_one n first p x refl first_fits pf,
-        )) in
+        let whole = same_below n p (sum_of n first second) pf (IsFamily-combine exactly_one n first second)
+        (λ x less. let here = has-combine exactly_one n first second x refl first_fits second_fits in
+        grind (arith, has-combine exactly_one n first p x refl first_fits pf)) in
         (first, second, (first_fits, first_vanishes), (second_fits, second_vanishes), whole)
 
   pub sum_law : (p : Family) → Sum n (Ideal n points) (Ideal n others) p ↔ Ideal n (inter_of n points others) p
@@ -95,9 +93,6 @@ module _ (n : ℕ) (points : Family) (fits : IsFamily n points) where
 
   pub leads_law : (m : ℕ) → IsLeadOf (Ideal n points) m ↔ ((m < 2 ^ n) × IsLead n points m)
   leads_law m = grind (arith, below_bound n, IsBasisElement-basis_element_of n m points fits)
-
-  divides_trans : (l d k : ℕ) → divides l d ≡ true → divides d k ≡ true → divides l k ≡ true
-  divides_trans l d k one two = grind (arith, divides_by_bits)
 
   failing : (test : ℕ → Bool) (xs : List ℕ) → list_all test xs ≡ false → (x : ℕ) × (has xs x ≡ true) × (test x ≡ false)
   failing test [] e = cc

@@ -5,7 +5,7 @@ use Rattle.lattice.specs.Words.{leads_of, standard_of, IsLead, basis_element_of,
 use Rattle.lattice.proofs.Diagrams.{covers_append, covers_head, covers_left, covers_one, covers_right, covers_nil}
 use Rattle.node_store.specs.Stores.{Builds, Gives, Grows, IsPlanned, State, family, Knows}
 use Rattle.node_store.specs.declared.store.Handle.{Handle}
-use Rattle.node_store.proofs.StoreLaws.{Denotes-family, Denotes-knows, Grows-family, Grows-refl, Grows-trans}
+use Rattle.node_store.proofs.StoreLaws.{Denotes-family, Denotes-knows, Grows-family, Grows-knows, Grows-refl, Grows-trans}
 use Rattle.pla_reader.specs.Reading.{Description}
 use Rattle.run_parts.specs.Found.{point_leads_list, terms_of}
 use Rattle.point_ideals.specs.Cares.{HoldsPoints, points_list}
@@ -28,7 +28,6 @@ use Rattle.std.proofs.lemmas.List.Folds.{fold-map}
 use Rattle.point_ideals.specs.declared.joined.BasisRefusal.{BasisRefusal}
 use Rattle.point_ideals.specs.declared.joined.BasisRefusal.TheVariants.{Exhausted, Memory, Terms}
 use Rattle.std.proofs.lemmas.Result.{err_from_is_err_and}
-use Rattle.node_store.specs.Plain.{plain_state}
 use Rattle.set_algebra.specs.declared.counted.WalkRefusal.{WalkRefusal}
 use Rattle.set_algebra.specs.declared.counted.WalkRefusal.TheVariants as unlisted
 
@@ -51,11 +50,9 @@ module _ (s : State) (d : Description) (joining : Joining)
     u_vars = two.vars ∙ (one.vars ∙ vars_are)
 
     joined_is : joined joining u.vars (family u first) (family u second) ≡ joint_points d joining
-    joined_is = rw (
-      u_vars,
-      Denotes-family u first _ (points_later t u d 1 first two first_is).denotes,
-      Denotes-family u second _ second_is.denotes,
-    ) refl
+    joined_is =
+        let later = points_later t u d 1 first two first_is in
+        rw (u_vars, Denotes-family u first _ later.denotes, Denotes-family u second _ second_is.denotes) refl
 
     pub joined_planned : IsPlanned u (joined joining u.vars (family u first) (family u second))
     joined_planned = rw (joined_is, u_vars, two.plan, one.plan)
@@ -267,20 +264,7 @@ module _ (bits limit : ℕ) (d : Description) (joining : Joining) where
     found_joint (Err e) h = tt
     found_joint (Ok lists) h = rw h.answer (joint_exists d joining)
 
--- ---- a store that was made for a phase: what it has, and what the phase gives
-
-module _ (s : State) (vars slots : ℕ) (plan : List Family) (is : s ≡ plain_state vars slots plan 0 []) where
-  pub made_vars : s.vars ≡ vars
-  unfolding plain_state
-  made_vars = ap (λ (s : State). s.vars) is
-
-  pub made_plan : s.plan ≡ plan
-  unfolding plain_state
-  made_plan = ap (λ (s : State). s.plan) is
-
-  pub made_slots : s.capacity ≡ slots
-  unfolding plain_state
-  made_slots = ap (λ (s : State). s.capacity) is
+-- ---- what a phase gives
 
 module _ {T : Type 0} (slots limit nodes count : ℕ) (IsAnswer : T → Type 0) (r : Result T BasisRefusal) where
   -- where all were listed
@@ -296,3 +280,7 @@ module _ {T : Type 0} (slots limit nodes count : ℕ) (IsAnswer : T → Type 0) 
   phase_unlisted unlisted.Memory named fits over =
       let p = err_from_is_err_and r named in
       rw (p.1, p.2) (record { answer = tt; fits = tt; few = tt; exhausted = λ e. cc; terms = λ e. cc })
+
+-- ---- what the elements use
+
+pub ruleset elements_rules = (no_elements, lead_below, one_element, all_elements, Grows-knows)

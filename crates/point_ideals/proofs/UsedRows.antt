@@ -15,13 +15,15 @@ use Rattle.lattice.specs.Words.{points_where, rows_with, care_list, care_set, wo
 use Rattle.lattice.specs.declared.kind.Kind.{Kind}
 use Rattle.lattice.specs.declared.kind.Kind.TheVariants.{F, Fd, Fr, Fdr}
 use Rattle.lattice.specs.declared.row.Row.{Row}
-use Rattle.lattice.proofs.Diagrams.{covers_append, covers_family, covers_head, covers_one, covers_right}
-use Rattle.node_store.specs.Stores.{Builds, Denotes, IsPlanned, State, family}
+use Rattle.lattice.proofs.Diagrams.{covers_append, covers_family, covers_head, covers_left, covers_one, covers_right}
+use Rattle.node_store.specs.Stores.{Builds, Denotes, Grows, IsPlanned, State, family}
 use Rattle.node_store.proofs.StoreLaws.{Denotes-family}
 use Rattle.node_store.specs.declared.store.Handle.{Handle}
 use Rattle.pla_reader.specs.Description.{FitsSizes, IsDescription}
 use Rattle.cube_build.specs.PointSets.{mask_of}
 use Rattle.cube_build.specs.UsedCubes.{AreCubes}
+use Rattle.cube_build.specs.GivenCareSets.{GivesCareSets, care_needs}
+use Rattle.set_algebra.specs.declared.points.ValuedPoints.{ValuedPoints}
 use Rattle.cube_build.specs.declared.covers.PointSet.{PointSet}
 use Rattle.cube_build.specs.declared.covers.PointSet.TheVariants.{On, Off, Dc}
 use Rattle.cube_build.proofs.CareNeeds.{in_care_list, names_where, used_cube-some}
@@ -149,29 +151,55 @@ row_cubes_more s t rows i cubes more h less are is items =
     later (r ∷ rs) [] are = are
     later (r ∷ rs) (k ∷ hs) are = (rw is.grows.vars (is.grows.known _ _ are.0), later rs hs are.1)
 
--- ---- all care points, from those of both values; u is the state after the care sets
+-- ---- all care points, from those of the rows alone; s is the state at the call, t the one after the cubes, u after the care sets
 
-module _ (s u : State) (d : Description) (output : ℕ) (zeros ones : Handle) (vars_are : u.vars ≡ d.inputs) (plan_is : u.plan ≡ s.plan)
+module _ (s : State) (d : Description) (output : ℕ) (vars_are : s.vars ≡ d.inputs)
     (planned : Covers s.plan (working_set d.inputs (points_list d output)))
-    (zeros_are : Denotes u zeros (care_zeros d.inputs d.kind d.rows output))
-    (ones_are : Denotes u ones (care_ones d.inputs d.kind d.rows output)) where
+    {rows : List Row} (rows_are : rows ≡ used_rows output d.rows) where
   abbrev points : Family
   points = care_set d.inputs d.kind d.rows output
 
   abbrev list : List Family
   list = care_list d.inputs d.kind d.rows output
 
-  united : union_of u.vars (family u zeros) (family u ones) ≡ points
-  united = rw (vars_are, Denotes-family u zeros _ zeros_are, Denotes-family u ones _ ones_are) refl
+  pub part_planned : (outputs : ℕ) → All (FitsSizes d.inputs outputs d.kind) d.rows
+      → All (λ r. Covers s.plan (sub s.vars (cube s.vars r))) rows
+  part_planned outputs fit = rw (rows_are, vars_are) (cubes_planned output d.rows d.inputs outputs d.kind s.plan fit
+      (covers_left d.inputs s.plan list _ planned))
 
-  pub union_planned : IsPlanned u (union_of u.vars (family u zeros) (family u ones))
-  union_planned = rw (united, vars_are, plan_is) (covers_head d.inputs s.plan [] points (covers_right d.inputs s.plan list
-      (points ∷ []) planned))
+  pub part_cubes : (t : State) (cubes : List Handle) → AreRowCubes t rows cubes → AreCubes t rows cubes
+  part_cubes t cubes are =
+      cubes_are t output rows cubes (rw rows_are (filter_passes (says_of output) d.rows)) are
 
-  pub points_held : {v : State} {h : Handle} → Covers u.held (working_set d.inputs list)
-      → Builds u v (Ok h) (union_of u.vars (family u zeros) (family u ones)) → HoldsPoints v d output h
-  points_held {v = v} {h = h} held is = record {
-    denotes = rw (← united) is.ok;
-    held = covers_append d.inputs v.held list (points ∷ []) (λ f i. is.grows.held f (held f i))
-        (covers_one d.inputs v.held points (rw (← united, ← vars_are) is.held));
-  }
+  module _ {inputs : ℕ} {kind : Kind} (inputs_are : inputs ≡ d.inputs) (kind_is : kind ≡ d.kind) {t : State} (one : Grows s t) where
+    pub sets_planned : Covers t.plan (care_needs inputs kind rows output)
+    sets_planned = rw (inputs_are, kind_is, rows_are, list_same output d.rows d.inputs d.kind, one.plan)
+        (covers_left d.inputs s.plan list _ planned)
+
+    module _ {u : State} {cares : ValuedPoints} (two : GivesCareSets t u (Ok cares) inputs kind rows output) where
+      united : union_of u.vars (family u cares.zeros) (family u cares.ones) ≡ points
+      united = rw (
+        two.grows.vars,
+        one.vars,
+        vars_are,
+        Denotes-family u cares.zeros _ two.zeros,
+        Denotes-family u cares.ones _ two.ones,
+        inputs_are,
+        kind_is,
+        rows_are,
+        zeros_same output d.rows d.inputs d.kind,
+        ones_same output d.rows d.inputs d.kind,
+      ) refl
+
+      pub union_planned : IsPlanned u (union_of u.vars (family u cares.zeros) (family u cares.ones))
+      union_planned = rw (united, two.grows.vars, one.vars, vars_are, two.grows.plan, one.plan)
+          (covers_head d.inputs s.plan [] points (covers_right d.inputs s.plan list (points ∷ []) planned))
+
+      pub points_held : {v : State} {h : Handle} → Builds u v (Ok h) (union_of u.vars (family u cares.zeros) (family u cares.ones))
+          → HoldsPoints v d output h
+      points_held {v = v} {h = h} is = record {
+        denotes = rw (← united) is.ok;
+        held = covers_append d.inputs v.held list (points ∷ [])
+            (λ f i. is.grows.held f (rw (inputs_are, kind_is, rows_are, list_same output d.rows d.inputs d.kind) at two.held f i))
+            (covers_one d.inputs v.held points (rw (← united, ← vars_are, ← one.vars, ← two.grows.vars) is.held));
+      }

@@ -144,6 +144,7 @@ fn basis_in<S: Store>(
 }
 
 /// Phase 1 on a store of its own, which is given up.
+#[tactic(auto, unfolding(node_store::specs::Plain::plain_state))]
 fn leads_found(
     alloc: Global,
     bits: u32,
@@ -160,6 +161,7 @@ fn leads_found(
 }
 
 /// Phase 2 on a store of its own.
+#[tactic(auto, unfolding(node_store::specs::Plain::plain_state))]
 fn basis_found(
     alloc: Global,
     bits: u32,

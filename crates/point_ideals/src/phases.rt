@@ -84,6 +84,7 @@ pub(crate) fn first_phase<S: Store>(
 }
 
 /// The elements of the reduced basis of the points with these leads, which go from the greatest to the least, by ascending lead.
+#[tactic(auto, using(crate::proofs::JointSteps::elements_rules))]
 fn elements<S: Store>(
     alloc: Global,
     store: &mut S,

@@ -63,14 +63,8 @@ module _ (ws : List ℕ) where
       let both = learned_fits (learned seat.known (lo_of w)) (hi_of w) low node.high in
       let mine = learned_fits seat.known (at + 2) fits.known own in record {
         met = fits_append size ws seat.met (Met (at + 2) w ∷ []) fits.met (slot_holds ws at w found some, tt);
-        known = grind (
-          arith,
-          both,
-          mine,
-          fits.known,
-          cases_Bool (knows seat.known (at + 2)),
-          cases_Bool (knows seat.known (lo_of w) && knows seat.known (hi_of w)),
-        );
+        known =
+            grind (arith, cases_Bool (knows seat.known (at + 2)), cases_Bool (knows seat.known (lo_of w) && knows seat.known (hi_of w)));
       }
 
 -- ---- sound machines are those that fit
@@ -204,12 +198,7 @@ module _ (s : Machine) (fits : Fits s) where
   -- a word that a seat may exchange is a node's, and may fill the place
   may_fill : (id at w : ℕ) → MayExchange s (seat_at s id) at w → MayFill s.bits s.vars s.words at w
   may_fill id at w may = let f = seat_fits id in let node = may.node in let known = (seat_at s id).known in record {
-    node = grind (
-      arith,
-      node,
-      knows-all (IsHandle s.words) known (lo_of w) node.low f.known,
-      knows-all (IsHandle s.words) known (hi_of w) node.high f.known,
-    );
+    node = grind (arith, knows-all (IsHandle s.words) known (lo_of w) node.low, knows-all (IsHandle s.words) known (hi_of w) node.high);
     steps = (may.probed).steps;
     within = (may.probed).within;
     there = (may.probed).there;

@@ -10,6 +10,7 @@ use Rattle.probe_core.specs.Seats.{handle}
 abbrev pub node_of : ℕ → Node
 node_of w = record { var = var_of w; lo = handle (lo_of w); hi = handle (hi_of w) }
 
+-- a word with a variable and a high child is that of its node
 pub packed : (w : ℕ) → 1 ≤ var_of w → var_of w ≤ MAX_VARS → hi_of w ≢ 0 → IsPacked w (node_of w)
 packed w first last full = record {
   packable = record { first = first; last = last; lo_small = omega arith; hi_small = omega arith };

@@ -1,6 +1,6 @@
 -- How a run ends, from what its steps found: words ask for one mode at most, and exactly one thing is due for a mode and bytes that have
 -- a description.
-use Rattle.std.proofs.Common.{◌≡◌, ◌≢◌, ◌⊎◌, ◌∙◌, ℕ, List, drop, map, ap, arith, inl, inr, refl, sym, length, ◌<◌, ◌+◌, ◌^◌, ◌≤◌, [], take}
+use Rattle.std.proofs.Common.{◌≡◌, ◌≢◌, ◌⊎◌, ◌∙◌, ℕ, List, drop, map, ap, arith, inl, inr, refl, length, ◌<◌, ◌+◌, ◌^◌, ◌≤◌, [], take}
 use Rattle.std.proofs.Common.{subst, Option, Some, None, Bool, true, false, ⊎_elim}
 use Rattle.std.specs.Prelude.{Ok, Err}
 use Rattle.std.proofs.lemmas.Bool.{cases_eq}
@@ -24,13 +24,14 @@ use Rattle.query_run.specs.Due.{Due, IsDue, IsDueJoining, IsDueReducing, answere
 use Rattle.query_run.specs.Due.{joined, joining, no_description, no_queries, other_outputs, reducing, silent, too_long, answers_text}
 use Rattle.query_run.specs.Due.{basis_text, done, stopped}
 use Rattle.query_run.specs.Queries.{Reading, query_reading, GivesQueries}
-use Rattle.query_run.specs.Run.{IsAsked, mode_name, Ends, IsRefused, as_due, memory, read_fault, refused, status_of, write_fault}
+use Rattle.query_run.specs.Run.{IsAsked, Ends, IsRefused, as_due, memory, read_fault, refused, status_of, write_fault}
 use Rattle.query_run.specs.declared.mode.QueryMode.{QueryMode}
 use Rattle.query_run.specs.declared.mode.QueryMode.TheVariants.{Join, Reduce}
 use Rattle.query_run.specs.declared.outcome.Outcome.TheVariants as ends
 use Rattle.query_run.specs.declared.queries.Query.{Query}
 use Rattle.query_run.specs.declared.queries.QueryWhy.{QueryWhy}
-use Rattle.query_run.proofs.QueryAnswers.{all_answered, answers_are, answers_count, zip_all}
+use Rattle.query_run.proofs.QueryAnswers.{all_answered, answers_are, answers_count, answers_over, zip_all}
+use Rattle.std.proofs.lemmas.Slice.Zip.{AllZip-long}
 use Rattle.std.specs.Option.{option_map_or}
 use Rattle.std.proofs.lemmas.Bool.Decides.{nat_tests}
 use Rattle.std.specs.Io.KnownBytes.{Appends, Keeps}
@@ -51,15 +52,10 @@ use Rattle.query_run.specs.declared.queries.QueryRefusal.TheVariants as unread
 use Rattle.query_run.specs.declared.solving.ReduceRefusal.{ReduceRefusal}
 use Rattle.query_run.specs.declared.solving.ReduceRefusal.TheVariants as unreduced
 
--- ---- one mode
-
-same_name : (m k : QueryMode) → mode_name m ≡ mode_name k → m ≡ k
-same_name m k e = grind arith
+-- ---- one mode, and one end of a description
 
 pub same_mode : (words : List (List ℕ)) (m k : QueryMode) → IsAsked words m → IsAsked words k → m ≡ k
-same_mode words m k x y = same_name m k (cc)
-
--- ---- one end of a description
+same_mode words m k x y = grind arith
 
 module _ (bits : ℕ) (d : Description) where
   no_clash : (c : Clash) → IsConsistent d.inputs d.outputs d.rows → IsLeastOf (IsClash d.inputs d.outputs d.rows d.rows) c → ⊥
@@ -80,10 +76,10 @@ module _ (bits : ℕ) (d : Description) where
     same_reducing : {a b : Due} → IsDueReducing bits d text a → IsDueReducing bits d text b → a ≡ b
     same_reducing (no_queries line why x) (no_queries line' why' y) =
         ap (λ (r : ℕ × QueryWhy). silent (ends.QueryText r.0 r.1)) (err_is (query_reading d text) x y)
-    same_reducing (no_queries line why x) (contradiction_in queries c y least) = let bad = sym x ∙ y in cc
-    same_reducing (no_queries line why x) (has_answers queries answers y ok are) = let bad = sym x ∙ y in cc
-    same_reducing (contradiction_in queries c x least) (no_queries line why y) = let bad = sym x ∙ y in cc
-    same_reducing (has_answers queries answers x ok are) (no_queries line why y) = let bad = sym x ∙ y in cc
+    same_reducing (no_queries line why x) (contradiction_in queries c y least) = cc
+    same_reducing (no_queries line why x) (has_answers queries answers y ok are) = cc
+    same_reducing (contradiction_in queries c x least) (no_queries line why y) = cc
+    same_reducing (has_answers queries answers x ok are) (no_queries line why y) = cc
     same_reducing (contradiction_in queries c x least) (contradiction_in queries' e y least') = same_clash c e least least'
     same_reducing (contradiction_in queries c x least) (has_answers queries' answers y ok are) = absurd (no_clash c ok least)
     same_reducing (has_answers queries answers x ok are) (contradiction_in queries' c y least) = absurd (no_clash c ok least)
@@ -153,12 +149,11 @@ module _ (bits : ℕ) (d : Description) where
 module _ {bits : ℕ} {d : Description} {text : List ℕ} where
   pub unread_ends : (refusal : QueryRefusal) → GivesQueries (Err refusal) (query_reading d text)
       → EndsWithout (IsDueReducing bits d text) (unread_outcome refusal)
-  unread_ends (unread.Bad line why) is = due_without _ (no_queries line why is)
-  unread_ends unread.Memory is = no_memory
+  unread_ends refusal is = grind (arith, due_without, no_queries, no_memory)
 
   module _ {queries : List Query} (read : query_reading d text ≡ Ok queries) where
     pub clash_ends : {o : Outcome} → IsContradiction d o → EndsWithout (IsDueReducing bits d text) o
-    clash_ends h = rw h.outcome_is (due_without _ (contradiction_in queries h.clash read h.least))
+    clash_ends h = grind (arith, due_without, contradiction_in)
 
     module _ (ok : IsConsistent d.inputs d.outputs d.rows) where
       all_due : {due : Due} → answered bits d queries (map (answer_to d) queries) ≡ due → IsDueReducing bits d text due
@@ -167,10 +162,7 @@ module _ {bits : ℕ} {d : Description} {text : List ℕ} where
       pub unreduced_ends : (refusal : ReduceRefusal) → (refusal ≡ unreduced.Exhausted → 2 ^ bits < query_nodes d queries)
           → (refusal ≡ unreduced.Terms → (query_nodes d queries ≤ 2 ^ bits) × (MOST_TERMS < answer_terms d queries))
           → EndsWithout (IsDueReducing bits d text) (unreduced_outcome bits refusal)
-      unreduced_ends unreduced.Exhausted exhausted terms = due_without _ (all_due (grind (arith, nat_tests, exhausted refl)))
-      unreduced_ends unreduced.Terms exhausted terms =
-          due_without _ (all_due (grind (arith, nat_tests, answers_count d queries, terms refl)))
-      unreduced_ends unreduced.Memory exhausted terms = no_memory
+      unreduced_ends refusal exhausted terms = grind (arith, nat_tests, answers_count d queries, all_due, due_without, no_memory)
 
       pub answers_due : query_nodes d queries ≤ 2 ^ bits → answer_terms d queries ≤ MOST_TERMS
           → IsDueReducing bits d text (done (answers_text d queries (map (answer_to d) queries)))
@@ -180,7 +172,7 @@ module _ {bits : ℕ} {d : Description} {text : List ℕ} where
 
 module _ {bits : ℕ} {d : Description} {how : Joining} (two : d.outputs ≡ 2) where
   pub clash_joined : {o : Outcome} → IsContradiction d o → EndsWithout (IsDueJoining bits d how) o
-  clash_joined h = rw h.outcome_is (due_without _ (contradiction h.clash two h.least))
+  clash_joined h = grind (arith, due_without, contradiction)
 
   module _ (ok : IsConsistent d.inputs d.outputs d.rows) where
     basis_gives : (basis : List Family) (first : Option BasisRefusal) → IsJointBasis d how basis
@@ -213,15 +205,12 @@ basis_over d how basis is =
 
 -- an end by what is due for a part of a run is one by what is due for the whole
 pub ends_as : {P Q : Due → Type 0} {o : Outcome} → ((due : Due) → P due → Q due) → EndsWithout P o → EndsWithout Q o
-ends_as f (due_without o is) = due_without o (f (silent o) is)
-ends_as f no_memory = no_memory
+ends_as f h = grind (arith, due_without, no_memory)
 
 module _ {mode : QueryMode} {bits : ℕ} where
   pub undescribed_ends : {bytes : List ℕ} (refusal : DescribeRefusal) → Undescribes bytes refusal
       → EndsWithout (IsDue mode bits bytes) (undescribed_outcome refusal)
-  undescribed_ends undescribed.TooLong long = due_without ends.TooLong (too_long long)
-  undescribed_ends (undescribed.Text line why) is = due_without (ends.Text line why) (no_description line why is)
-  undescribed_ends undescribed.Memory is = no_memory
+  undescribed_ends refusal is = grind (arith, due_without, too_long, no_description, no_memory)
 
   too_many : {bytes read : List ℕ} {due : Due} → MOST_BYTES < length read → MOST_BYTES < length bytes → IsDue mode bits read due
       → IsDue mode bits bytes due
@@ -269,8 +258,7 @@ module _ (words : List (List ℕ)) (bits : ℕ) (bytes : List ℕ) where
   pub ends_written : (mode : QueryMode) → IsAsked words mode → (old new : Option (List ℕ)) (text : List ℕ)
       → IsDue mode bits bytes (done text) → (o : Outcome) → (o ≡ ends.Done) ⊎ (o ≡ ends.WriteFault)
       → (o ≡ ends.Done → Appends old new text) → (o ≡ ends.WriteFault → GainsLess old new text) → Ends words bits bytes old new o
-  ends_written mode asked old new text due o ended whole less = ⊎_elim (λ is. rw is (as_due mode (done text) asked due (whole is)))
-      (λ is. rw is (write_fault mode (done text) asked due refl (less is))) ended
+  ends_written mode asked old new text due o ended whole less = grind (arith, as_due, write_fault)
 
   -- ---- what its status says then
 
@@ -304,3 +292,11 @@ module _ (words : List (List ℕ)) (bits : ℕ) (bytes : List ℕ) where
     written_or_memory mode due asked is text (write_fault other found again so t less) calm quiet = absurd (quiet refl)
     written_or_memory mode due asked is text (read_fault other again keeps) calm quiet = absurd (calm refl)
     written_or_memory mode due asked is text (memory other again keeps) calm quiet = inl refl
+
+-- ---- what the goals of the functions use
+
+pub ruleset reduced_rules = (unread_ends, clash_ends, unreduced_ends, answers_due, no_memory, AllZip-long, answers_are, answers_over)
+
+pub ruleset joined_rules = (other_outputs, due_without, clash_joined, stopped_ends, basis_due, basis_over, no_memory)
+
+pub ruleset answer_rules = (undescribed_ends, ends_as, reducing, joining)

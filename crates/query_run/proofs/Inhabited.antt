@@ -7,6 +7,7 @@ use Rattle.lattice.specs.Words.{leads_of, normal_form_of, reduced_basis_of, stan
 use Rattle.lattice.specs.Words.{on_set, points_where, rows_with, basis_element_list, care_list, cover_list, distinct, interpolation_list}
 use Rattle.lattice.specs.Words.{leads_list, normal_form_list, ones_list, standard_list, working_set}
 use Rattle.lattice.specs.declared.kind.Kind.TheVariants.{Fr}
+use Rattle.lattice.specs.declared.row.Row.{Row}
 use Rattle.lattice.proofs.Polynomials.{disjoint_from_test}
 use Rattle.pla_reader.specs.Grammar.{arguments_of, command_fault, fault_of, kind_fault, kind_named, names_fault, row_fault, size_fault}
 use Rattle.pla_reader.specs.Grammar.{symbols}
@@ -26,7 +27,7 @@ use Rattle.point_ideals.proofs.JointBases.{joint_exists}
 use Rattle.query_run.specs.Answers.{answer_terms, answer_to, query_nodes}
 use Rattle.query_run.specs.Due.{Due, IsDue, IsDueJoining, IsDueReducing, answers_text, basis_text, done, joining, no_queries, other_outputs}
 use Rattle.query_run.specs.Due.{reducing, silent}
-use Rattle.query_run.specs.Laws.{two_outputs, two_points}
+use Rattle.query_run.specs.Laws.{DueForExamples, two_outputs, two_points}
 use Rattle.query_run.specs.Queries.{queries_on, query_fault, query_of, query_reading}
 use Rattle.query_run.specs.Reduced.{reduced, terms_from}
 use Rattle.query_run.specs.declared.answer.TheConstants.{MOST_TERMS}
@@ -38,30 +39,24 @@ use Rattle.query_run.proofs.Endings.{answers_due, basis_due}
 
 -- ---- two points of one output, and three points, of which each of two outputs has two
 
-abbrev d : Description
-d = record {
+abbrev row : (line value on off : ℕ) → Row
+row line value on off = record { line = line; care = 3; value = value; on = on; off = off; dc = 0 }
+
+abbrev file : (outputs : ℕ) → List Row → List (List ℕ) → Description
+file outputs rows names = record {
   inputs = 2;
-  outputs = 1;
+  outputs = outputs;
   kind = Fr;
-  rows =
-      record { line = 6; care = 3; value = 3; on = 1; off = 0; dc = 0 }
-      ∷ record { line = 7; care = 3; value = 0; on = 0; off = 1; dc = 0 } ∷ [];
+  rows = rows;
   in_names = codes "a" ∷ codes "b" ∷ [];
-  out_names = codes "f" ∷ [];
+  out_names = names;
 }
 
+abbrev d : Description
+d = file 1 (row 6 3 1 0 ∷ row 7 0 0 1 ∷ []) (codes "f" ∷ [])
+
 abbrev e : Description
-e = record {
-  inputs = 2;
-  outputs = 2;
-  kind = Fr;
-  rows =
-      record { line = 6; care = 3; value = 3; on = 1; off = 0; dc = 0 }
-      ∷ record { line = 7; care = 3; value = 0; on = 0; off = 3; dc = 0 }
-      ∷ record { line = 8; care = 3; value = 2; on = 2; off = 0; dc = 0 } ∷ [];
-  in_names = codes "a" ∷ codes "b" ∷ [];
-  out_names = codes "f" ∷ codes "g" ∷ [];
-}
+e = file 2 (row 6 3 1 0 ∷ row 7 0 0 3 ∷ row 8 2 2 0 ∷ []) (codes "f" ∷ codes "g" ∷ [])
 
 -- whatever stands behind the description
 reads : (text : List ℕ) → (reading_of (two_points ++ text) ≡ Ok d) × (drop (bytes_taken (two_points ++ text)) (two_points ++ text) ≡ text)
@@ -79,10 +74,9 @@ consistent : IsConsistent d.inputs d.outputs d.rows
 consistent output first last = let one : output ≡ 1 = omega (arith, first, last) in rw one apart.0
 
 both_consistent : IsConsistent e.inputs e.outputs e.rows
-both_consistent output first last = ⊎_elim (λ one. rw one apart.1) (λ two. rw two apart.2) (one_or_two output first last)
-  where
-    one_or_two : (k : ℕ) → 1 ≤ k → k ≤ 2 → (k ≡ 1) ⊎ (k ≡ 2)
-    one_or_two k first last = grind arith
+both_consistent output first last =
+    let which : (output ≡ 1) ⊎ (output ≡ 2) = grind (arith, first, last) in
+    ⊎_elim (λ one. rw one apart.1) (λ two. rw two apart.2) which
 
 reducing_due : (text : List ℕ) {due : Due} → length (two_points ++ text) ≤ MOST_BYTES → IsDueReducing 19 d text due
     → IsDue Reduce 19 (two_points ++ text) due
@@ -123,21 +117,13 @@ unfolding reduced terms_from working_set distinct ones_list interpolation_list c
     leads_list normal_form_list basis_element_list basis_element_of has_divisors leads_of normal_form_of standard_of reduced_basis_of
 fit = ((lit≤ tt, lit≤ tt, refl), (refl, refl), refl, refl)
 
--- ---- what is due
-
-pub due_for_queries : IsDue Reduce 19 (two_points ++ asks) (done (codes "f = b\nf = b + 1\n"))
-due_for_queries = reducing_due asks (lit≤ tt) (subst (λ t. IsDueReducing 19 d asks (done t)) fit.0.2
-    (answers_due asked.0 consistent fit.0.0 fit.0.1))
-
-pub due_for_disorder : IsDue Reduce 19 (two_points ++ asks_badly) (silent (ends.QueryText 1 TermOrder))
-due_for_disorder = reducing_due asks_badly (lit≤ tt) (no_queries 1 TermOrder asked.1)
-
-pub due_for_one_output : IsDue (Join Meet) 19 two_points (silent ends.TwoOutputs)
-due_for_one_output = joining d Meet (silent ends.TwoOutputs) (record { few = lit≤ tt; reading = (reads []).0 }) refl
-    (other_outputs (λ e. omega (arith, e)))
-
-pub due_for_union : IsDue (Join Union) 19 two_outputs (done (codes "0 = a*b + b\n"))
-due_for_union = joining_due Union _ fit.1.0 fit.1.1
-
-pub due_for_meet : IsDue (Join Meet) 19 two_outputs (done (codes "0 = b\n0 = a\n"))
-due_for_meet = joining_due Meet _ fit.2 fit.3
+-- what is due for them
+pub due_for_examples : DueForExamples
+due_for_examples = (
+  reducing_due asks (lit≤ tt)
+      (subst (λ t. IsDueReducing 19 d asks (done t)) fit.0.2 (answers_due asked.0 consistent fit.0.0 fit.0.1)),
+  reducing_due asks_badly (lit≤ tt) (no_queries 1 TermOrder asked.1),
+  joining d Meet (silent ends.TwoOutputs) (record { few = lit≤ tt; reading = (reads []).0 }) refl (other_outputs (λ e. omega (arith, e))),
+  joining_due Union _ fit.1.0 fit.1.1,
+  joining_due Meet _ fit.2 fit.3,
+)

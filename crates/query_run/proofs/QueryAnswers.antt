@@ -7,7 +7,7 @@ use Rattle.std.proofs.lemmas.Bool.{eqb-true}
 use Rattle.std.proofs.lemmas.List.{flat_map_more, get_or_append_left, get_or_push, length_push, map-id, take_more}
 use Rattle.std.proofs.lemmas.List.Elements.{All-cons, All-map, All-nil}
 use Rattle.std.proofs.lemmas.List.Folds.{Any-from_list_any, fold-map}
-use Rattle.std.proofs.lemmas.Slice.Zip.{AllZip-map, all_zipped_more}
+use Rattle.std.proofs.lemmas.Slice.Zip.{all_zipped_more}
 use borrow.Author.Count.{below_more}
 use Rattle.lattice.specs.Words.{Covers, Family, IsFamily, working_set, care_ones, care_zeros}
 use Rattle.lattice.proofs.Diagrams.{Has-append_left, Has-append_right, covers_append, covers_left, covers_nil, covers_part, covers_right}
@@ -27,20 +27,22 @@ use Rattle.query_run.specs.Queries.{IsQueryOver}
 use Rattle.query_run.specs.Reduced.{reduced, reduced_list, sum_of_terms}
 use Rattle.query_run.specs.declared.queries.Query.{Query}
 
--- what stands side by side in two lists, from what does in others
-zip_weaker : {X Y Z : Type 0} (R : X → Y → Type 0) (S : X → Z → Type 0) (g : Y → Z) → ((x : X) (y : Y) → R x y → S x (g y))
-    → (xs : List X) (ys : List Y) → AllZip R xs ys → AllZip S xs (map g ys)
-zip_weaker R S g more [] [] z = tt
-zip_weaker R S g more [] (y ∷ ys) z = z
-zip_weaker R S g more (x ∷ xs) [] z = z
-zip_weaker R S g more (x ∷ xs) (y ∷ ys) z = (more x y z.0, zip_weaker R S g more xs ys z.1)
+-- what holds of two lists whose elements stand side by side in R, from what each pair adds
+zipped : {X Y : Type 0} {R : X → Y → Type 0} (P : List X → List Y → Type 0) → P [] []
+    → ((x : X) (y : Y) (xs : List X) (ys : List Y) → R x y → P xs ys → P (x ∷ xs) (y ∷ ys)) → (xs : List X) (ys : List Y)
+    → AllZip R xs ys → P xs ys
+zipped P none more [] [] z = none
+zipped P none more [] (y ∷ ys) z = absurd z
+zipped P none more (x ∷ xs) [] z = absurd z
+zipped P none more (x ∷ xs) (y ∷ ys) z = more x y xs ys z.0 (zipped P none more xs ys z.1)
 
 pub zip_all : {X Y : Type 0} (R : X → Y → Type 0) (P : Y → Type 0) → ((x : X) (y : Y) → R x y → P y) → (xs : List X) (ys : List Y)
     → AllZip R xs ys → All P ys
-zip_all R P each [] [] z = All-nil P
-zip_all R P each [] (y ∷ ys) z = absurd z
-zip_all R P each (x ∷ xs) [] z = absurd z
-zip_all R P each (x ∷ xs) (y ∷ ys) z = All-cons P y ys (each x y z.0) (zip_all R P each xs ys z.1)
+zip_all R P each = zipped (λ _. All P) (All-nil P) (λ x y xs ys r p. All-cons P y ys (each x y r) p)
+
+zip_map : {X Y Z : Type 0} {R : X → Y → Type 0} (f : X → Z) (g : Y → Z) → ((x : X) (y : Y) → R x y → g y ≡ f x)
+    → (xs : List X) (ys : List Y) → AllZip R xs ys → map g ys ≡ map f xs
+zip_map f g same = zipped (λ xs ys. map g ys ≡ map f xs) refl (λ x y xs ys r p. cc (same x y r))
 
 zip_from : {X Y Z : Type 0} (R : X → Y → Type 0) (f : X → Z) (g : Y → Z) → ((x : X) (y : Y) → g y ≡ f x → R x y)
     → (xs : List X) (ys : List Y) → map g ys ≡ map f xs → AllZip R xs ys
@@ -114,12 +116,8 @@ module _ (d : Description) (queries : List Query) where
   module _ (s : State) (vars_are : s.vars ≡ d.inputs) (planned : Planned s.plan) (points : List Handle)
       (holds : HoldsAll s d queries points) (i : ℕ) (less : i < length queries) (q : Query) (is : q ≡ get_or queries i q) (here : Handle)
       (here_is : here ≡ get_or points (q.output - 1) no_handle) {t : State} {answers : List Handle} (so_far : Answers s t i answers) where
-    at_points : HoldsPoints s d q.output here
-    at_points = subst (HoldsPoints s d q.output) (sym here_is)
-        (subst (λ r. HoldsPoints s d r.output (get_or points (r.output - 1) no_handle)) (sym is) (holds i q less))
-
     later_points : HoldsPoints t d q.output here
-    later_points = points_later s t d q.output here so_far.grows at_points
+    later_points = points_later s t d q.output here so_far.grows (rw (here_is, is) (holds i q less))
 
     points_are : family t here ≡ points_of d q
     points_are = Denotes-family t here (points_of d q) later_points.denotes
@@ -146,8 +144,8 @@ module _ (d : Description) (queries : List Query) where
           grows = Grows-trans s t u so_far.grows gives.grows;
           are = record {
             each = rw (next, items) (all_zipped_more (λ r k. Denotes u k (answer_to d r)) (take i queries) answers q h
-                (rw map-id at (zip_weaker (λ r k. Denotes t k (answer_to d r)) (λ r k. Denotes u k (answer_to d r)) (λ k. k)
-                (λ r k. gives.grows.known k.0 _) (take i queries) answers so_far.are.each)) (rw (t_vars, points_are) at gives.ok));
+                (zipped (AllZip (λ r k. Denotes u k (answer_to d r))) tt (λ r k rs ks h so. (gives.grows.known k.0 _ h, so))
+                (take i queries) answers so_far.are.each) (rw (t_vars, points_are) at gives.ok));
             held = rw (next, sym (flat_map_more (query_list d) [] (take i queries) q))
                 (covers_append d.inputs u.held (queries_list d (take i queries)) (query_list d q)
                 (λ f j. gives.grows.held f (so_far.are.held f j))
@@ -177,8 +175,7 @@ module _ (d : Description) where
   -- and one answer
   pub answers_are : {Y : Type 0} (g : Y → Family) (queries : List Query) (ys : List Y) → AllZip (λ q y. IsAnswerTo d q (g y)) queries ys
       → map g ys ≡ map (answer_to d) queries
-  answers_are g queries ys z = AllZip-map (answer_to d) queries _
-      (zip_weaker (λ q y. IsAnswerTo d q (g y)) (λ q p. p ≡ answer_to d q) g (λ q y. same_answer q (g y)) queries ys z)
+  answers_are g = zip_map (answer_to d) g (λ q y. same_answer q (g y))
 
   -- so answers have as many terms as those that are found by families
   pub answers_count : (queries : List Query) → sum_by length (map (answer_to d) queries) ≡ answer_terms d queries
@@ -195,8 +192,7 @@ module _ {t : State} {d : Description} {queries : List Query} {found : List Hand
   handles_known = zip_all (λ q h. Denotes t h (answer_to d q)) (Knows t) (λ q h. Denotes-knows t h (answer_to d q)) queries found are.each
 
   families_are : map (family t) found ≡ map (answer_to d) queries
-  families_are = AllZip-map (answer_to d) queries _ (zip_weaker (λ q h. Denotes t h (answer_to d q)) (λ q p. p ≡ answer_to d q)
-      (family t) (λ q h. Denotes-family t h (answer_to d q)) queries found are.each)
+  families_are = zip_map (answer_to d) (family t) (λ q h. Denotes-family t h (answer_to d q)) queries found are.each
 
   pub terms_are : terms_of t found ≡ answer_terms d queries
   terms_are = sym (fold-map _ (family t) 0 found) ∙ (ap (sum_by length) families_are ∙ answers_count d queries)
@@ -208,3 +204,7 @@ module _ {t : State} {d : Description} {queries : List Query} {found : List Hand
 
   pub nodes_fit : IsSound t → query_nodes d queries ≤ t.capacity
   nodes_fit sound = fits t d.inputs (queries_list d queries) sound are.held
+
+-- ---- what the care points use
+
+pub ruleset points_rules = (named_planned, none_held, Grows-refl, Grows-trans)

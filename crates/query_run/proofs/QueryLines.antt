@@ -1,76 +1,18 @@
 -- The lines of queries in turn, and that what they ask fits the description.
-use Rattle.std.proofs.Common.{◌≡◌, ℕ, ◌+◌, ◌<◌, ◌≤◌, ◌^◌, Bool, true, false, not, cond, List, [], ◌∷◌, ◌++◌, length, codes, Some, None, Ok}
-use Rattle.std.proofs.Common.{Err, refl, arith}
-use Rattle.std.specs.Prelude.{if◌then◌else◌}
+use Rattle.std.proofs.Common.{◌≡◌, ℕ, ◌+◌, ◌<◌, ◌≤◌, Bool, true, false, cond, List, [], ◌∷◌, ◌++◌, length, None, Ok, Err, refl, arith}
 use Rattle.std.specs.Option.{option_map_or}
 use Rattle.std.specs.List.{All}
 use Rattle.std.proofs.lemmas.List.Elements.{All-nil, All-push}
-use Rattle.lattice.specs.Words.{is_empty, includes}
-use Rattle.pla_reader.specs.Grammar.{first_failed}
+use Rattle.lattice.specs.Words.{is_empty}
 use Rattle.pla_reader.specs.Lines.{lines_of}
 use Rattle.pla_reader.specs.Parts.{Stops}
 use Rattle.pla_reader.specs.declared.refusal.LineRefusal.{LineRefusal}
 use Rattle.pla_reader.specs.declared.refusal.LineRefusal.TheVariants as line_refusals
-use Rattle.cert_check.specs.Reading.{are_known, are_ordered, bare, is_line, monomials_of, place_of, terms_in, words}
-use Rattle.cert_check.specs.declared.refusal.AnswerWhy.{AnswerWhy}
+use Rattle.cert_check.specs.Reading.{bare, words}
 use Rattle.cert_check.specs.declared.refusal.AnswerWhy.TheVariants as answers
-use Rattle.cert_check.proofs.Verdicts.{known_place, ordered_family}
-use Rattle.query_run.specs.Queries.{GivesQueries, IsQueryOver, order_refusal, queries_on, query_fault, query_of, query_refusal}
+use Rattle.query_run.specs.Queries.{GivesQueries, IsQueryOver, queries_on, query_fault, query_of, query_refusal}
 use Rattle.query_run.specs.declared.queries.Query.{Query}
 use Rattle.query_run.specs.declared.queries.QueryWhy.{QueryWhy}
-use Rattle.query_run.specs.declared.queries.QueryWhy.TheVariants.{BadLine, UnknownName, TermOrder}
-
--- ---- a line
-
-module _ (ins outs : List (List ℕ)) (line : List (List ℕ)) where
-  pub bad_form : is_line line ≡ false → query_fault ins outs line ≡ Some BadLine
-  unfolding query_fault
-  bad_form bad = rw bad refl
-
-  -- and one of the form, with its sides
-  module _ (left right : List ℕ) (good : is_line line ≡ true) (cut : line ≡ left ∷ codes "=" ∷ words right) where
-    fault_is : query_fault ins outs line ≡ first_failed (
-        (not (includes outs left), UnknownName)
-        ∷ (not (are_known ins (terms_in (words right))), UnknownName)
-        ∷ (not (are_ordered ins (2 ^ length ins) (terms_in (words right))), TermOrder) ∷ [])
-    unfolding query_fault
-    fault_is = rw good (rw cut refl)
-
-    pub unknown_output : includes outs left ≡ false → query_fault ins outs line ≡ Some UnknownName
-    unknown_output unknown = rw (fault_is, unknown) refl
-
-    module _ (named : includes outs left ≡ true) where
-      pub unknown_input : are_known ins (terms_in (words right)) ≡ false → query_fault ins outs line ≡ Some UnknownName
-      unknown_input unknown = rw (fault_is, named, unknown) refl
-
-      pub order_of : are_known ins (terms_in (words right)) ≡ true → query_fault ins outs line ≡
-          (if are_ordered ins (2 ^ length ins) (terms_in (words right)) then None else Some TermOrder)
-      order_of known = rw (fault_is, named, known) (by_order (are_ordered ins (2 ^ length ins) (terms_in (words right))))
-        where
-          by_order : (b : Bool) → first_failed ((not b, TermOrder) ∷ []) ≡ (if b then None else Some TermOrder)
-          by_order true = refl
-          by_order false = refl
-
-    pub asks : query_of ins outs line ≡ record { output = place_of outs left + 1; terms = monomials_of ins (words right) }
-    unfolding query_of
-    asks = rw cut refl
-
--- terms that were not read are out of order, unless memory ran out
-pub stops_order : (ordered : Bool) (e : LineRefusal AnswerWhy) → Stops e (if ordered then None else Some answers.TermOrder)
-    → Stops (order_refusal e) (if ordered then None else Some TermOrder)
-stops_order true (line_refusals.Bad why) stops = cc
-stops_order false (line_refusals.Bad why) stops = refl
-stops_order ordered line_refusals.Memory stops = tt
-
--- what a line asks is over the inputs, for one of the outputs
-pub asks_over : (ins outs : List (List ℕ)) (left right : List ℕ) → includes outs left ≡ true
-    → are_ordered ins (2 ^ length ins) (terms_in (words right)) ≡ true
-    → IsQueryOver (length ins) (length outs) (record { output = place_of outs left + 1; terms = monomials_of ins (words right) })
-asks_over ins outs left right named ordered = record {
-  first = omega arith;
-  last = let within = known_place outs left named in omega arith;
-  polynomial = ordered_family ins (length ins) (words right) ordered;
-}
 
 -- ---- the lines in turn
 

@@ -79,6 +79,7 @@ fn consistent(p: &Pla) -> Result<(), Outcome>
 }
 
 // The text that answers the queries behind the description, or how the run ends without it.
+#[tactic(auto, using(crate::proofs::Endings::reduced_rules))]
 fn reduced_text(alloc: Global, bits: u32, p: &Pla, text: &[u8]) -> Result<Text, Outcome>
     requires bits { (MIN_BITS ≤ bits) × (bits ≤ MAX_BITS) }
     requires short { length text.now < 2 ^ 32 }
@@ -108,6 +109,7 @@ fn has_two_outputs(p: &Pla) -> bool
 }
 
 // The text of the basis of the ideal that is made of those of both outputs, or how the run ends without it.
+#[tactic(auto, using(crate::proofs::Endings::joined_rules))]
 fn joined_text(alloc: Global, bits: u32, p: &Pla, joining: Joining) -> Result<Text, Outcome>
     requires bits { (MIN_BITS ≤ bits) × (bits ≤ MAX_BITS) }
     ensures ok { IfOk result (λ basis. IsDueJoining bits (description p.now) joining (done basis)) }
@@ -128,6 +130,7 @@ fn joined_text(alloc: Global, bits: u32, p: &Pla, joining: Joining) -> Result<Te
 }
 
 /// The text that is due for the mode on the bytes, or how the run ends without it.
+#[tactic(auto, using(crate::proofs::Endings::answer_rules))]
 pub(crate) fn answer_of(
     alloc: Global,
     mode: QueryMode,

@@ -25,6 +25,7 @@ fn is_named(queries: &[Query], output: u32) -> bool
 }
 
 /// The care points of the output where a query is on it, and else Handle(0).
+#[tactic(auto, using(crate::proofs::QueryAnswers::points_rules))]
 fn points_for<S: Store>(
     alloc: Global,
     store: &mut S,
@@ -47,6 +48,7 @@ fn points_for<S: Store>(
 }
 
 /// The care points of each output that a query is on, and Handle(0) for any other.
+#[tactic(auto, using(crate::proofs::QueryAnswers::points_rules))]
 fn all_points<S: Store>(
     alloc: Global,
     store: &mut S,

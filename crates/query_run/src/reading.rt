@@ -25,6 +25,7 @@ fn order_refusal(refusal: LineRefusal<AnswerWhy>) -> LineRefusal<QueryWhy>
 }
 
 /// What the line asks.
+#[tactic(auto, using(cert_check::proofs::Verdicts::known_place, cert_check::proofs::Verdicts::ordered_family), unfolding(crate::specs::Queries::query_fault, crate::specs::Queries::query_of))]
 fn read_query(
     alloc: Global,
     ins: &[Name],

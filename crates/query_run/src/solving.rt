@@ -108,6 +108,7 @@ fn reduce_in<S: Store>(
 /// Answers the queries on a store of 2^bits slots: for each the terms, from the greatest to the least, of the least polynomial
 /// that has the values of the query's at the care points of its output, where all have at most `limit` terms. The care points of
 /// an output are found once, however many queries are on it.
+#[tactic(auto, unfolding(node_store::specs::Plain::plain_state))]
 pub fn reduce(
     alloc: Global,
     bits: u32,

@@ -41,13 +41,10 @@ All_known-later s t hs grows known = All-weaker (Knows s) (Knows t) (λ h. Grows
 -- handles have as many terms later
 pub terms_of-later : (s t : State) (hs : List Handle) → Grows s t → All (Knows s) hs → terms_of t hs ≡ terms_of s hs
 terms_of-later s t [] grows known = refl
-terms_of-later s t (h ∷ hs) grows known = omega (
-  arith,
-  sum_by-cons (handle_terms s) h hs,
-  sum_by-cons (handle_terms t) h hs,
-  length-later s t h grows (All-head (Knows s) h hs known),
-  terms_of-later s t hs grows (All-tail (Knows s) h hs known),
-)
+terms_of-later s t (h ∷ hs) grows known =
+    let rest = terms_of-later s t hs grows (All-tail (Knows s) h hs known) in
+    let one = length-later s t h grows (All-head (Knows s) h hs known) in
+    omega (arith, sum_by-cons (handle_terms s) h hs, sum_by-cons (handle_terms t) h hs)
 
 -- the terms of one more polynomial that is known
 pub terms_more : (s t : State) (hs : List Handle) (i : ℕ) → Grows s t → All (Knows s) hs → i < length hs

@@ -1,5 +1,3 @@
-mod StandardFamilies
-mod StandardLemmas
-mod LeadFamilies
-mod LeadLemmas
+mod Families
+mod Steps
 pub mod MonomialNeeds

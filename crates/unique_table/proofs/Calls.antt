@@ -85,12 +85,8 @@ module _ (p : Pass) (w d : ℕ) (q : Pass) (walked : Walked p w d q) (less : d <
         goes = λ less'. let e : (d + 1 == 2 ^ q.bits) ≡ false = grind (arith, walked.same, eqb-true) in
             goes_on _ _ _ walked.before here g (grind (arith, m.goes, e, walked.same));
         full = λ end. let e : (d + 1 == 2 ^ q.bits) ≡ true = grind (arith, walked.same, eq-eqb) in
-            let more = goes_on p.seat.me.0 q.seat.me.0 q'.seat.me.0 walked.before (here ++ Full w ∷ []) g (grind (
-              arith,
-              m.goes,
-              e,
-              walked.same,
-            )) in
+            let more = goes_on p.seat.me.0 q.seat.me.0 q'.seat.me.0 walked.before (here ++ Full w ∷ []) g
+            (grind (arith, m.goes, e, walked.same)) in
             (grind (arith, more, append_assoc), λ low high known. grind (arith, t.1.over e low high, g));
       }
 

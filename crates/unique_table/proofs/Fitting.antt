@@ -83,12 +83,8 @@ module _ (bits vars : ℕ) (ws : List ℕ) (can : IsCanonical bits vars ws) wher
       → var < var_at vars ws h
   later_variable var first last nothing after = omega arith
   later_variable var first last unit after = omega arith
-  later_variable var first last (slot s low high f filled l h is) after = grind (
-    arith,
-    slot_level bits vars ws can s low high filled l h,
-    level-below (vars - var) vars f after,
-    can.nodes s filled,
-  )
+  later_variable var first last (slot s low high f filled l h is) after =
+      grind (arith, slot_level bits vars ws can s low high filled l h, level-below (vars - var) vars f after, can.nodes s filled)
 
 -- ---- histories
 
@@ -265,15 +261,8 @@ module _ (v : View) (ws : List ℕ) (table : IsTable v.terms ws) (fits : LiveFit
       empty = first_stays v.known add.extra 0 [] fits.empty;
       unit = first_stays v.known add.extra 1 (0 ∷ []) fits.unit;
       known = All-append (IsPair vars ws) v.known add.extra fits.known add.pairs;
-      subs = λ h f is g i. grind (
-        arith,
-        append_cases v.known add.extra h f is,
-        fits.subs h f,
-        covers_subs vars add.extra h f,
-        merged_keeps v.held added g,
-        merged_has v.held added g,
-        Has-append_right add.more (subs_of vars add.extra) g,
-      );
+      subs = λ h f is g i.
+          grind (arith, append_cases, fits.subs h f, covers_subs vars add.extra h f, merged_keeps, merged_has, Has-append_right);
       held = merged_all (IsStored vars ws) v.held added fits.held
           (All-append (IsStored vars ws) add.more (subs_of vars add.extra) add.stored
           (all_subs (IsStored vars ws) vars add.extra (λ k d less. subs_stored bits vars ws table.canonical (add.pairs k d less))));
@@ -341,14 +330,9 @@ module _ (v : View) (ws : List ℕ) (table : IsTable v.terms ws) (fits : LiveFit
 
     node : IsNodeWord vars ws w
     node = let can = table.canonical in
-        grind (
-          arith,
-          denotes_handle,
-          low_denotes,
-          high_denotes,
-          later_variable bits vars ws can (var_of w) asked.first asked.last low_denotes asked.low_after,
-          later_variable bits vars ws can (var_of w) asked.first asked.last high_denotes asked.high_after,
-        )
+        let low_later = later_variable bits vars ws can (var_of w) asked.first asked.last low_denotes asked.low_after in
+        let high_later = later_variable bits vars ws can (var_of w) asked.first asked.last high_denotes asked.high_after in
+        grind (arith, denotes_handle, low_denotes, high_denotes)
 
     -- a vacant slot on the word's path is filled with it
     module _ (d i : ℕ) (next : IsNext v w d i) (inside : i < 2 ^ bits) (vacant : slice_index ws i ≡ 0) where

@@ -32,13 +32,8 @@ merged_keeps held (f ∷ fs) g h = merged_keeps (with_family held f) fs g (with_
 
 pub merged_has : (held fs : List Family) → Covers (merged held fs) fs
 merged_has held [] g h = absurd (Has-nil g h)
-merged_has held (f ∷ fs) g h = grind (
-  arith,
-  Has-cases f fs g h,
-  with_has held f,
-  merged_keeps (with_family held f) fs g,
-  merged_has (with_family held f) fs g,
-)
+merged_has held (f ∷ fs) g h =
+    grind (arith, Has-cases f fs g h, with_has held f, merged_keeps (with_family held f) fs g, merged_has (with_family held f) fs g)
 
 -- nothing else is in the merged list
 pub merged_only : (held fs : List Family) (g : Family) → Has (merged held fs) g → Has held g ⊎ Has fs g
@@ -118,13 +113,8 @@ subs_of vars (p ∷ ps) = sub vars p.1 ++ subs_of vars ps
 pub covers_subs : (vars : ℕ) (ps : List (ℕ × Family)) (h : ℕ) (f : Family) → known_by ps h ≡ Some f → Covers (subs_of vars ps) (sub vars f)
 unfolding subs_of
 covers_subs vars [] h f is g i = cc
-covers_subs vars (p ∷ ps) h f is g i = grind (
-  arith,
-  pair_cases p.0 p.1 ps h f is,
-  Has-append_left,
-  Has-append_right,
-  covers_subs vars ps h f,
-)
+covers_subs vars (p ∷ ps) h f is g i =
+    grind (arith, pair_cases p.0 p.1 ps h f is, Has-append_left, Has-append_right, covers_subs vars ps h f)
 
 pub all_subs : (P : Family → Type 0) (vars : ℕ) (ps : List (ℕ × Family))
     → All (λ (p : ℕ × Family). (g : Family) → Has (sub vars p.1) g → P g) ps → All P (subs_of vars ps)

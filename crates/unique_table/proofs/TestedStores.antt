@@ -14,6 +14,7 @@ use Rattle.node_store.proofs.StoreLaws.{MayHoldAny-made, grown_planned, Denotes-
 use Rattle.unique_table.specs.Passes.{first_state}
 use Rattle.unique_table.specs.Tested.{IsOver}
 
+-- the first state of a table with the plan of every family may be asked for any
 pub any_first : (s : State) (name : List ℕ) (bits vars : ℕ) (fs : List Family) → s ≡ first_state name bits vars fs
     → fs ≡ working_set vars (every_family vars) → MayHoldAny vars s
 unfolding plain_state

@@ -4,6 +4,7 @@ ghost use Rattle.std.specs.List.{All};
 ghost use Rattle.lattice.specs.Family.{AreDisjoint};
 ghost use Rattle.lattice.specs.Interpolation.{IsLeast};
 ghost use Rattle.lattice.specs.WorkingLists.{working_set};
+ghost use Rattle.lattice.specs.declared.limits.TheConstants.{MAX_VARS};
 ghost use Rattle.node_store.specs.AnyFamily.{every_family};
 ghost use Rattle.uses_library.specs.declared.listed.Refusal.TheVariants as variants;
 
@@ -54,7 +55,7 @@ pub fn least_terms(
     ones: &[u64],
     limit: u64,
 ) -> Result<Monos, Refusal>
-    requires inputs { (1 ≤ inputs) × (inputs ≤ 62) }
+    requires inputs { (1 ≤ inputs) × (inputs ≤ MAX_VARS) }
     requires zeros { All (λ a. a < 2 ^ inputs) zeros.now }
     requires ones { All (λ a. a < 2 ^ inputs) ones.now }
     requires apart { AreDisjoint zeros.now ones.now }

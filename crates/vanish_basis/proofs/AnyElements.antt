@@ -1,11 +1,12 @@
 -- Plans that have every family have what normal forms and elements need.
-use Rattle.std.proofs.Common.{ℕ, ◌<◌, ◌^◌, List, subst, arith}
+use Rattle.std.proofs.Common.{ℕ, ◌<◌, ◌^◌, List, arith}
 use Rattle.lattice.specs.Words.{Family, IsFamily, Covers, first_only, exactly_one, sub, normal_form_of, basis_element_of, working_set}
 use Rattle.lattice.specs.Words.{normal_form_list, basis_element_list}
 use Rattle.lattice.proofs.Diagrams.{IsFamily-single, covers_append, covers_cons, covers_one}
 use Rattle.lattice.proofs.Polynomials.{IsFamily-family_where, IsFamily-combine, IsFamily-interpolate}
 use Rattle.node_store.specs.Stores.{State}
 use Rattle.node_store.specs.AnyFamily.{MayHoldAny}
+use Rattle.node_store.proofs.StoreLaws.{any_family}
 use Rattle.interp_lex.proofs.InterpolationNeeds.{any_interpolation}
 
 module _ (plan : List Family) (n : ℕ) (any : (f : Family) → IsFamily n f → Covers plan (sub n f)) where
@@ -24,11 +25,8 @@ module _ (plan : List Family) (n : ℕ) (any : (f : Family) → IsFamily n f →
       (covers_cons n plan _ _ (any _ (IsFamily-single n m below)) (covers_one n plan _ (any _ (IsFamily-combine exactly_one n _ _))))
 
 module _ (vars : ℕ) (s : State) (any : MayHoldAny vars s) where
-  each_family : (f : Family) → IsFamily s.vars f → Covers s.plan (sub s.vars f)
-  each_family f is = any.planned f (subst (λ v. IsFamily v f) any.vars_are is)
-
   pub any_normal_form : (m : ℕ) (points : Family) → Covers s.plan (working_set s.vars (normal_form_list s.vars m points))
-  any_normal_form m points = any_normal s.plan s.vars each_family m points
+  any_normal_form m points = any_normal s.plan s.vars (any_family vars s any) m points
 
   pub any_element : (m : ℕ) (points : Family) → m < 2 ^ vars → Covers s.plan (working_set s.vars (basis_element_list s.vars m points))
-  any_element m points below = any_element_list s.plan s.vars each_family m points (rw any.vars_are below)
+  any_element m points below = any_element_list s.plan s.vars (any_family vars s any) m points (rw any.vars_are below)

@@ -1,12 +1,12 @@
 -- Telling watchers one after another, and keeping those with patience in front.
 use Rattle.std.proofs.Common.{Bool, ◌≡◌, ◌∙◌, ◌≤◌, ◌<◌, ◌+◌, ◌-◌, ◌++◌, ◌∷◌, [], List, ℕ, ap, append-nil, arith, false, length, refl, sym}
 use Rattle.std.proofs.Common.{take}
-use Rattle.std.specs.Prelude.{IsTrue, filter, nat_lt, swap}
+use Rattle.std.specs.Prelude.{IsTrue, swap}
 use Rattle.std.specs.List.{All, slice_index_or, slice_set}
 use Rattle.std.proofs.lemmas.Bool.{lt-ltb}
 use Rattle.std.proofs.lemmas.Grind.{common_steps}
-use Rattle.std.proofs.lemmas.List.{get_or-map, get_or-set_other, get_or-set_same, length-map, length-set, map-append, take-set, take-set-le}
-use Rattle.std.proofs.lemmas.List.{take_more, take_more_set}
+use Rattle.std.proofs.lemmas.List.{get_or-map, get_or-set_other, get_or-set_same, length-map, length-set, map-append, take-set-le}
+use Rattle.std.proofs.lemmas.List.{take_more}
 use Rattle.std.proofs.lemmas.List.Edits.{length-swap, swap_is}
 use Rattle.std.proofs.lemmas.List.Elements.{filter-append}
 use Rattle.watch.specs.Notes.{WatcherState, after_note, left_after, states_by}

@@ -1,4 +1,4 @@
-use Rattle.std.proofs.Common.{ℕ, refl, arith}
+use Rattle.std.proofs.Common.{ℕ, arith}
 use Rattle.lattice.specs.Words.{ones_at}
 use Rattle.node_store.proofs.StoreLaws.{Grows-refl, failed, node_builds, node_parts, node_planned, then_call}
 use Rattle.bool_poly.proofs.NodeLemmas.{ActsOnParts, at_node, low_call, high_call, lows_planned, highs_planned, one_grown, both_grown}
@@ -18,15 +18,10 @@ pub returns-then-m-eq0 : goal.returns-then-m-eq0
 returns-then-m-eq0 g t c = above_one _ _ (g.met.S.Store.sound c.args.store.now) c.requires.known c.if-m-eq0.true
 
 pub returns-in-None : goal.returns-in-None
-returns-in-None g t c =
-    above_constant c.args.set (g.met.S.Store.sound c.args.store.now) (g.met.S.Store.sound c.node.new.self) c.node.ensures.reads
-    (c.in-None.ensures.constant.0 refl) c.if-m-eq0.false
+returns-in-None g t c = grind (arith, above_constant, g.met.S.Store.sound c.args.store.now, g.met.S.Store.sound c.node.new.self)
 
 pub returns-then-weight-m-2 : goal.returns-then-weight-m-2
-returns-then-weight-m-2 g t c =
-    let ok = g.met.S.Store.sound c.node.new.self in
-    above_before (at_node ok c.node.ensures.reads c.in-Some.ensures.node c.in-Some.ensures.family) c.vars.ensures c.args.m ok
-    c.if-weight-m.true c.if-weight-m-2.true
+returns-then-weight-m-2 g t c = grind (arith, above_before, at_node, g.met.S.Store.sound c.node.new.self)
 
 pub above_rest-requires : goal.above_rest-requires
 above_rest-requires g t c κs within =

@@ -1,6 +1,6 @@
 use Rattle.std.proofs.Common.{ℕ, arith}
-use Rattle.node_store.proofs.StoreLaws.{failed, reads_one, then_call}
-use Rattle.bool_poly.proofs.OnesSteps.{IsStarted, OnesFinish, high_falls, low_falls, ones_in_row, started, sum_asks, with_later}
+use Rattle.node_store.proofs.StoreLaws.{failed, then_call}
+use Rattle.bool_poly.proofs.Steps.{IsStarted, OnesFinish, high_falls, low_falls, ones_in_row, started, started_later, sum_asks, with_later}
 use Rattle.bool_poly.proofs.points.+ones_of.Goals as goal
 use Rattle.bool_poly.proofs.points.+ones_of.Goals.{In-Halves, In_ok-hi-in-Halves}
 use Rattle.bool_poly.proofs.points.+ones_of.Given.{Over}
@@ -42,7 +42,7 @@ returns-in_err-with-in-Halves g m c =
 pub ones_of-requires-in-Halves : goal.ones_of-requires-in-Halves
 ones_of-requires-in-Halves g m c κs within =
     let start = at_cut g m (goal.at.ones_of-requires-in-Halves g m c).In-Halves in
-    let falls = high_falls start (reads_one c.in_ok-lo-in-Halves.ensures) c.in_ok-with-in-Halves.ensures in
+    let falls = high_falls (started_later start c.in_ok-lo-in-Halves.ensures) c.in_ok-with-in-Halves.ensures in
     let later = c.in_ok-lo-in-Halves.ensures.grows in
     let asks = sum_asks (with_later _ (g.S.Store.state c.ones_of.new.store) _ _ _ later.known later.plan later.vars
     c.in-Halves.ensures.high) c.in_ok-with-in-Halves.ensures in

@@ -3,7 +3,7 @@ use Rattle.lattice.specs.Words.{answer}
 use Rattle.lattice.specs.declared.op.Op.TheVariants.{Ones}
 use Rattle.node_store.proofs.StoreLaws.{handles, kept_given, then_reads}
 use Rattle.set_algebra.proofs.Levels.{cofactors_before}
-use Rattle.bool_poly.proofs.OnesSteps.{IsStarted, at_nothing, at_unit, low_asks, started, with_asks}
+use Rattle.bool_poly.proofs.Steps.{IsStarted, at_nothing, at_unit, low_asks, started, with_asks}
 use Rattle.bool_poly.proofs.points.begin_ones.Goals as goal
 use Rattle.bool_poly.proofs.points.begin_ones.Goals.{After-cut-cofactors}
 use Rattle.bool_poly.proofs.points.begin_ones.Given.{Over}

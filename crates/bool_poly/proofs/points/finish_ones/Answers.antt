@@ -2,7 +2,7 @@ use Rattle.std.proofs.Common.{refl}
 use Rattle.lattice.specs.Words.{answer}
 use Rattle.lattice.specs.declared.op.Op.TheVariants.{Ones}
 use Rattle.node_store.proofs.StoreLaws.{allowed_all, given_kept, handles, node_parts, node_planned}
-use Rattle.bool_poly.proofs.OnesSteps.{grown, may_grow}
+use Rattle.bool_poly.proofs.Steps.{grown, may_grow}
 use Rattle.bool_poly.proofs.points.finish_ones.Goals as goal
 
 pub grow-requires : goal.grow-requires

@@ -1,6 +1,6 @@
 use Rattle.std.proofs.Common.{ap, sym, ◌∙◌, Some}
 use Rattle.node_store.proofs.StoreLaws.{Builds-known, filled, zero_family}
-use Rattle.bool_poly.proofs.OnesFamilies.{part_with-none, part_with-some}
+use Rattle.bool_poly.proofs.Families.{part_with-none, part_with-some}
 use Rattle.bool_poly.proofs.points.part_with.Goals as goal
 
 pub returns-then-points-eq0 : goal.returns-then-points-eq0

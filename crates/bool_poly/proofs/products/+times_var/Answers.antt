@@ -1,7 +1,7 @@
-use Rattle.std.proofs.Common.{ℕ, arith}
-use Rattle.node_store.proofs.StoreLaws.{failed, node_builds, node_parts, node_planned, then_call, then_reads}
+use Rattle.std.proofs.Common.{rules, ℕ, arith}
 use Rattle.bool_poly.proofs.NodeLemmas.{ActsOnParts, at_node, at_node_later, low_call, high_call, lows_planned, highs_planned, both_grown}
 use Rattle.bool_poly.proofs.NodeLemmas.{times, times_after, times_values, times_kept, times_result, node_after, times_acts}
+use Rattle.node_store.proofs.StoreLaws.{failed, node_builds, node_parts, node_planned, then_call, then_reads}
 use Rattle.bool_poly.proofs.products.+times_var.Goals as goal
 use Rattle.bool_poly.proofs.products.+times_var.Goals.{After-look}
 use Rattle.bool_poly.proofs.products.+times_var.Given.{Over}
@@ -12,9 +12,7 @@ by_parts g t c = times_acts (at_node_later (g.met.S.Store.sound c.look.new.self)
     c.in-Some.ensures.node c.in-Some.ensures.family) c.requires.last c.if-var-n.false c.requires.planned
 
 pub returns-in_default : goal.returns-in_default
-returns-in_default g t c =
-    let result = times_after c.args.a c.args.var c.node.ensures.reads c.requires.known c.raised.ensures in
-    record { result = result; value = times_values c.args.a c.args.var result }
+returns-in_default g t c = search (times_after, times_values, rules, arith)
 
 pub raised-requires-then-var-n-clause-after : goal.raised-requires-then-var-n-clause-after
 raised-requires-then-var-n-clause-after g t c =

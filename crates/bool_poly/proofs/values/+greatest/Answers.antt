@@ -1,4 +1,4 @@
-use Rattle.std.proofs.Common.{refl, arith}
+use Rattle.std.proofs.Common.{arith}
 use Rattle.node_store.proofs.StoreLaws.{Grows-refl}
 use Rattle.bool_poly.proofs.NodeLemmas.{at_node, high_call, node_greatest, node_fits, constant_greatest}
 use Rattle.bool_poly.proofs.values.+greatest.Goals as goal
@@ -11,15 +11,10 @@ greatest-requires g t c κs within =
     (omega (arith, high.0, c.decreases), (within, (high.1, c.in-Some.ensures.node.full)))
 
 pub overflow_add-result : goal.overflow_add-result
-overflow_add-result g t c =
-    let fits = node_fits
-    (at_node (g.met.S.Store.sound c.node.new.self) c.node.ensures.reads c.in-Some.ensures.node c.in-Some.ensures.family) c.vars.ensures
-    c.greatest.ensures.greatest in
-    omega (arith, fits)
+overflow_add-result g t c = grind (arith, node_fits, at_node, g.met.S.Store.sound c.node.new.self)
 
 pub returns-in-None-clause-greatest : goal.returns-in-None-clause-greatest
-returns-in-None-clause-greatest g t c = constant_greatest (g.S.Store.state c.args.store.now) c.args.a
-    (g.met.S.Store.sound c.args.store.now) (c.in-None.ensures.constant.0 refl) c.requires.some
+returns-in-None-clause-greatest g t c = grind (arith, constant_greatest, g.met.S.Store.sound c.args.store.now)
 
 pub returns-in-Some-clause-greatest : goal.returns-in-Some-clause-greatest
 returns-in-Some-clause-greatest g t c =

@@ -1,23 +1,16 @@
-use Rattle.std.proofs.Common.{refl, sym, ◌∙◌, arith}
+use Rattle.std.proofs.Common.{sym, ◌∙◌, arith}
 use Rattle.node_store.proofs.StoreLaws.{Grows-family, Reads-trans}
 use Rattle.bool_poly.proofs.NodeLemmas.{at_node, low_call, high_call, node_without, node_with, constant_value}
 use Rattle.bool_poly.proofs.values.+value_of.Goals as goal
 
 pub value_of-low-requires : goal.value_of-low-requires
-value_of-low-requires g t c κs within =
-    let low = low_call (at_node (g.met.S.Store.sound c.node.new.self) c.node.ensures.reads c.in-Some.ensures.node c.in-Some.ensures.family)
-    in (omega (arith, low.0, c.decreases), (within, (low.1, rw c.node.ensures.reads.grows.vars c.requires.below)))
+value_of-low-requires g t c κs within = grind (arith, low_call, at_node, g.met.S.Store.sound c.node.new.self, within)
 
 pub value_of-requires : goal.value_of-requires
-value_of-requires g t c κs within =
-    let later = c.value_of-low.ensures.reads.grows in
-    let high = high_call
-    (at_node (g.met.S.Store.sound c.node.new.self) c.node.ensures.reads c.in-Some.ensures.node c.in-Some.ensures.family) later in
-    (omega (arith, high.0, c.decreases), (within, (high.1, rw (later.vars, c.node.ensures.reads.grows.vars) c.requires.below)))
+value_of-requires g t c κs within = grind (arith, high_call, at_node, g.met.S.Store.sound c.node.new.self, within)
 
 pub returns-in-None-clause-value : goal.returns-in-None-clause-value
-returns-in-None-clause-value g t c = constant_value (g.S.Store.state c.args.store.now) c.args.a c.args.point
-    (g.met.S.Store.sound c.args.store.now) (c.in-None.ensures.constant.0 refl)
+returns-in-None-clause-value g t c = grind (arith, constant_value, g.met.S.Store.sound c.args.store.now)
 
 pub returns-then-divides : goal.returns-then-divides
 returns-then-divides g t c =

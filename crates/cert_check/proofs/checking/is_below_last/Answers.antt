@@ -1,5 +1,5 @@
 use Rattle.std.proofs.Common.{ltb, sym, ap₂, ◌∙◌}
-use Rattle.cert_check.proofs.Judged.{below_last_of, below_last_of_none}
+use Rattle.cert_check.proofs.RightAnswers.{below_last_of, below_last_of_none}
 use Rattle.cert_check.proofs.checking.is_below_last.Goals as goal
 
 pub returns-in-empty : goal.returns-in-empty

@@ -1,6 +1,6 @@
 use Rattle.std.proofs.Common.{rules, ℕ, ◌+◌, ap, arith}
 use Rattle.std.proofs.lemmas.Result.{err_from_is_err_and}
-use Rattle.cert_check.proofs.Judged.{output_fails, output_fine, outputs_fine}
+use Rattle.cert_check.proofs.RightAnswers.{output_fails, output_fine, outputs_fine}
 use Rattle.cert_check.proofs.checking.judge.Goals as goal
 
 pub judge_output-requires-clause-over : goal.judge_output-requires-clause-over

@@ -2,7 +2,7 @@ use Rattle.std.proofs.Common.{◌≡◌, ◌∙◌, refl, arith}
 use Rattle.lattice.specs.Words.{Family, union_of}
 use Rattle.cert_check.specs.Marks.{MarksCare}
 use Rattle.cert_check.specs.Faults.{first_verdict, is_one_in}
-use Rattle.cert_check.proofs.Judged.{no_lead_of_zero, lead_tests, terms_within}
+use Rattle.cert_check.proofs.RightAnswers.{no_lead_of_zero, lead_tests, terms_within}
 use Rattle.cert_check.proofs.Points.{terms_counted, is_one-reverse}
 use Rattle.cert_check.proofs.checking.judge_element.Goals as goal
 use Rattle.cert_check.proofs.checking.judge_element.Goals.{After-is_one_in}

@@ -1,6 +1,6 @@
 use Rattle.std.proofs.Common.{arith, rules}
 use Rattle.std.proofs.lemmas.Result.{err_from_is_err_and}
-use Rattle.cert_check.proofs.Judged.{no_tops, tops_next, elements_fail, elements_next, elements_fine}
+use Rattle.cert_check.proofs.RightAnswers.{no_tops, tops_next, elements_fail, elements_next, elements_fine}
 use Rattle.cert_check.proofs.checking.judge_elements.Goals as goal
 
 pub loop-element-init : goal.loop-element-init

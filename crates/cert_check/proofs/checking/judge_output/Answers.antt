@@ -3,7 +3,7 @@ use Rattle.std.proofs.lemmas.Result.{err_from_is_err_and}
 use Rattle.lattice.specs.Words.{Family}
 use Rattle.cert_check.specs.Marks.{MarksCare}
 use Rattle.cert_check.specs.Faults.{first_verdict, output_checks, misses}
-use Rattle.cert_check.proofs.Judged.{basis_fails, behind_basis, tops_below, terms_within, elements_within}
+use Rattle.cert_check.proofs.RightAnswers.{basis_fails, behind_basis, tops_below, terms_within, elements_within}
 use Rattle.cert_check.proofs.Points.{terms_counted, misses-reverse}
 use Rattle.cert_check.proofs.checking.judge_output.Goals as goal
 use Rattle.cert_check.proofs.checking.judge_output.Goals.{After-misses}

@@ -2,7 +2,7 @@ use Rattle.std.proofs.Common.{◌≡◌, ℕ, List, drop, map}
 use Rattle.lattice.specs.Words.{has, family_where}
 use Rattle.cert_check.specs.Marks.{CountsDivisors}
 use Rattle.cert_check.specs.Faults.{first_verdict, reduced_checks}
-use Rattle.cert_check.proofs.Judged.{tail_check}
+use Rattle.cert_check.proofs.RightAnswers.{tail_check}
 use Rattle.cert_check.proofs.checking.judge_reduced.Given as goal
 
 abbrev pub invariant-loop-element : goal.invariant-loop-element

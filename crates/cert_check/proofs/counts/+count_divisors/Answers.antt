@@ -1,6 +1,6 @@
 use Rattle.std.proofs.Common.{◌-◌, ◌∙◌, arith, rules}
 use Rattle.std.proofs.lemmas.List.Elements.{All-drop}
-use Rattle.cert_check.proofs.CountTables.{counts_one, counts_whole, sums_fit, half_of}
+use Rattle.cert_check.proofs.Marked.{counts_one, counts_whole, sums_fit, half_of}
 use Rattle.lattice.proofs.Diagrams.{weight_is}
 use Rattle.cert_check.proofs.counts.+count_divisors.Goals as goal
 

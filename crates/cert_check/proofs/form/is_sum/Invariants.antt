@@ -1,7 +1,7 @@
 use Rattle.std.proofs.Common.{◌≡◌}
 use Rattle.cert_check.specs.Reading.{words, is_sum}
 use Rattle.cert_check.specs.Parts.{parts_left}
-use Rattle.cert_check.proofs.Cuts.{left_length}
+use Rattle.cert_check.proofs.LinesRead.{left_length}
 use Rattle.cert_check.proofs.form.is_sum.Given as goal
 
 abbrev pub invariant-loop-rest : goal.invariant-loop-rest

@@ -1,7 +1,7 @@
 use Rattle.std.proofs.Common.{◌==◌, rules, tests}
 use Rattle.std.proofs.lemmas.Iterator.{YieldsList-from_slice}
 use Rattle.std.proofs.lemmas.Iterator.Search.{position_from_yields_List}
-use Rattle.cert_check.proofs.Cuts.{parts_whole, parts_first}
+use Rattle.cert_check.proofs.LinesRead.{parts_whole, parts_first}
 use Rattle.cert_check.proofs.lines.split_first.Goals as goal
 
 pub returns-in-Some-clause-first : goal.returns-in-Some-clause-first

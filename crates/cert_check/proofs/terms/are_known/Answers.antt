@@ -4,7 +4,7 @@ use Rattle.std.proofs.lemmas.Iterator.Search.{all_from_yields_List}
 use Rattle.std.proofs.lemmas.Iterator.Splits.{YieldsList-from_slice_split}
 use Rattle.lattice.specs.Words.{includes}
 use Rattle.cert_check.specs.Reading.{words, is_term, factors_of}
-use Rattle.cert_check.proofs.Factors.{known_by_words}
+use Rattle.cert_check.proofs.LinesRead.{known_by_words}
 use Rattle.cert_check.proofs.terms.are_known.Goals as goal
 
 pub returns : goal.returns

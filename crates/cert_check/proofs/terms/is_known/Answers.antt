@@ -3,7 +3,7 @@ use Rattle.std.specs.List.{list_all}
 use Rattle.std.proofs.lemmas.Iterator.Search.{all_from_yields_List}
 use Rattle.std.proofs.lemmas.Iterator.Splits.{YieldsList-from_slice_split}
 use Rattle.lattice.specs.Words.{includes}
-use Rattle.cert_check.proofs.Factors.{factors_of_other}
+use Rattle.cert_check.proofs.LinesRead.{factors_of_other}
 use Rattle.cert_check.proofs.terms.is_known.Goals as goal
 
 pub returns-else-is_word : goal.returns-else-is_word

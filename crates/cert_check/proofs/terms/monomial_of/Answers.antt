@@ -1,5 +1,5 @@
 use Rattle.std.proofs.Common.{arith, rules}
-use Rattle.cert_check.proofs.Factors.{one_ascends, one_is}
+use Rattle.cert_check.proofs.LinesRead.{one_ascends, one_is}
 use Rattle.cert_check.proofs.terms.monomial_of.Goals as goal
 
 pub returns-then-is_word : goal.returns-then-is_word

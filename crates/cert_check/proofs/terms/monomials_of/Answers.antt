@@ -1,6 +1,6 @@
 use Rattle.std.proofs.Common.{sym, ◌∙◌, arith, rules}
 use Rattle.lattice.proofs.Diagrams.{weight_is}
-use Rattle.cert_check.proofs.Factors.{terms_none, term_known, terms_skip, factors_refused, term_refused, terms_more, terms_whole}
+use Rattle.cert_check.proofs.LinesRead.{terms_none, term_known, terms_skip, factors_refused, term_refused, terms_more, terms_whole}
 use Rattle.cert_check.proofs.terms.monomials_of.Goals as goal
 
 pub loop-rest-init : goal.loop-rest-init

@@ -1,7 +1,6 @@
 use Rattle.cert_check.specs.Reading.{words}
 use Rattle.cert_check.specs.Parts.{parts_left}
-use Rattle.cert_check.proofs.Cuts.{left_length}
-use Rattle.cert_check.proofs.Factors.{ReadsTerms}
+use Rattle.cert_check.proofs.LinesRead.{left_length, ReadsTerms}
 use Rattle.cert_check.proofs.terms.monomials_of.Given as goal
 
 abbrev pub invariant-loop-rest : goal.invariant-loop-rest

@@ -1,6 +1,6 @@
 use Rattle.std.proofs.Common.{arith}
 use Rattle.lattice.proofs.Diagrams.{weight_is}
-use Rattle.cert_check.proofs.Factors.{factor_within, factors_fall, factors_more, factors_whole}
+use Rattle.cert_check.proofs.LinesRead.{factor_within, factors_fall, factors_more, factors_whole}
 use Rattle.cert_check.proofs.terms.product_of.Goals as goal
 
 pub returns-then-place-least : goal.returns-then-place-least

@@ -1,7 +1,6 @@
 use Rattle.cert_check.specs.Reading.{parts}
 use Rattle.cert_check.specs.Parts.{parts_left}
-use Rattle.cert_check.proofs.Cuts.{left_length}
-use Rattle.cert_check.proofs.Factors.{ReadsFactors}
+use Rattle.cert_check.proofs.LinesRead.{left_length, ReadsFactors}
 use Rattle.cert_check.proofs.terms.product_of.Given as goal
 
 abbrev pub invariant-loop-rest : goal.invariant-loop-rest

@@ -9,10 +9,8 @@ overflow_cast-result c =
     omega (arith, number_in (found_of c.args.matches.now) (codes "workers") 1 16 c.number.result c.requires.workers c.number.ensures)
 
 pub overflow_cast-result-2 : goal.overflow_cast-result-2
-overflow_cast-result-2 c = omega (
-  arith,
-  number_in (found_of c.args.matches.now) (codes "nodes") MIN_BITS MAX_BITS c.number-2.result c.requires.nodes c.number-2.ensures,
-)
+overflow_cast-result-2 c =
+    omega (arith, number_in (found_of c.args.matches.now) (codes "nodes") MIN_BITS MAX_BITS _ c.requires.nodes c.number-2.ensures)
 
 pub returns-clause-within : goal.returns-clause-within
 returns-clause-within c =

@@ -1,25 +1,22 @@
-use Rattle.std.proofs.Common.{arith, length, length-set, refl, subst, sym, ◌∙◌, ◌<◌}
+use Rattle.std.proofs.Common.{arith, length-set, refl, ◌∙◌}
 use Rattle.node_store.proofs.StoreLaws.{Reads-refl, then_call}
 use Rattle.set_algebra.proofs.GivenPoints.{points_failed}
-use Rattle.cube_build.specs.UsedCubes.{AreCubes}
 use Rattle.cube_build.specs.declared.covers.PointSet.TheVariants.{On}
-use Rattle.cube_build.proofs.GivenCovers.{all_covers, covers_more, later_planned, points_after}
-use Rattle.cube_build.proofs.UsedCubeLemmas.{cubes_later}
+use Rattle.cube_build.proofs.CareLemmas.{all_covers, covers_more, later_planned, points_after}
+use Rattle.cube_build.proofs.CoverLemmas.{cubes_later}
 use Rattle.cube_build.proofs.care.care_sets.Goals as goal
 
 pub cover-requires-clause-cubes : goal.cover-requires-clause-cubes
 cover-requires-clause-cubes g c =
-    let t = g.S.Store.state c.loop-place.store in
-    subst (λ rows. AreCubes t rows c.args.cubes.now) (sym c.as_slice-rows.ensures)
-    (cubes_later _ t c.args.p.now.rows c.args.cubes.now c.loop-place.invariant.reads.grows c.requires.cubes)
+    rw c.as_slice-rows.ensures (cubes_later _ _ c.args.p.now.rows c.args.cubes.now c.loop-place.invariant.reads.grows c.requires.cubes)
 
 pub cover-requires-clause-planned : goal.cover-requires-clause-planned
 cover-requires-clause-planned g c =
     let p = c.args.p.now in
     rw (c.sets_of-sets.ensures, c.as_slice-rows.ensures)
     (later_planned (g.S.Store.state c.args.store.now) (g.S.Store.state c.loop-place.store) p.inputs p.kind p.rows c.args.output
-    c.loop-place.place On c.loop-place.invariant.reads c.requires.vars (subst (λ sets. c.loop-place.place < length sets)
-    c.sets_of-sets.ensures c.loop-place-test.true) c.requires.planned)
+    c.loop-place.place On c.loop-place.invariant.reads c.requires.vars (rw c.sets_of-sets.ensures at c.loop-place-test.true)
+    c.requires.planned)
 
 pub loop-place-init : goal.loop-place-init
 loop-place-init g c = record {
@@ -37,9 +34,8 @@ loop-place-preserved g c =
     record {
       reads = then_call before.reads c.in_ok-covers.ensures;
       covers = covers_more (g.S.Store.state c.loop-place.store) (g.S.Store.state c.cover.new.store) p.kind p.rows c.args.output
-          c.loop-place.place On c.loop-place.covers c.in_ok-covers.field-0
-          (subst (λ sets. c.loop-place.place < length sets) c.sets_of-sets.ensures c.loop-place-test.true) before.room before.covers
-          (rw (c.sets_of-sets.ensures, c.as_slice-rows.ensures) at c.in_ok-covers.ensures);
+          c.loop-place.place On c.loop-place.covers c.in_ok-covers.field-0 (rw c.sets_of-sets.ensures at c.loop-place-test.true)
+          before.room before.covers (rw (c.sets_of-sets.ensures, c.as_slice-rows.ensures) at c.in_ok-covers.ensures);
       room = length-set c.loop-place.covers c.loop-place.place c.in_ok-covers.field-0 ∙ before.room;
     }
 
@@ -50,8 +46,8 @@ care_sets_from-requires g c =
       covers = (
         p.rows,
         c.args.output,
-        all_covers t p.kind p.rows c.args.output c.sets_of-sets.result.now c.loop-place.place c.loop-place.covers c.sets_of-sets.ensures
-            (omega arith) found.room found.covers,
+        all_covers _ p.kind p.rows c.args.output _ c.loop-place.place c.loop-place.covers c.sets_of-sets.ensures (omega arith) found.room
+            found.covers,
         rw (found.reads.grows.plan, found.reads.grows.vars, c.requires.vars) c.requires.planned,
       );
     }
@@ -59,6 +55,6 @@ care_sets_from-requires g c =
 pub returns : goal.returns
 returns g c =
     let p = c.args.p.now in let t = g.S.Store.state c.loop-place.store in let found = c.loop-place.invariant in
-    let are = all_covers t p.kind p.rows c.args.output c.sets_of-sets.result.now c.loop-place.place c.loop-place.covers
-    c.sets_of-sets.ensures (omega arith) found.room found.covers in
+    let are = all_covers _ p.kind p.rows c.args.output _ c.loop-place.place c.loop-place.covers c.sets_of-sets.ensures (omega arith)
+    found.room found.covers in
     points_after found.reads (rw (found.reads.grows.vars, c.requires.vars) at (c.care_sets_from.ensures p.rows c.args.output are))

@@ -1,6 +1,6 @@
 use Rattle.std.proofs.Common.{◌≡◌, length}
 use Rattle.node_store.specs.Stores.{Reads}
-use Rattle.cube_build.proofs.GivenCovers.{FirstCovers}
+use Rattle.cube_build.proofs.CareLemmas.{FirstCovers}
 use Rattle.cube_build.proofs.care.care_sets.Given as goal
 
 -- the covers of the sets before

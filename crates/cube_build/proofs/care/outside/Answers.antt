@@ -6,20 +6,13 @@ use Rattle.node_store.proofs.StoreLaws.{builds_gives, found_gives, found_one, De
 use Rattle.cube_build.proofs.care.outside.Goals as goal
 
 pub power-requires : goal.power-requires
-power-requires g c =
-    let s = g.S.Store.state c.args.store.now in
-    record { planned = covers_head s.vars s.plan _ (power s.vars) c.requires.planned }
+power-requires g c = record { planned = covers_head _ _ _ _ c.requires.planned }
 
 pub minus-requires-clause-planned : goal.minus-requires-clause-planned
 minus-requires-clause-planned g c =
     let s = g.S.Store.state c.args.store.now in let t = g.S.Store.state c.power.new.store in
     let rest = minus_of s.vars (power s.vars) (family s c.args.a) in let is = c.in_ok-all.ensures in
-    rw (
-      is.grows.plan,
-      is.grows.vars,
-      Denotes-family t c.in_ok-all.all (power s.vars) is.ok,
-      Grows-family s t c.args.a is.grows c.requires.known,
-    )
+    rw (is.grows.plan, is.grows.vars, Denotes-family t c.in_ok-all.all _ is.ok, Grows-family s t c.args.a is.grows c.requires.known)
     (covers_head s.vars s.plan [] rest (covers_tail s.vars s.plan (rest ∷ []) (power s.vars) c.requires.planned))
 
 pub returns : goal.returns

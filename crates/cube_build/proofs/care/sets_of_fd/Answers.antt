@@ -1,4 +1,4 @@
-use Rattle.node_store.proofs.StoreLaws.{Knows-denotes, Reads-refl, reads_one, then_call}
+use Rattle.node_store.proofs.StoreLaws.{Reads-refl, reads_one, then_call}
 use Rattle.set_algebra.proofs.GivenPoints.{points_failed}
 use Rattle.cube_build.proofs.CallsUnderway.{combined_planned, combined_next, combined_is, outside_planned, outside_next, outside_is}
 use Rattle.cube_build.proofs.CallsUnderway.{points_end, underway}
@@ -6,33 +6,27 @@ use Rattle.cube_build.proofs.care.sets_of_fd.Goals as goal
 
 pub minus-requires-clause-planned : goal.minus-requires-clause-planned
 minus-requires-clause-planned g c =
-    let s = g.S.Store.state c.args.store.now in
-    combined_planned _ _ _ _ c.args.on c.args.dc (underway s _ c.requires.planned) (Knows-denotes s c.args.on c.requires.on)
-    (Knows-denotes s c.args.dc c.requires.dc)
+    combined_planned _ _ c.args.on c.args.dc (underway (g.S.Store.state c.args.store.now) _ c.requires.planned) c.requires.on c.requires.dc
 
 pub returns-in_err-ones : goal.returns-in_err-ones
 returns-in_err-ones g c = points_failed c.from_residual.ensures.0 (Reads-refl (g.S.Store.state c.args.store.now)) c.in_err-ones.ensures
 
 pub union-requires-clause-planned : goal.union-requires-clause-planned
 union-requires-clause-planned g c =
-    let s = g.S.Store.state c.args.store.now in let on_is = Knows-denotes s c.args.on c.requires.on in
-    let dc_is = Knows-denotes s c.args.dc c.requires.dc in
-    let one = combined_next _ _ _ _ c.args.on c.args.dc (underway s _ c.requires.planned) on_is dc_is c.in_ok-ones.ensures in
-    let later = c.in_ok-ones.ensures.grows.known in
-    combined_planned _ _ _ _ c.args.on c.args.dc one (later _ _ on_is) (later _ _ dc_is)
+    let begin = underway (g.S.Store.state c.args.store.now) _ c.requires.planned in
+    let one = combined_next _ _ c.args.on c.args.dc begin c.requires.on c.requires.dc c.in_ok-ones.ensures in
+    combined_planned _ _ c.args.on c.args.dc one c.requires.on c.requires.dc
 
 pub returns-in_err-listed : goal.returns-in_err-listed
 returns-in_err-listed g c = points_failed c.from_residual-in_err-listed.ensures.0 (reads_one c.in_ok-ones.ensures) c.in_err-listed.ensures
 
 pub outside-requires-clause-planned : goal.outside-requires-clause-planned
 outside-requires-clause-planned g c =
-    let s = g.S.Store.state c.args.store.now in let on_is = Knows-denotes s c.args.on c.requires.on in
-    let dc_is = Knows-denotes s c.args.dc c.requires.dc in
-    let one = combined_next _ _ _ _ c.args.on c.args.dc (underway s _ c.requires.planned) on_is dc_is c.in_ok-ones.ensures in
-    let later = c.in_ok-ones.ensures.grows.known in
-    let two = combined_next _ _ _ _ c.args.on c.args.dc one (later _ _ on_is) (later _ _ dc_is) c.in_ok-listed.ensures in
-    let listed_is = combined_is _ _ _ _ c.args.on c.args.dc one (later _ _ on_is) (later _ _ dc_is) c.in_ok-listed.ensures in
-    outside_planned _ c.in_ok-listed.listed two listed_is
+    let begin = underway (g.S.Store.state c.args.store.now) _ c.requires.planned in
+    let one = combined_next _ _ c.args.on c.args.dc begin c.requires.on c.requires.dc c.in_ok-ones.ensures in
+    outside_planned _ c.in_ok-listed.listed
+    (combined_next _ _ c.args.on c.args.dc one c.requires.on c.requires.dc c.in_ok-listed.ensures)
+    (combined_is _ _ c.args.on c.args.dc one c.requires.on c.requires.dc c.in_ok-listed.ensures)
 
 pub returns-in_err-zeros : goal.returns-in_err-zeros
 returns-in_err-zeros g c =
@@ -41,13 +35,11 @@ returns-in_err-zeros g c =
 
 pub returns : goal.returns
 returns g c =
-    let s = g.S.Store.state c.args.store.now in let on_is = Knows-denotes s c.args.on c.requires.on in
-    let dc_is = Knows-denotes s c.args.dc c.requires.dc in let begin = underway s _ c.requires.planned in
-    let one = combined_next _ _ _ _ c.args.on c.args.dc begin on_is dc_is c.in_ok-ones.ensures in
-    let later = c.in_ok-ones.ensures.grows.known in
-    let two = combined_next _ _ _ _ c.args.on c.args.dc one (later _ _ on_is) (later _ _ dc_is) c.in_ok-listed.ensures in
-    let listed_is = combined_is _ _ _ _ c.args.on c.args.dc one (later _ _ on_is) (later _ _ dc_is) c.in_ok-listed.ensures in
-    let ones_is = combined_is _ _ _ _ c.args.on c.args.dc begin on_is dc_is c.in_ok-ones.ensures in
+    let begin = underway (g.S.Store.state c.args.store.now) _ c.requires.planned in let listed = c.in_ok-listed.ensures in
+    let one = combined_next _ _ c.args.on c.args.dc begin c.requires.on c.requires.dc c.in_ok-ones.ensures in
+    let two = combined_next _ _ c.args.on c.args.dc one c.requires.on c.requires.dc listed in
+    let listed_is = combined_is _ _ c.args.on c.args.dc one c.requires.on c.requires.dc listed in
+    let ones_is = combined_is _ _ c.args.on c.args.dc begin c.requires.on c.requires.dc c.in_ok-ones.ensures in
     points_end (outside_next _ c.in_ok-listed.listed two listed_is c.in_ok-zeros.ensures)
     (outside_is _ c.in_ok-listed.listed two listed_is c.in_ok-zeros.ensures)
-    (c.in_ok-zeros.ensures.grows.known _ _ (c.in_ok-listed.ensures.grows.known _ _ ones_is))
+    (c.in_ok-zeros.ensures.grows.known _ _ (listed.grows.known _ _ ones_is))

@@ -1,5 +1,6 @@
+use Rattle.std.proofs.Common.{arith}
 use Rattle.node_store.proofs.StoreLaws.{node_builds, node_parts, node_planned}
-use Rattle.cube_build.proofs.CubeSteps.{cube_start, cube_end, step_grown}
+use Rattle.cube_build.proofs.CubeLemmas.{cube_behind-all, cube_start, step_grown}
 use Rattle.cube_build.proofs.cubes.cube.Goals as goal
 
 pub loop-behind-init : goal.loop-behind-init
@@ -22,7 +23,4 @@ loop-behind-preserved g c =
     node_builds may c.in_ok-points.ensures
 
 pub returns : goal.returns
-returns g c =
-    cube_end (g.S.Store.state c.args.store.now) (g.S.Store.state c.loop-behind.store) c.vars-vars.result c.loop-behind.behind
-    c.args.row.now c.loop-behind.points c.vars-vars.ensures c.loop-behind.auto.behind-end c.loop-behind-test.false
-    c.requires.care c.requires.value c.loop-behind.invariant
+returns g c = grind (arith, cube_behind-all)

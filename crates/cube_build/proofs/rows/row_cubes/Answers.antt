@@ -1,10 +1,9 @@
+use Rattle.cube_build.proofs.rows.row_cubes.Goals as goal
 use Rattle.std.proofs.Common.{◌<◌, length}
 use Rattle.std.proofs.lemmas.List.Elements.{All-get_or}
 use Rattle.node_store.proofs.StoreLaws.{Grows-trans, Reads-trans, reads_one}
 use Rattle.pla_reader.specs.Description.{FitsSizes}
-use Rattle.cube_build.proofs.CoverLemmas.{no_row}
-use Rattle.cube_build.proofs.UsedCubeLemmas.{used_planned, cubes_next}
-use Rattle.cube_build.proofs.rows.row_cubes.Goals as goal
+use Rattle.cube_build.proofs.CoverLemmas.{no_row, used_planned, cubes_next}
 
 pub used_cube-requires-clause-planned : goal.used_cube-requires-clause-planned
 used_cube-requires-clause-planned g c =

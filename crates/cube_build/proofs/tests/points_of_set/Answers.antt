@@ -1,4 +1,4 @@
-use Rattle.std.proofs.Common.{arith, refl}
+use Rattle.std.proofs.Common.{arith}
 use Rattle.cube_build.specs.declared.covers.PointSet.TheVariants.{On}
 use Rattle.cube_build.proofs.CareNeeds.{all_cares_have, cover_planned}
 use Rattle.cube_build.proofs.tests.points_of_set.Goals as goal

@@ -1,9 +1,7 @@
-use Rattle.std.proofs.Common.{◌≡◌, ◌∙◌, ℕ, ap, sym, subst}
-use Rattle.node_store.specs.Stores.{State}
+use Rattle.std.proofs.Common.{◌≡◌, ◌∙◌, ℕ, ap}
 use Rattle.set_algebra.proofs.Levels.{Finishes, finishes}
-use Rattle.unique_table.specs.Passes.{IsJoined, token_state, twin_of}
+use Rattle.unique_table.specs.Passes.{twin_of}
 use Rattle.computed_cache.specs.Cached.{cached_sound, cached_state}
-use Rattle.fork_branches.specs.Branches.{Combines, CombinesBoth}
 use Rattle.fork_branches.proofs.Branches.{both_gives, both_reads}
 use Rattle.fork_branches.proofs.combined.+combined.Goals as goal
 use Rattle.fork_branches.proofs.combined.+combined.Goals.{combine_in-In_ok-lo-in-Halves}

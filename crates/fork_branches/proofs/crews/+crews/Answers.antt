@@ -1,9 +1,8 @@
-use Rattle.std.proofs.Common.{rules, ◌≡◌, ◌∙◌, ◌++◌, [], refl, ap, sym}
-use Rattle.node_store.specs.Stores.{State}
-use Rattle.unique_table.specs.Passes.{IsJoined, token_state, twin_of}
-use Rattle.job_counter.specs.Drawing.{Drawing, drawing, left_half, right_half}
+use Rattle.std.proofs.Common.{rules, ◌≡◌, ◌∙◌, ◌++◌, refl, ap, sym}
+use Rattle.unique_table.specs.Passes.{twin_of}
+use Rattle.job_counter.specs.Drawing.{drawing, left_half, right_half}
 use Rattle.computed_cache.specs.Cached.{cached_sound, cached_state}
-use Rattle.fork_branches.specs.Work.{IsReady, IsSent, Works, answers_of}
+use Rattle.fork_branches.specs.Work.{IsReady, IsSent}
 use Rattle.fork_branches.specs.declared.crew.Crew.TheVariants.{One}
 use Rattle.fork_branches.proofs.Works.{both_work, sent}
 use Rattle.fork_branches.proofs.crews.+crews.Goals as goal

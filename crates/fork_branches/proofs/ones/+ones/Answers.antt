@@ -1,10 +1,8 @@
-use Rattle.std.proofs.Common.{◌≡◌, ◌∙◌, ap, sym, subst}
-use Rattle.node_store.specs.Stores.{State}
+use Rattle.std.proofs.Common.{◌≡◌, ◌∙◌, ap}
 use Rattle.node_store.proofs.StoreLaws.{Grows-refl}
 use Rattle.bool_poly.proofs.OnesLemmas.{ones_finish, sum_asks, with_after}
-use Rattle.unique_table.specs.Passes.{IsJoined, token_state, twin_of}
+use Rattle.unique_table.specs.Passes.{twin_of}
 use Rattle.computed_cache.specs.Cached.{cached_sound, cached_state}
-use Rattle.fork_branches.specs.Branches.{FindsBoth, FindsOnes, FindsWith}
 use Rattle.fork_branches.proofs.Branches.{both_gives, both_reads}
 use Rattle.fork_branches.proofs.ones.+ones.Goals as goal
 

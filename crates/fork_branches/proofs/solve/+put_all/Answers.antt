@@ -1,8 +1,7 @@
-use Rattle.std.proofs.Common.{rules, ◌≡◌, ◌+◌, ◌<◌, ◌++◌, ◌∙◌, length, ap}
+use Rattle.std.proofs.Common.{rules, ◌≡◌, ◌+◌, ◌++◌, ◌∙◌, length, ap}
 use Rattle.std.specs.List.{All}
 use Rattle.std.proofs.lemmas.List.Elements.{Contains-append_left, Contains-append_right}
 use Rattle.fork_branches.specs.Work.{answers_of, size_of}
-use Rattle.fork_branches.specs.declared.crew.Answer.{Answer}
 use Rattle.fork_branches.proofs.Solving.{Below, part_below, length-placed, placed-append}
 use Rattle.fork_branches.proofs.solve.+put_all.Goals as goal
 

@@ -1,8 +1,6 @@
-use Rattle.std.proofs.Common.{◌≡◌, ◌∙◌, ◌++◌, length, take, drop, ap, sym, subst, arith}
+use Rattle.std.proofs.Common.{◌≡◌, length, drop, ap, arith}
 use Rattle.std.proofs.lemmas.List.{take_all, take-append-le}
-use Rattle.computed_cache.specs.Cached.{cached_state}
 use Rattle.fork_branches.specs.Work.{answers_of}
-use Rattle.fork_branches.specs.Solves.{AreSolved, placed}
 use Rattle.fork_branches.proofs.Solving.{Below, solved, all_of, length-placed}
 use Rattle.fork_branches.proofs.solve.solve_all.Goals as goal
 

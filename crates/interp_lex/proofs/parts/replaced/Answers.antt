@@ -1,36 +1,27 @@
-use Rattle.std.proofs.Common.{◌||◌}
 use Rattle.lattice.specs.Words.{first_only}
-use Rattle.node_store.proofs.StoreLaws.{failed_after}
-use Rattle.interp_lex.proofs.PointSteps.{Both, first_planned, first_reads, second_planned, last_planned, last_gives}
+use Rattle.lattice.proofs.Diagrams.{covers_head}
+use Rattle.node_store.proofs.StoreLaws.{failed, reads_one}
+use Rattle.interp_lex.proofs.PointSteps.{second_planned, last_planned, last_gives}
 use Rattle.interp_lex.proofs.parts.replaced.Goals as goal
 
 pub union-requires-clause-planned : goal.union-requires-clause-planned
-union-requires-clause-planned g c =
-    let both : Both (λ a b. a || b) first_only (g.S.Store.state c.args.store.now) c.args.low c.args.added c.args.high c.args.removed =
-    record { third = c.requires.known.2; fourth = c.requires.known.3; planned = c.requires.planned } in
-    first_planned both
+union-requires-clause-planned g c = covers_head _ _ _ _ c.requires.planned
 
 pub minus-requires-clause-planned : goal.minus-requires-clause-planned
 minus-requires-clause-planned g c =
-    let both : Both (λ a b. a || b) first_only (g.S.Store.state c.args.store.now) c.args.low c.args.added c.args.high c.args.removed =
-    record { third = c.requires.known.2; fourth = c.requires.known.3; planned = c.requires.planned } in
-    second_planned both c.in_ok-first.ensures.result
+    let known = c.requires.known in
+    second_planned first_only c.args.high c.args.removed known.2 known.3 c.requires.planned c.in_ok-first.ensures.result
 
 pub returns-in_err-second-clause-result : goal.returns-in_err-second-clause-result
 returns-in_err-second-clause-result g c =
-    let both : Both (λ a b. a || b) first_only (g.S.Store.state c.args.store.now) c.args.low c.args.added c.args.high c.args.removed =
-    record { third = c.requires.known.2; fourth = c.requires.known.3; planned = c.requires.planned } in
-    failed_after _ _ _ _ _ _ _ _ _ c.from_residual-in_err-second.ensures.0 (first_reads both c.in_ok-first.ensures.result)
-    c.in_err-second.ensures.result
+    failed c.from_residual-in_err-second.ensures.0 (reads_one c.in_ok-first.ensures.result) c.in_err-second.ensures.result
 
 pub union-requires-2-clause-planned : goal.union-requires-2-clause-planned
 union-requires-2-clause-planned g c =
-    let both : Both (λ a b. a || b) first_only (g.S.Store.state c.args.store.now) c.args.low c.args.added c.args.high c.args.removed =
-    record { third = c.requires.known.2; fourth = c.requires.known.3; planned = c.requires.planned } in
-    last_planned both c.in_ok-first.ensures.result c.in_ok-second.ensures.result
+    last_planned first_only c.args.high c.args.removed c.requires.known.2 c.requires.known.3 c.requires.planned
+    c.in_ok-first.ensures.result c.in_ok-second.ensures.result
 
 pub returns-clause-result : goal.returns-clause-result
 returns-clause-result g c =
-    let both : Both (λ a b. a || b) first_only (g.S.Store.state c.args.store.now) c.args.low c.args.added c.args.high c.args.removed =
-    record { third = c.requires.known.2; fourth = c.requires.known.3; planned = c.requires.planned } in
-    last_gives both c.in_ok-first.ensures.result c.in_ok-second.ensures.result c.union-2.result c.union-2.ensures.result
+    last_gives first_only c.args.high c.args.removed c.requires.known.2 c.requires.known.3 c.requires.planned
+    c.in_ok-first.ensures.result c.in_ok-second.ensures.result c.union-2.result c.union-2.ensures.result

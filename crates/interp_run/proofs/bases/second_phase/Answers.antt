@@ -38,12 +38,9 @@ grouped-requires g c =
     let rest = cond (is_basis c.args.mode) (map (task Leads) (output_numbers d.outputs)) [] in
     let done = rw (c.deref-2.ensures.value, c.in_ok-list.ensures c.args.mode c.requires.leads) at c.in_ok-elements.ensures.done in
     record {
-      polynomials = omega (
-        arith,
-        ap length c.deref-3.ensures.value,
-        leads_counted d c.args.mode leads c.requires.leads,
-        polynomials_enough (cached_state c.args.store.now) d c.args.first.now.found.items rest c.requires.first.found,
-      );
+      polynomials =
+          let enough = polynomials_enough (cached_state c.args.store.now) d c.args.first.now.found.items rest c.requires.first.found in
+          omega (arith, ap length c.deref-3.ensures.value, leads_counted d c.args.mode leads c.requires.leads);
       elements = ap length c.deref-4.ensures.value
           ∙ elements_enough (cached_state c.all_done.new.store) d c.args.mode _ leads done.each c.requires.leads;
     }

@@ -29,31 +29,20 @@ returns-in_err-lists_of-clause-terms g c is =
     let over = walk_was_over c.from_residual-in_err-lists_of.result c.in_err-lists_of.field-0.0 Terms Memory
     c.from_residual-in_err-lists_of.ensures.1 (λ e. cc) is in
     let more = solved_so_far _ _ _ _ c.output-item.is c.loop-output-test.true c.requires _ _ to_t to_u in
-    omega (
-      arith,
-      more,
-      c.loop-output.invariant.left,
-      c.in_ok-terms_of.ensures.left,
-      ap (terms_of (g.S.Store.state c.terms_of.new.store)) c.deref.ensures.value,
-      c.in_err-lists_of.ensures.over (ap Err over),
-    )
+    let listed = ap (terms_of (g.S.Store.state c.terms_of.new.store)) c.deref.ensures.value in
+    let rest = c.in_err-lists_of.ensures.over (ap Err over) in
+    omega (arith, more, c.loop-output.invariant.left, c.in_ok-terms_of.ensures.left, listed, rest)
 
 pub loop-output-preserved : goal.loop-output-preserved
 loop-output-preserved g c =
     let to_t = c.loop-output.invariant.reads.grows in
     let to_u = Grows-trans _ _ _ to_t c.terms_of.ensures.reads.grows in
     let more = solved_so_far _ _ _ _ c.output-item.is c.loop-output-test.true c.requires _ _ to_t to_u in
+    let listed = ap (terms_of (g.S.Store.state c.terms_of.new.store)) c.deref.ensures.value in
     record {
       reads = Reads-trans _ _ _ c.loop-output.invariant.reads (Reads-trans _ _ _ c.terms_of.ensures.reads c.lists_of.ensures.reads);
       shown = shown_more _ _ _ _ c.output-item.is c.loop-output-test.true c.requires _ _
           c.loop-output.shown.items c.push.new.self.items _ to_t to_u c.loop-output.invariant.shown c.in_ok-terms_of.ensures.terms
           (rw c.deref.ensures.value at c.in_ok-lists_of.ensures.lists) c.in_ok-push.ensures.items;
-      left = omega (
-        arith,
-        more,
-        c.loop-output.invariant.left,
-        c.in_ok-terms_of.ensures.left,
-        c.in_ok-lists_of.ensures.left,
-        ap (terms_of (g.S.Store.state c.terms_of.new.store)) c.deref.ensures.value,
-      );
+      left = omega (arith, more, c.loop-output.invariant.left, c.in_ok-terms_of.ensures.left, c.in_ok-lists_of.ensures.left, listed);
     }

@@ -30,13 +30,9 @@ second_phase-requires-clause-few g c κs within =
     (λ bare. omega (arith, second_none d mode bare)) (cases_Bool (is_basis mode))
 
 pub second_phase-requires-clause-vars : goal.second_phase-requires-clause-vars
-second_phase-requires-clause-vars g c κs within = rw (
-  c.points_counted-points.ensures.reads.grows.vars,
-  c.in_ok-first.ensures.grows.vars,
-  c.new-pass.ensures.state,
-  c.pass.ensures.state,
-  c.in_ok-table.ensures.state,
-)
+second_phase-requires-clause-vars g c κs within =
+    let points = c.points_counted-points.ensures.reads in
+    rw (points.grows.vars, c.in_ok-first.ensures.grows.vars, c.new-pass.ensures.state, c.pass.ensures.state, c.in_ok-table.ensures.state)
 
 pub second_phase-requires-clause-first : goal.second_phase-requires-clause-first
 second_phase-requires-clause-first g c κs within = first_later (description c.args.pla.now) c.args.job.now.mode _ _ c.in_ok-first.first

@@ -17,12 +17,9 @@ returns-in-Ok-summary_text-clause-ok g c = λ bytes.
     rw text (solving d _ (rw gen (ap Ok (sym c.in-Ok.ensures.file))) (rw c.requires.mode tt) (rw gen at c.in_ok-solution.ensures.ok.1))
 
 pub returns-in-Ok-summary_text-clause-jobs : goal.returns-in-Ok-summary_text-clause-jobs
-returns-in-Ok-summary_text-clause-jobs g c = omega (
-  arith,
-  c.in_ok-solution.ensures.jobs,
-  c.in_ok-solution.ensures.ok.0.count,
-  ap (λ (d : Description). d.outputs) c.in-Ok.ensures.file,
-)
+returns-in-Ok-summary_text-clause-jobs g c =
+    let e = c.in_ok-solution.ensures in
+    omega (arith, e.jobs, e.ok.0.count, ap (λ (d : Description). d.outputs) c.in-Ok.ensures.file)
 
 pub returns-in_err-solution-clause-err : goal.returns-in_err-solution-clause-err
 returns-in_err-solution-clause-err g c =

@@ -1,7 +1,7 @@
 use Rattle.std.proofs.Common.{arith}
 use Rattle.lattice.specs.Words.{power}
 use Rattle.lattice.proofs.Diagrams.{IsFamily-nil, IsFamily-power}
-use Rattle.node_store.proofs.StoreLaws.{Denotes-knows, Denotes-family, zero_family}
+use Rattle.node_store.proofs.StoreLaws.{Denotes-family}
 use Rattle.node_store.proofs.tests.taken_apart.Goals as goal
 
 pub parts-halves-requires-clause-after : goal.parts-halves-requires-clause-after

@@ -14,11 +14,8 @@ pub has_passed-requires : goal.has_passed-requires
 has_passed-requires c = grind (arith, slots_most)
 
 pub returns-then-not-has_passed : goal.returns-then-not-has_passed
-returns-then-not-has_passed c = grind (
-  arith,
-  not_probed c.args.bits c.args.met.now c.args.at c.args.word c.loop-steps.steps
-      c.loop-steps.invariant c.probe_place-here.result c.probe_place-here.ensures.place,
-)
+returns-then-not-has_passed c =
+    grind (arith, not_probed c.args.bits c.args.met.now c.args.at c.args.word _ c.loop-steps.invariant _ c.probe_place-here.ensures.place)
 
 pub loop-steps-preserved : goal.loop-steps-preserved
 loop-steps-preserved c = walked_on c.args.bits c.args.met.now c.args.at c.args.word c.loop-steps.steps c.loop-steps.invariant _

@@ -1,15 +1,10 @@
 use Rattle.std.proofs.Common.{◌∙◌, ap, reverse, sym}
 use Rattle.std.specs.Prelude.{Err, Ok}
 use Rattle.std.proofs.lemmas.Result.{err_from_is_err_and}
-use Rattle.std.proofs.lemmas.Slice.Zip.{AllZip-long}
 use Rattle.pla_reader.specs.Reading.{description}
-use Rattle.query_run.specs.Parts.{no_memory}
-use Rattle.query_run.proofs.Endings.{answers_due, clash_ends, unread_ends, unreduced_ends}
+use Rattle.query_run.proofs.Endings.{answers_due, clash_ends, unreduced_ends}
 use Rattle.query_run.proofs.QueryAnswers.{answers_are, answers_over}
 use Rattle.query_run.proofs.answer.reduced_text.Goals as goal
-
-pub returns-in-Err-clause-err : goal.returns-in-Err-clause-err
-returns-in-Err-clause-err c = rw c.unread.ensures (unread_ends c.in-Err.refusal c.in-Err.ensures.reading)
 
 pub returns-in_err-consistent-clause-err : goal.returns-in_err-consistent-clause-err
 returns-in_err-consistent-clause-err c =
@@ -21,10 +16,6 @@ returns-in-Err-reduce-clause-err c =
     let e = c.in-Err-reduce.ensures in
     rw c.unreduced.ensures (unreduced_ends (c.in-Ok.ensures.reading ∙ ap Ok (sym c.as_slice.ensures)) c.in_ok-consistent.ensures.ok
     c.in-Err-reduce.refusal (λ is. e.exhausted (ap Err is)) (λ is. e.terms (ap Err is)))
-
-pub answers_text-requires-clause-count : goal.answers_text-requires-clause-count
-answers_text-requires-clause-count c =
-    rw (c.as_slice-3.ensures, c.as_slice-2.ensures, ← c.as_slice.ensures) (AllZip-long _ _ _ c.in-Ok-reduce.ensures.answers)
 
 pub answers_text-requires-clause-families : goal.answers_text-requires-clause-families
 answers_text-requires-clause-families c =
@@ -41,6 +32,3 @@ returns-in-Ok-answers_text-clause-ok c =
       answers_are (description c.args.p.now) reverse _ _ e.answers,
     )
     (answers_due (c.in-Ok.ensures.reading ∙ ap Ok (sym c.as_slice.ensures)) c.in_ok-consistent.ensures.ok e.fits e.few)
-
-pub returns-clause-err : goal.returns-clause-err
-returns-clause-err c = no_memory

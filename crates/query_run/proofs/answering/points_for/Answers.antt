@@ -1,4 +1,4 @@
-use Rattle.std.proofs.Common.{sym, ◌∙◌, arith}
+use Rattle.std.proofs.Common.{sym, ◌∙◌}
 use Rattle.pla_reader.specs.Reading.{description}
 use Rattle.query_run.proofs.QueryAnswers.{named_planned}
 use Rattle.query_run.proofs.answering.points_for.Goals as goal
@@ -7,6 +7,3 @@ pub care_points-requires-clause-planned : goal.care_points-requires-clause-plann
 care_points-requires-clause-planned g c =
     named_planned (description c.args.p.now) c.args.queries.now (g.S.Store.state c.args.store.now).plan c.requires.planned c.args.output
     (sym c.is_named.ensures ∙ c.if-is_named.true)
-
-pub returns-else-is_named-clause-points : goal.returns-else-is_named-clause-points
-returns-else-is_named-clause-points g c = grind (arith, named_planned)

@@ -30,12 +30,7 @@ loop-m-preserved g c =
     record {
       any = MayHoldAny-later c.args.vars t _ c.union.ensures.grows any;
       reads = then_call (then_call now.reads c.in_ok-next.ensures) c.in_ok-all.ensures;
-      members = cc (
-        c.in_ok-all.ensures.ok,
-        any.vars_are,
-        before,
-        one,
-        listed-next c.args.vars (take i xs) (get_or xs i 0),
-        take_more xs i 0 c.loop-m-test.true,
-      );
+      members =
+          let next = take_more xs i 0 c.loop-m-test.true in
+          cc (c.in_ok-all.ensures.ok, any.vars_are, next, listed-next c.args.vars (take i xs) (get_or xs i 0));
     }

@@ -21,13 +21,7 @@ falls : (op : Op) {s t u : State} {a b x y : Handle} {h : Cofactors} {p q : Hand
 falls op {s} {t} {u} {a} {b} {x} {y} {h} {p} {q} {P} {Q} order are reads later p_is q_is p_fits q_fits =
     let d : ℕ = s.vars - h.var in
     rw (later.vars, reads.grows.vars, Denotes-family u p P (later.known p.0 P p_is), Denotes-family u q Q (later.known q.0 Q q_is))
-    (omega (
-      arith,
-      level-below d s.vars P p_fits (omega arith),
-      level-below d s.vars Q q_fits (omega arith),
-      are.top,
-      order-top op s a b x y order,
-    ))
+    (omega (arith, level-below d s.vars P p_fits (omega arith), level-below d s.vars Q q_fits (omega arith), order-top op s a b x y order))
 
 whole : (g : Over) (m : ℕ) (c : In_ok-hi-in-Halves g m)
     → Finishes c.args.op (g.S.Store.state c.args.store.now) (g.S.Store.state c.combine-in-Halves.new.store) c.args.a c.args.b

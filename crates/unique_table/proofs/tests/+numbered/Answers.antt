@@ -1,4 +1,4 @@
-use Rattle.std.proofs.Common.{◌≡◌, ℕ, ◌-◌, ap}
+use Rattle.std.proofs.Common.{◌≡◌, ◌-◌, ap}
 use Rattle.node_store.proofs.StoreLaws.{MayHoldAny-later, Grows-trans}
 use Rattle.unique_table.proofs.TestedStores.{over_later, constant_over, any_grown, over_grown}
 use Rattle.unique_table.proofs.tests.+numbered.Goals as goal

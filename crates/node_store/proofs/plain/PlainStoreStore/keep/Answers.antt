@@ -6,7 +6,7 @@ use Rattle.indexmap.proofs.CallerLemmas.{insert_entry-new}
 use Rattle.node_store.specs.declared.key.Key.{Key}
 use Rattle.node_store.specs.declared.store.Handle.{Handle}
 use Rattle.node_store.specs.Plain.{plain_state}
-use Rattle.node_store.specs.PlainLaws.{get_cases}
+use Rattle.lattice.proofs.Diagrams.{get_cases}
 use Rattle.node_store.specs.PlainOf.{key_of}
 use Rattle.node_store.proofs.PlainLemmas.{same_key}
 use Rattle.node_store.proofs.plain.PlainStoreStore.keep.Goals as goal
