@@ -1,10 +1,11 @@
 #!/usr/bin/env python3
-"""Compares docs/DEFINITIONS.md with the definitions that stand behind the contract of `run`.
+"""Compares docs/DEFINITIONS.md with the definitions that stand behind the contract of `run`, and with those that the
+contracts of public functions name.
 
 The definitions behind `run` are those of specs/ that its clauses name, and those that these name in turn. The first part
 of the document names each of them at the head of an item, and no others; the second part names inner words, each a
-definition of specs/ that is not behind `run`. An item begins with `- `, and the words in backticks before its first colon
-are the names, but for those of files.
+definition of specs/ that is not behind `run`, and among them all that a clause of a public function names, but for laws. An
+item begins with `- `, and the words in backticks before its first colon are the names, but for those of files.
 
     definitions.py [--list]     with --list it prints the definitions behind `run`, file by file
 """
@@ -19,6 +20,10 @@ MOST_LINES = 800
 WORD = re.compile(r"[A-Za-z_][A-Za-z0-9_'-]*")
 USE = re.compile(r"^\s*(?:ghost )?use Rattle\.(\w+)\.specs\.([\w.]+)\.\{([^}]*)\};?$")
 USE_MODULE = re.compile(r"^\s*(?:ghost )?use Rattle\.(\w+)\.specs\.([\w.]+?)(?: as (\w+))?;?$")
+PUBLIC = re.compile(r"^(?:    )?pub (?:unsafe )?fn (\w+)|^    fn (\w+)")
+FUNCTION = re.compile(r" *(?:pub(?:\(crate\))? )?(?:unsafe )?fn ")
+SCOPE = re.compile(r"^(?:pub )?(?:unsafe )?(?:trait\b|impl\b.* for )")
+CLAUSE = re.compile(r"^ +(?:requires|ensures)\b")
 HEAD = re.compile(r"^(?:(?:abbrev|unfoldable|pub|record|data) )+([A-Za-z_][\w'-]*)")
 
 
@@ -104,6 +109,30 @@ def behind_run(modules):
     return found
 
 
+def public_clauses(lines):
+    """The lines of the clauses of a source's public functions, which are those that are `pub` and the methods of traits."""
+    of_trait = is_public = False
+    depth = 0
+    for line in lines:
+        if not line.startswith((" ", "}")):
+            of_trait = bool(SCOPE.match(line))
+        if FUNCTION.match(line):
+            found = PUBLIC.match(line)
+            is_public = bool(found) and (found.group(1) is not None or of_trait)
+        if is_public and (depth or CLAUSE.match(line)):
+            depth += line.count("{") - line.count("}")
+            yield line
+
+
+def named_by_contracts(modules):
+    """The definitions that clauses of public functions name, without laws."""
+    found = set()
+    for path in sorted(TOP.glob("crates/*/src/**/*.rt")):
+        lines = path.read_text().split("\n")
+        found |= named("\n".join(public_clauses(lines)), modules, *imports(lines), None)
+    return {key for key in found if not key[1].endswith("Laws")}
+
+
 def listed(part):
     """The names at the heads of the items of a part of the document."""
     heads = re.findall(r"^- (.*?):", part, re.M)
@@ -130,6 +159,8 @@ def main():
     faults = [f"{name} stands behind `run`, and the first part does not name it" for name in sorted(behind - listed(first))]
     faults += [f"{name} is named in the first part, and does not stand behind `run`" for name in sorted(listed(first) - behind)]
     faults += [f"{name} is named among the inner words, and is none" for name in sorted(listed(second) - inner)]
+    unnamed = {key[2] for key in named_by_contracts(modules)} - listed(first) - listed(second)
+    faults += [f"{name} is named by a clause of a public function, and by no item" for name in sorted(unnamed)]
     lines = sum(found.values())
     if lines >= MOST_LINES:
         faults.append(f"{lines} lines stand behind `run`, and not fewer than {MOST_LINES}")
