@@ -14,6 +14,7 @@ pub struct CachedPass<'t> {
 }
 
 impl<'t> CachedPass<'t> {
+    ghost use Rattle.unique_table.specs.Views.{after_split};
     ghost use Rattle.unique_table.specs.Passes.{table_name, IsJoined, twin_of};
     ghost use Rattle.computed_cache.specs.Cached.{cached_state, cached_steps};
 
@@ -44,7 +45,7 @@ impl<'t> CachedPass<'t> {
     pub fn split(&mut self) -> CachedPass<'t>
         ensures same { cached_state self.new ≡ cached_state self.old }
         ensures twin { cached_state result ≡ twin_of (cached_state self.old) }
-        ensures steps { (cached_steps self.new ≡ cached_steps self.old) × (cached_steps result ≡ cached_steps self.old) }
+        ensures steps { (cached_steps self.new ≡ after_split (cached_steps self.old)) × (cached_steps result ≡ cached_steps self.old) }
     {
         CachedPass {
             pass: self.pass.split(),
@@ -104,12 +105,15 @@ impl<'t> Store for CachedPass<'t> {
         self.pass.node(h)
     }
 
-    /// Loads the one word at the place of the operation's key.
+    /// Loads the one word at the place of the operation's key, and no other word.
     fn look(&mut self, op: Op, a: Handle, b: u32) -> Option<Handle>
         requires { AreOperands (cached_state self.old) op a b }
         ensures reads { Reads (cached_state self.old) (cached_state self.new) }
         ensures result { IfSome result (IsResult (cached_state self.new) op a b) }
         ensures looked { HasLooked (cached_steps self.old) (cached_steps self.new) (cache_of self.old) (key_for op a.0 b) result }
+
+        // It loads no node word that tells it anything.
+        ensures history { (cached_state self.new).history ≡ (cached_state self.old).history }
     {
         let slot = slot_of(self.pass.bits(), op, a, b);
         let word = self.pass.cache_load(slot.place);
@@ -119,7 +123,7 @@ impl<'t> Store for CachedPass<'t> {
         Some(Handle((word % HANDLE_UNIT) as u32 - 1))
     }
 
-    /// Stores one word, at the place of the operation's key.
+    /// Stores one word, once, at the place of the operation's key.
     fn keep(&mut self, op: Op, a: Handle, b: u32, r: Handle)
         requires { IsResult (cached_state self.old) op a b r }
         ensures same { cached_state self.new ≡ cached_state self.old }

@@ -1,6 +1,6 @@
 -- What the calls of a pass leave, as calls of a store.
 use Rattle.std.proofs.Common.{◌≡◌, ℕ, suc, ◌+◌, ◌-◌, ◌^◌, ◌<◌, ◌≤◌, Some, None, Ok, Err, Option, IsNone, IfSome, IfNone, List, [], ◌∷◌}
-use Rattle.std.proofs.Common.{◌++◌, zero, ◌==◌, true, false, length-append, eq-eqb, eqb-true, length, sym, refl, ◌↔◌, ◌⊎◌, subst, arith}
+use Rattle.std.proofs.Common.{◌++◌, ◌∙◌, zero, ◌==◌, true, false, length-append, eq-eqb, eqb-true, length, sym, refl, ◌↔◌, ◌⊎◌, subst, arith}
 use Rattle.lattice.specs.Words.{Family, Has, var_of, lo_of, hi_of, place, refused}
 use Rattle.std.proofs.lemmas.List.{append-nil, append_assoc}
 use Rattle.std.proofs.lemmas.List.Elements.{Contains-append_right}
@@ -228,12 +228,12 @@ module _ (p : Pass) (y : TableId) (m : Sat) (place at w : ℕ) (same : y ≡ p.s
   -- what is told where a cache word was loaded
   pub looked_told : Looked at p.seat.me w m → Reads (pass_state p) (view_state (name_of y) m.0)
       × ((w ≡ 0) ⊎ IsKept (pass_state p) (view_state (name_of y) m.0) (bits_of p) place w)
-      × (steps_of m.0 ≡ after_load (pass_steps p) place w)
-  unfolding pass_state pass_steps bits_of
+      × ((view_state (name_of y) m.0).history ≡ (pass_state p).history) × (steps_of m.0 ≡ after_load (pass_steps p) place w)
+  unfolding pass_state pass_steps bits_of view_state
   looked_told told =
       let here : at ≡ 2 ^ (p.seat.me.0).terms.bits + place = grind (arith, p.sizes) in
       let kept = told.word (name_of p.seat.table_id) place here in
-      (goes_reads _ _ _ _ same _ told.goes refl, grind (arith, p.sizes, kept), grind (arith, told.last place here))
+      (goes_reads _ _ _ _ same _ told.goes refl, grind (arith, p.sizes, kept), told.goes.history ∙ append-nil _, told.steps place here)
 
   -- what is told where one was stored
   pub stored_told : Stored at p.seat.me w m
@@ -241,4 +241,4 @@ module _ (p : Pass) (y : TableId) (m : Sat) (place at w : ℕ) (same : y ≡ p.s
   unfolding pass_state pass_steps
   stored_told told =
       let here : at ≡ 2 ^ (p.seat.me.0).terms.bits + place = grind (arith, p.sizes) in
-      grind (arith, told.put place here, told.same (name_of p.seat.table_id))
+      grind (arith, told.steps place here, told.same (name_of p.seat.table_id))

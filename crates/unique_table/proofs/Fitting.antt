@@ -228,7 +228,8 @@ module _ (v : View) (ws : List ℕ) (table : IsTable v.terms ws) (fits : LiveFit
     pairs = pairs_known v.terms.vars ws v.known fits.known;
   }
 
--- what is added to a view: pairs, whose families are held then, more families and entries, and the cache word that was loaded last
+-- what is added to a view: pairs, whose families are held then, more families and entries, the cache word that was loaded last, and
+-- how many were loaded then
 pub record Addition (v : View) (ws : List ℕ) : Type 0 where
   pub extra : List (ℕ × Family)
   pub pairs : All (IsPair v.terms.vars ws) extra
@@ -237,6 +238,7 @@ pub record Addition (v : View) (ws : List ℕ) : Type 0 where
   pub entries : List Entry
   pub history : FitsHistory (2 ^ v.terms.bits) ws (v.history ++ entries)
   pub last : Option (ℕ × ℕ)
+  pub loads : ℕ
 
 module _ (v : View) (ws : List ℕ) (table : IsTable v.terms ws) (fits : LiveFits v.terms ws v) where
   abbrev bits : ℕ
@@ -250,7 +252,13 @@ module _ (v : View) (ws : List ℕ) (table : IsTable v.terms ws) (fits : LiveFit
     added = add.more ++ subs_of vars add.extra
 
     abbrev pub learned : View
-    learned = record v { known = v.known ++ add.extra; held = merged v.held added; history = v.history ++ add.entries; last = add.last }
+    learned = record v {
+      known = v.known ++ add.extra;
+      held = merged v.held added;
+      history = v.history ++ add.entries;
+      last = add.last;
+      loads = add.loads;
+    }
 
     pub learned_known : (h : ℕ) (f : Family) → Contains add.extra (h, f) → known_by learned.known h ≡ Some f
     learned_known h f c = second_stays vars ws v.known add.extra fits.known add.pairs h f (pairs_known vars ws add.extra add.pairs h f c)
@@ -294,6 +302,7 @@ module _ (v : View) (ws : List ℕ) (table : IsTable v.terms ws) (fits : LiveFit
             entries = more;
             history = history;
             last = v.last;
+            loads = v.loads;
           } in
           let know = learned_known add in (
             learned add,

@@ -22,9 +22,9 @@ use Rattle.node_store.proofs.StoreLaws.{some_is}
 use Rattle.unique_table.specs.declared.view.View.{View}
 use Rattle.unique_table.specs.declared.view.About.{About}
 use Rattle.unique_table.specs.declared.view.Terms.{Terms}
-use Rattle.unique_table.specs.Views.{name_of, terms_of, known_by, view_state}
+use Rattle.unique_table.specs.Views.{name_of, terms_of, known_by, steps_of, after_store, view_state}
 use Rattle.unique_table.specs.Rule.{Rule, IsTable, IsVacantOrTrue, IsWhole, IsPair, LiveFits, Fits, FitsWhole, IsSoundView, first_view}
-use Rattle.unique_table.specs.Rule.{second_view, merged, joined_view, no_view}
+use Rattle.unique_table.specs.Rule.{split_view, second_view, merged, joined_view, no_view}
 use Rattle.unique_table.specs.Kept.{IsShown, IsKept}
 use Rattle.unique_table.specs.Told.{Sat, IsAsked, IsNext, EndsPath, passing, Passes, Stands, Goes, Meets, Keeps, Probed, Exchanged, Checked}
 use Rattle.unique_table.specs.Told.{Looked, Stored}
@@ -36,6 +36,9 @@ use Rattle.unique_table.proofs.Fitting.{learned_sound, learned_goes, meets, keep
 use Rattle.unique_table.proofs.Parts.{opens, splits, joins, node_looks, node_trades, cache_looks, cache_stores}
 
 -- ---- the opening, splits and joins
+
+split_fits : (t : Terms) (ws : List ℕ) (v : View) → Fits t ws v → Fits t ws (split_view v)
+split_fits t ws v fits live = let l = fits live in assumption l
 
 second_fits : (t : Terms) (ws : List ℕ) (v : View) → Fits t ws v → Fits t ws (second_view v)
 second_fits t ws v fits live = grind arith
@@ -56,8 +59,8 @@ joined_fits t ws v w live' fits fits' live =
       fits_append (2 ^ t.bits) ws v.history w.history l.history r.history,
     )
 
-pub divides : (about : About) (id : ℕ) (v : View) → Splits (Rule about) id v v (second_view v)
-divides about id v = search (rules, arith, splits, second_fits)
+pub divides : (about : About) (id : ℕ) (v : View) → Splits (Rule about) id v (split_view v) (second_view v)
+divides about id v = search (rules, arith, splits, split_fits, second_fits)
 
 pub unites : (about : About) (id : ℕ) (v : View) (other : ℕ) (w : View) → w.live ≡ true
     → Joins (Rule about) id v other w (joined_view v w) no_view
@@ -92,6 +95,11 @@ pub first_sound : (about : About) → 1 ≤ about.vars → about.vars ≤ MAX_VA
     → IsSoundView v
 first_sound about low high small v is = subst IsSoundView (sym is) (sound (first_view about) (replicate (2 ^ about.bits) 0)
     (first_table (terms_of about) (2 ^ about.bits) refl low high small) (first_fits about (2 ^ about.bits)) refl)
+
+-- a sound view is sound after a split
+pub split_sound : (v u : View) → u ≡ split_view v → IsSoundView v → IsSoundView u
+unfolding view_state
+split_sound v u e is = rw e (record { live = is.live; store = is.store; bits_high = is.bits_high; small = is.small; pairs = is.pairs })
 
 -- a second view of a sound one is sound
 pub second_sound : (v u : View) → u ≡ second_view v → IsSoundView v → IsSoundView u
@@ -149,6 +157,7 @@ module _ (v : View) (ws : List ℕ) (table : IsTable v.terms ws) (fits : LiveFit
       entries = [];
       history = rw append-nil fits.history;
       last = Some (place, word);
+      loads = suc v.loads;
     }
 
     abbrev u : View
@@ -347,10 +356,10 @@ module _ (about : About) (me : Sat) (live : me.0.live ≡ true) where
 
     -- what a load leaves where something is learned from the word
     looked : (ws : List ℕ) (table : IsTable t ws) (fits : Fits t ws v) (x : ℕ) (add : Addition v ws) → add.entries ≡ []
-        → add.last ≡ Some (p, x)
+        → add.last ≡ Some (p, x) → add.loads ≡ suc v.loads
         → ((name : List ℕ) → let u = learned v ws (own_table ws table fits) (own_fits ws table fits) add in
         (x ≡ 0) ⊎ IsKept (view_state name v) (view_state name u) v.terms.bits p x) → Left ws (Looked at me x)
-    looked ws table fits x add none last word =
+    looked ws table fits x add none last loads word =
         let mine = own_table ws table fits in
         let own = own_fits ws table fits in (
           learned v ws mine own add,
@@ -360,8 +369,13 @@ module _ (about : About) (me : Sat) (live : me.0.live ≡ true) where
             sound = learned_sound v ws mine own add live;
             terms = refl;
             goes = subst (λ es. Goes v es (learned v ws mine own add)) none (learned_goes v ws mine own add);
-            last = λ place e. last ∙ ap (λ (k : ℕ). Some (k, x)) (same_place place e);
-            put = refl;
+            steps = λ place e k. record {
+              last = (last ∙ ap (λ (q : ℕ). Some (q, x)) (same_place place e)) k;
+              put = v.put;
+              loads = loads k;
+              stores = v.stores;
+              splits = v.splits;
+            };
             word = λ name place e. rw (same_place place e) at (word name);
           },
         )
@@ -378,16 +392,17 @@ module _ (about : About) (me : Sat) (live : me.0.live ≡ true) where
             entries = [];
             history = rw append-nil (own_fits ws table fits).history;
             last = Some (p, x);
-          }) refl refl (λ name. inl none)
+            loads = suc v.loads;
+          }) refl refl refl (λ name. inl none)
           | inr word ↦ let true_word = subst (λ (k : Terms). IsTrueWord (cache_bits k.bits) k.vars ws p x) (sym (fits live).of) word in
-              looked ws table fits x (kept v ws (own_table ws table fits) (own_fits ws table fits) p x true_word) refl refl
+              looked ws table fits x (kept v ws (own_table ws table fits) (own_fits ws table fits) p x true_word) refl refl refl
               (λ name. inr (looked_kept v ws (own_table ws table fits) (own_fits ws table fits) p x true_word name))
         ])
 
     -- a store of a word changes nothing that a store shows
-    put_same : (o : Option (ℕ × ℕ)) (name : List ℕ) → view_state name (record v { put = o }) ≡ view_state name v
+    put_same : (o : Option (ℕ × ℕ)) (n : ℕ) (name : List ℕ) → view_state name (record v { put = o; stores = n }) ≡ view_state name v
     unfolding view_state
-    put_same o name = refl
+    put_same o n name = refl
 
     -- and keeps the rule
     pub stores : (slots id x : ℕ) (name : List ℕ) → IsShown (view_state name v) v.terms.bits p x
@@ -395,7 +410,7 @@ module _ (about : About) (me : Sat) (live : me.0.live ≡ true) where
     stores slots id x name shown = cache_stores nodes words (IsTable t) (Fits t) (IsVacantOrTrue t) slots id me at p inside_cache x
         (Stored at me x) (λ ws table fits.
         let mine = own_table ws table fits in let own = own_fits ws table fits in
-        let u : View = record v { put = Some (p, x) } in
+        let u : View = record v { put = Some (p, x); stores = suc v.stores } in
         let fit : LiveFits v.terms ws u = assumption own in (
           inr (subst (λ (k : Terms). IsTrueWord (cache_bits k.bits) k.vars ws p x) (fits live).of
               (shown_true v ws mine own name p x shown)),
@@ -406,9 +421,8 @@ module _ (about : About) (me : Sat) (live : me.0.live ≡ true) where
               bare = refl;
               sound = sound u ws mine fit live;
               terms = refl;
-              same = put_same (Some (p, x));
-              last = refl;
-              put = λ place e. ap (λ (k : ℕ). Some (k, x)) (same_place place e);
+              same = put_same (Some (p, x)) (suc v.stores);
+              steps = λ place e. ap (λ (q : ℕ). after_store (steps_of v) q x) (same_place place e);
             },
           ),
         ))

@@ -1,14 +1,14 @@
 -- A pass as a store.
 use Rattle.std.specs.Prelude.{◌≡◌, ℕ}
 use Rattle.node_store.specs.Stores.{State, IsSound}
-use Rattle.unique_table.specs.Views.{LastSteps, name_of, steps_of, view_state}
+use Rattle.unique_table.specs.Views.{Steps, name_of, steps_of, view_state}
 use Rattle.unique_table.specs.declared.pass.Pass.{Pass}
 
 unfoldable pub pass_state : Pass → State
 pass_state p = view_state (name_of p.seat.table_id) p.seat.me.0
 
--- the cache words that the pass loaded last and stored last
-unfoldable pub pass_steps : Pass → LastSteps
+-- what the pass did that its history does not tell
+unfoldable pub pass_steps : Pass → Steps
 pass_steps p = steps_of p.seat.me.0
 
 -- the table of the pass has 2 to so many slots

@@ -8,7 +8,7 @@ use Rattle.lattice.specs.declared.entry.Entry.TheVariants.{Met, Ask, Full}
 use Rattle.node_store.specs.declared.store.Node.{Node}
 use Rattle.node_store.specs.declared.store.Handle.{Handle}
 use Rattle.unique_table.specs.Told.{MetOther, IsCrowded, PassesBy}
-use Rattle.unique_table.specs.Views.{LastSteps, name_of, known_by, steps_of, view_state}
+use Rattle.unique_table.specs.Views.{Steps, name_of, known_by, steps_of, view_state}
 use Rattle.unique_table.specs.declared.pass.Shared.{Shared}
 use Rattle.unique_table.specs.declared.pass.Token.{Token}
 
@@ -16,13 +16,13 @@ use Rattle.unique_table.specs.declared.pass.Token.{Token}
 unfoldable pub token_state : Token → State
 token_state t = view_state (name_of t.seat.table_id) t.seat.me.0
 
--- the cache words that were loaded last and stored last with the token
-unfoldable pub token_steps : Token → LastSteps
+-- what was done with the token that its history does not tell
+unfoldable pub token_steps : Token → Steps
 token_steps t = steps_of t.seat.me.0
 
--- no cache word was loaded or stored yet
-abbrev pub no_steps : LastSteps
-no_steps = record { last = None; put = None }
+-- nothing was done yet
+abbrev pub no_steps : Steps
+no_steps = record { last = None; put = None; loads = 0; stores = 0; splits = 0 }
 
 -- the name of a table
 unfoldable pub table_name : Shared → List ℕ

@@ -64,6 +64,7 @@ Rule about = ByViews (IsWhole about) (FitsWhole about)
 
 -- ---- views
 
+-- the first view knows the two constants, and did nothing
 abbrev pub first_view : About → View
 first_view about = record {
   live = true;
@@ -73,7 +74,14 @@ first_view about = record {
   history = [];
   last = None;
   put = None;
+  loads = 0;
+  stores = 0;
+  splits = 0;
 }
+
+-- a seat after one was split off it
+abbrev pub split_view : View → View
+split_view v = record v { splits = suc v.splits }
 
 -- a second seat knows what the first one knows, and has no history yet
 abbrev pub second_view : View → View
@@ -99,6 +107,9 @@ no_view = record {
   history = [];
   last = None;
   put = None;
+  loads = 0;
+  stores = 0;
+  splits = 0;
 }
 
 -- the seat is a store, each handle that it knows is one of a table of this size, and each pair is what it knows

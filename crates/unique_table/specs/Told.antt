@@ -8,7 +8,7 @@ use Rattle.lattice.specs.NodeWords.{var_of, lo_of, hi_of, place}
 use Rattle.lattice.specs.declared.entry.Entry.{Entry}
 use Rattle.lattice.specs.declared.entry.Entry.TheVariants.{Met, Ask, Full}
 use Rattle.unique_table.specs.declared.view.View.{View}
-use Rattle.unique_table.specs.Views.{known_by, view_state, steps_of}
+use Rattle.unique_table.specs.Views.{known_by, view_state, steps_of, after_load, after_store}
 use Rattle.unique_table.specs.Kept.{IsKept}
 use Rattle.unique_table.specs.Rule.{IsSoundView}
 
@@ -146,8 +146,7 @@ pub record Looked (at : ℕ) (m : Sat) (found : ℕ) (m' : Sat) : Type 0 where
   pub sound : IsSoundView m'.0
   pub terms : m'.0.terms ≡ m.0.terms
   pub goes : Goes m.0 [] m'.0
-  pub last : (place : ℕ) → at ≡ 2 ^ m.0.terms.bits + place → m'.0.last ≡ Some (place, found)
-  pub put : m'.0.put ≡ m.0.put
+  pub steps : (place : ℕ) → at ≡ 2 ^ m.0.terms.bits + place → steps_of m'.0 ≡ after_load (steps_of m.0) place found
   pub word : (name : List ℕ) (place : ℕ) → at ≡ 2 ^ m.0.terms.bits + place
       → (found ≡ 0) ⊎ IsKept (view_state name m.0) (view_state name m'.0) m.0.terms.bits place found
 
@@ -157,8 +156,7 @@ pub record Stored (at : ℕ) (m : Sat) (w : ℕ) (m' : Sat) : Type 0 where
   pub sound : IsSoundView m'.0
   pub terms : m'.0.terms ≡ m.0.terms
   pub same : (name : List ℕ) → view_state name m'.0 ≡ view_state name m.0
-  pub last : m'.0.last ≡ m.0.last
-  pub put : (place : ℕ) → at ≡ 2 ^ m.0.terms.bits + place → m'.0.put ≡ Some (place, w)
+  pub steps : (place : ℕ) → at ≡ 2 ^ m.0.terms.bits + place → steps_of m'.0 ≡ after_store (steps_of m.0) place w
 
 -- ---- what a call leaves
 

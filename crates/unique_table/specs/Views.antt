@@ -1,5 +1,5 @@
 -- What contracts see of a seat of the shared table: a store.
-use Rattle.std.specs.Prelude.{ℕ, ◌^◌, ◌==◌, Option, Some, List, ◌∷◌}
+use Rattle.std.specs.Prelude.{ℕ, suc, ◌^◌, ◌==◌, Option, Some, List, ◌∷◌}
 use Rattle.std.specs.Map.{lookup}
 use Rattle.atomic_table.specs.Seated.{TableId}
 use Rattle.lattice.specs.Family.{Family}
@@ -21,22 +21,31 @@ known_by pairs h = lookup (λ k. k == h) pairs
 abbrev pub name_of : TableId → List ℕ
 name_of z = z.words ∷ z.slots ∷ z.views_name ∷ z.atom ∷ z.block ∷ z.offset ∷ z.slot_names
 
--- the place and the word of the cache word that was loaded last, and of the one that was stored last
-pub record LastSteps : Type 0 where
+-- what a seat did that its history does not tell: the place and the word of the cache word that it loaded last, and of the one
+-- that it stored last, how many it loaded, how many it stored, and how many seats were split off it. A seat that is split off
+-- another goes on from what that one did
+pub record Steps : Type 0 where
   pub last : Option (ℕ × ℕ)
   pub put : Option (ℕ × ℕ)
+  pub loads : ℕ
+  pub stores : ℕ
+  pub splits : ℕ
 
--- those of a view
-abbrev pub steps_of : View → LastSteps
-steps_of v = record { last = v.last; put = v.put }
+-- that of a view
+abbrev pub steps_of : View → Steps
+steps_of v = record { last = v.last; put = v.put; loads = v.loads; stores = v.stores; splits = v.splits }
 
--- a cache word was loaded
-abbrev pub after_load : LastSteps → ℕ → ℕ → LastSteps
-after_load s place w = record { last = Some (place, w); put = s.put }
+-- one cache word was loaded
+abbrev pub after_load : Steps → ℕ → ℕ → Steps
+after_load s place w = record s { last = Some (place, w); loads = suc s.loads }
 
--- a cache word was stored
-abbrev pub after_store : LastSteps → ℕ → ℕ → LastSteps
-after_store s place w = record { last = s.last; put = Some (place, w) }
+-- one cache word was stored
+abbrev pub after_store : Steps → ℕ → ℕ → Steps
+after_store s place w = record s { put = Some (place, w); stores = suc s.stores }
+
+-- one seat was split off
+abbrev pub after_split : Steps → Steps
+after_split s = record s { splits = suc s.splits }
 
 -- a seat's view, as a store on the table of this name
 unfoldable pub view_state : List ℕ → View → State

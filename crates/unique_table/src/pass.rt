@@ -99,7 +99,7 @@ fn cache_index(bits: u32, place: u32) -> usize
 impl<'t> Pass<'t> {
     ghost use Rattle.node_store.specs.Stores.{Reads};
     ghost use Rattle.unique_table.specs.Kept.{IsShown, IsKept};
-    ghost use Rattle.unique_table.specs.Views.{after_load, after_store};
+    ghost use Rattle.unique_table.specs.Views.{after_load, after_store, after_split};
     ghost use Rattle.unique_table.specs.Passes.{token_state, token_steps, table_name, IsJoined, twin_of};
     ghost use Rattle.unique_table.specs.PassOf.{pass_state, pass_steps, bits_of, AreOfOne};
 
@@ -223,6 +223,7 @@ impl<'t> Pass<'t> {
     pub fn cache_load(&mut self, place: u32) -> u64
         requires { place < 2 ^ cache_bits (bits_of self.old) }
         ensures reads { Reads (pass_state self.old) (pass_state self.new) }
+        ensures history { (pass_state self.new).history ≡ (pass_state self.old).history }
         ensures word { (result ≡ 0) ⊎ IsKept (pass_state self.old) (pass_state self.new) (bits_of self.old) place result }
         ensures steps { pass_steps self.new ≡ after_load (pass_steps self.old) place result }
         ensures bits { bits_of self.new ≡ bits_of self.old }
@@ -253,7 +254,7 @@ impl<'t> Pass<'t> {
     pub fn split(&mut self) -> Pass<'t>
         ensures same { pass_state self.new ≡ pass_state self.old }
         ensures twin { pass_state result ≡ twin_of (pass_state self.old) }
-        ensures steps { (pass_steps self.new ≡ pass_steps self.old) × (pass_steps result ≡ pass_steps self.old) }
+        ensures steps { (pass_steps self.new ≡ after_split (pass_steps self.old)) × (pass_steps result ≡ pass_steps self.old) }
     {
         let seat = self.table.table.shared.split_seat::<Twin>(&mut self.seat);
         Pass {
@@ -343,6 +344,7 @@ impl<'t> Store for Pass<'t> {
         requires { AreOperands (pass_state self.old) op a b }
         ensures none { IsNone result }
         ensures same { pass_state self.new ≡ pass_state self.old }
+        ensures steps { pass_steps self.new ≡ pass_steps self.old }
         ensures reads { Reads (pass_state self.old) (pass_state self.new) }
         ensures result { IfSome result (IsResult (pass_state self.new) op a b) }
     {
@@ -350,7 +352,12 @@ impl<'t> Store for Pass<'t> {
         None
     }
 
-    fn keep(&mut self, op: Op, a: Handle, b: u32, r: Handle) {
+    /// Does nothing: it keeps no results.
+    fn keep(&mut self, op: Op, a: Handle, b: u32, r: Handle)
+        requires { IsResult (pass_state self.old) op a b r }
+        ensures same { pass_state self.new ≡ pass_state self.old }
+        ensures steps { pass_steps self.new ≡ pass_steps self.old }
+    {
         let _ = (op, a, b, r);
     }
 }

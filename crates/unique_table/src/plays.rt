@@ -1,6 +1,6 @@
 //! The rule of the table, and what each step tells. These types are for the proofs alone.
 ghost use Rattle.std.specs.Prelude.{ℕ, Bool, false};
-ghost use Rattle.unique_table.specs.Rule.{Rule, first_view, second_view, joined_view, no_view};
+ghost use Rattle.unique_table.specs.Rule.{Rule, first_view, split_view, second_view, joined_view, no_view};
 ghost use Rattle.unique_table.specs.Told.{Probed, Exchanged, Checked, Looked, Stored};
 
 use crate::view::{About, View};
@@ -45,11 +45,11 @@ impl<J: Asked> Play<(), View> for Insert<J> {
     ghost then = { λ step. Exchanged J.last step.word step.second };
 }
 
-/// Both know what the one knew, and the second has no history.
+/// Both know what the one knew, the first one counts the split, and the second has no history.
 pub struct Twin;
 
 impl Split<View> for Twin {
-    ghost left = { λ v. v };
+    ghost left = { split_view };
 
     ghost right = { second_view };
 }
