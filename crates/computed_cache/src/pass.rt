@@ -45,7 +45,7 @@ impl<'t> CachedPass<'t> {
     pub fn split(&mut self) -> CachedPass<'t>
         ensures same { cached_state self.new ≡ cached_state self.old }
         ensures twin { cached_state result ≡ twin_of (cached_state self.old) }
-        ensures steps { (cached_steps self.new ≡ after_split (cached_steps self.old)) × (cached_steps result ≡ cached_steps self.old) }
+        ensures steps { (cached_steps self.new ≡ after_split (cached_steps self.old)) × (cached_steps result ≡ after_split (cached_steps self.old)) }
     {
         CachedPass {
             pass: self.pass.split(),

@@ -21,11 +21,17 @@ use Rattle.unique_table.specs.Kept.{IsKept}
 use Rattle.unique_table.specs.Views.{name_of, known_by, steps_of, after_load, after_store, view_state}
 use Rattle.unique_table.specs.Told.{AreChildren, HasChildren, MetOther, IsAsked, IsNext, HasNoRoom, Passes, IsCrowded, Goes, Meets}
 use Rattle.unique_table.specs.Told.{PassesBy, Interned, AllOthers, Looked, Stored, Sat}
-use Rattle.unique_table.specs.Passes.{word_of, IsInterned, FindsFull, HasMet}
+use Rattle.unique_table.specs.Rule.{IsNew}
+use Rattle.unique_table.specs.Passes.{word_of, IsUntouched, IsInterned, FindsFull, HasMet}
 use Rattle.unique_table.specs.PassOf.{AreOfOne, pass_state, pass_steps, pass_sound, bits_of}
 use Rattle.unique_table.specs.declared.pass.Pass.{Pass}
 use Rattle.unique_table.proofs.Fitting.{over, covers}
 use Rattle.unique_table.proofs.PassNeeds.{small_known}
+
+-- the view of a pass that did nothing to its table is new
+pub new_view : (p : Pass) → IsUntouched (pass_state p) (pass_steps p) → IsNew p.seat.me.0
+unfolding pass_state pass_steps view_state
+new_view p is = record { whole = is.0; kept = is.1; met = is.2 }
 
 -- ---- the walk along a path
 
@@ -57,6 +63,7 @@ pub record Walked (p : Pass) (w d : ℕ) (q : Pass) : Type 0 where
   pub others : PassesBy p.bits w 0 before
   pub goes : d < 2 ^ p.bits → Goes p.seat.me.0 before q.seat.me.0
   pub full : d ≡ 2 ^ p.bits → Goes p.seat.me.0 (before ++ Full w ∷ []) q.seat.me.0 × HasNoRoom p.seat.me.0 w
+  pub fresh : IsNew p.seat.me.0 → IsNew q.seat.me.0 × (d ≡ 0)
 
 pub walked_none : (p : Pass) (w : ℕ) → Walked p w 0 p
 walked_none p w = grind (arith, append-nil, pow_pos)
@@ -72,9 +79,9 @@ module _ (p : Pass) (w d : ℕ) (q : Pass) (walked : Walked p w d q) (less : d <
   }
 
   -- another word was passed there
-  pub walked_more : (q' : Pass) → AreOfOne q q'
+  pub walked_more : (q' : Pass) → AreOfOne q q' → (IsNew q.seat.me.0 → ⊥)
       → (other : ℕ) × Passes q.seat.me.0 (d + 1 == 2 ^ q.bits) (place q.bits w d) other w q'.seat.me.0 → Walked p w (d + 1) q'
-  walked_more q' same t =
+  walked_more q' same old t =
       let g = walked.goes less in let m = t.1.meets in
       let here : List Entry = Met (suc (suc (place p.bits w d))) t.0 ∷ [] in record {
         same = grind (arith, walked.same);
@@ -88,6 +95,7 @@ module _ (p : Pass) (w d : ℕ) (q : Pass) (walked : Walked p w d q) (less : d <
             let more = goes_on p.seat.me.0 q.seat.me.0 q'.seat.me.0 walked.before (here ++ Full w ∷ []) g
             (grind (arith, m.goes, e, walked.same)) in
             (grind (arith, more, append_assoc), λ low high known. grind (arith, t.1.over e low high, g));
+        fresh = λ new. absurd (old (walked.fresh new).0);
       }
 
 module _ (z y : TableId) (v u : View) (same : y ≡ z) (more : List Entry) (goes : Goes v more u) where
@@ -168,6 +176,16 @@ module _ (p : Pass) (n : Node) (w : ℕ) (node : IsNode (pass_state p) n) (is : 
           grind (arith, subst (λ x. (slot : ℕ) → slot < (pass_state p).capacity → MetOther all.before x slot) is met, crowded),
         )
 
+-- in a new table the word is found at the first place of its path, and room is found
+module _ (p : Pass) (n : Node) (w : ℕ) (is : w ≡ word_of n) where
+  pub first_place : (at : ℕ) → (IsNew p.seat.me.0 → Some at ≡ Some (place p.bits w 0)) → IsUntouched (pass_state p) (pass_steps p)
+      → at + 2 ≡ suc (suc (place (bits_of p) (word_of n) 0))
+  unfolding bits_of
+  first_place at first untouched = let e = first (new_view p untouched) in grind (arith, e)
+
+  pub has_room : (IsNew p.seat.me.0 → None ≡ Some (place p.bits w 0)) → IsUntouched (pass_state p) (pass_steps p) → ⊥
+  has_room first untouched = let e = first (new_view p untouched) in cc
+
 -- ---- a look at a node
 
 -- what is told of the node of a handle
@@ -228,12 +246,13 @@ module _ (p : Pass) (y : TableId) (m : Sat) (place at w : ℕ) (same : y ≡ p.s
   -- what is told where a cache word was loaded
   pub looked_told : Looked at p.seat.me w m → Reads (pass_state p) (view_state (name_of y) m.0)
       × ((w ≡ 0) ⊎ IsKept (pass_state p) (view_state (name_of y) m.0) (bits_of p) place w)
-      × ((view_state (name_of y) m.0).history ≡ (pass_state p).history) × (steps_of m.0 ≡ after_load (pass_steps p) place w)
+      × ((view_state (name_of y) m.0).history ≡ (pass_state p).history) × (IsUntouched (pass_state p) (pass_steps p) → w ≡ 0)
+      × (steps_of m.0 ≡ after_load (pass_steps p) place w)
   unfolding pass_state pass_steps bits_of view_state
   looked_told told =
       let here : at ≡ 2 ^ (p.seat.me.0).terms.bits + place = grind (arith, p.sizes) in
       let kept = told.word (name_of p.seat.table_id) place here in
-      (goes_reads _ _ _ _ same _ told.goes refl, grind (arith, p.sizes, kept), told.goes.history ∙ append-nil _, told.steps place here)
+      (goes_reads _ _ _ _ same _ told.goes refl, grind (arith, p.sizes, kept), told.goes.history ∙ append-nil _, (λ is. told.vacant (new_view p is)), told.steps place here)
 
   -- what is told where one was stored
   pub stored_told : Stored at p.seat.me w m

@@ -21,8 +21,8 @@ use Rattle.lattice.proofs.Diagrams.{high_after, low_after, slot_level, held_fits
 use Rattle.lattice.proofs.Diagrams.{join_parts, same_word, stored_grows}
 use Rattle.unique_table.specs.declared.view.View.{View}
 use Rattle.unique_table.specs.declared.view.Terms.{Terms}
-use Rattle.unique_table.specs.Views.{known_by, steps_of, view_state}
-use Rattle.unique_table.specs.Rule.{IsTable, IsPair, LiveFits, IsSoundView, merged}
+use Rattle.unique_table.specs.Views.{Steps, known_by, steps_of, view_state}
+use Rattle.unique_table.specs.Rule.{IsTable, IsPair, LiveFits, IsNew, IsSoundView, merged}
 use Rattle.unique_table.specs.Told.{Goes, Meets, MetOther, IsAsked, IsNext, EndsPath, passing, HasNoRoom, IsCrowded}
 use Rattle.unique_table.proofs.Lists.{merged_keeps, merged_has, merged_distinct, merged_all, All-Has, append_cases, first_stays}
 use Rattle.unique_table.proofs.Lists.{contains_cases, agrees_of, pairs_known, second_stays, subs_of, covers_subs, all_subs}
@@ -227,6 +227,27 @@ module _ (v : View) (ws : List ℕ) (table : IsTable v.terms ws) (fits : LiveFit
     small = λ h f is. handle_below (2 ^ v.terms.bits) ws (table.canonical).size h (denotes_handle v.terms.vars ws (agrees h f is));
     pairs = pairs_known v.terms.vars ws v.known fits.known;
   }
+
+-- the front of an empty list is empty, and nothing with an element is
+pub left_nil : {A : Type 0} (xs ys : List A) → xs ++ ys ≡ [] → xs ≡ []
+left_nil [] ys e = refl
+left_nil (x ∷ xs) ys e = absurd (omega (arith, ap length e))
+
+some_more : {A : Type 0} (xs ys : List A) (y : A) → xs ++ y ∷ ys ≡ [] → ⊥
+some_more [] ys y e = omega (arith, ap length e)
+some_more (x ∷ xs) ys y e = omega (arith, ap length e)
+
+-- a view that goes on from one without a step of the cache is new only where that one was
+pub goes_new : (v u : View) (more : List Entry) → Goes v more u → steps_of u ≡ steps_of v → IsNew u → IsNew v
+goes_new v u more goes steps new = record {
+  whole = sym (ap (λ (s : Steps). s.splits) steps) ∙ new.whole;
+  kept = sym (ap (λ (s : Steps). s.stores) steps) ∙ new.kept;
+  met = left_nil v.history more (sym goes.history ∙ new.met);
+}
+
+-- and not where it met a slot
+pub met_not_new : (v u : View) (e : Entry) (es : List Entry) → Goes v (e ∷ es) u → IsNew u → ⊥
+met_not_new v u e es goes new = some_more v.history es e (sym goes.history ∙ new.met)
 
 -- what is added to a view: pairs, whose families are held then, more families and entries, the cache word that was loaded last, and
 -- how many were loaded then

@@ -1,6 +1,6 @@
 -- The steps of the shared table keep its rule, and so do its opening, splits and joins.
-use Rattle.std.proofs.Common.{◌≡◌, ℕ, suc, ◌+◌, ◌^◌, ◌<◌, ◌≤◌, ◌⊎◌, Bool, true, cond, is_some, unwrap_or, eqb, Option, Some, None, List, []}
-use Rattle.std.proofs.Common.{◌∷◌, ◌++◌, slice_index, set, take, replicate, sym, refl, ap, ◌∙◌, subst, inl, inr, rules, arith}
+use Rattle.std.proofs.Common.{◌≡◌, ℕ, zero, suc, ◌+◌, ◌^◌, ◌<◌, ◌≤◌, ◌⊎◌, Bool, true, cond, is_some, unwrap_or, eqb, Option, Some, None, List, []}
+use Rattle.std.proofs.Common.{◌∷◌, ◌++◌, slice_index, set, take, replicate, sym, refl, ap, ◌∙◌, subst, inl, inr, arith}
 use Rattle.std.specs.List.{All}
 use Rattle.std.proofs.lemmas.Bool.{cases_Bool}
 use Rattle.std.proofs.lemmas.List.{append-nil, length-replicate, take-replicate, get_or-replicate}
@@ -24,7 +24,7 @@ use Rattle.unique_table.specs.declared.view.About.{About}
 use Rattle.unique_table.specs.declared.view.Terms.{Terms}
 use Rattle.unique_table.specs.Views.{name_of, terms_of, known_by, steps_of, after_store, view_state}
 use Rattle.unique_table.specs.Rule.{Rule, IsTable, IsVacantOrTrue, IsWhole, IsPair, LiveFits, Fits, FitsWhole, IsSoundView, first_view}
-use Rattle.unique_table.specs.Rule.{split_view, second_view, merged, joined_view, no_view}
+use Rattle.unique_table.specs.Rule.{IsNew, split_view, second_view, merged, joined_view, no_view}
 use Rattle.unique_table.specs.Kept.{IsShown, IsKept}
 use Rattle.unique_table.specs.Told.{Sat, IsAsked, IsNext, EndsPath, passing, Passes, Stands, Goes, Meets, Keeps, Probed, Exchanged, Checked}
 use Rattle.unique_table.specs.Told.{Looked, Stored}
@@ -32,7 +32,7 @@ use Rattle.unique_table.specs.Passes.{IsJoined}
 use Rattle.unique_table.proofs.Lists.{merged_keeps, merged_has, merged_only, merged_distinct, merged_all, All-Has, All-from_Has}
 use Rattle.unique_table.proofs.Lists.{append_cases, pair_cases, pair_there, first_stays}
 use Rattle.unique_table.proofs.Fitting.{unit_none, small, live_grows, agrees, sound, Addition, learned, learned_known, learned_fits}
-use Rattle.unique_table.proofs.Fitting.{learned_sound, learned_goes, meets, keeps, here, here_filled, filled_table, passes, passes_over}
+use Rattle.unique_table.proofs.Fitting.{left_nil, goes_new, met_not_new, learned_sound, learned_goes, meets, keeps, here, here_filled, filled_table, passes, passes_over}
 use Rattle.unique_table.proofs.Parts.{opens, splits, joins, node_looks, node_trades, cache_looks, cache_stores}
 
 -- ---- the opening, splits and joins
@@ -60,12 +60,17 @@ joined_fits t ws v w live' fits fits' live =
     )
 
 pub divides : (about : About) (id : ℕ) (v : View) → Splits (Rule about) id v (split_view v) (second_view v)
-divides about id v = search (rules, arith, splits, split_fits, second_fits)
+divides about id v =
+    let front = λ (ws : List ℕ). take (2 ^ about.bits) ws in
+    splits (IsWhole about) (FitsWhole about) IsNew id v (split_view v) (second_view v)
+    (λ ws _ fits. (split_fits (terms_of about) (front ws) v fits, second_fits (terms_of about) (front ws) v fits))
+    (λ new. omega (arith, new.whole)) (λ new. omega (arith, new.whole))
 
 pub unites : (about : About) (id : ℕ) (v : View) (other : ℕ) (w : View) → w.live ≡ true
     → Joins (Rule about) id v other w (joined_view v w) no_view
-unites about id v other w live = joins (IsWhole about) (FitsWhole about) id v other w (joined_view v w) no_view
+unites about id v other w live = joins (IsWhole about) (FitsWhole about) IsNew id v other w (joined_view v w) no_view
     (λ ws _ fits fits'. (joined_fits (terms_of about) (take (2 ^ about.bits) ws) v w live fits fits', λ e. cc))
+    (λ new. record { whole = new.whole; kept = new.kept; met = left_nil v.history w.history new.met }) (λ new. omega (arith, new.whole))
 
 first_table : (t : Terms) (n : ℕ) → n ≡ 2 ^ t.bits → 1 ≤ t.vars → t.vars ≤ MAX_VARS → t.bits ≤ MAX_BITS → IsTable t (replicate n 0)
 first_table t n is low high small = grind (arith, length-replicate, none_filled)
@@ -76,19 +81,24 @@ first_pairs vars ws = grind (arith, All-cons, All-nil, nothing, unit)
 first_fits : (about : About) (n : ℕ) → LiveFits (terms_of about) (replicate n 0) (first_view about)
 first_fits about n = grind (arith, All-nil, pair_cases, Has-nil, sub-nil, unit_none, first_pairs about.vars (replicate n 0))
 
+zeros_vacant : (n i : ℕ) → slice_index (replicate n 0) i ≡ 0
+zeros_vacant zero i = refl
+zeros_vacant (suc n) zero = refl
+zeros_vacant (suc n) (suc i) = zeros_vacant n i
+
 -- a table of vacant words, with its first seat
 pub starts : (about : About) → 1 ≤ about.vars → about.vars ≤ MAX_VARS → about.bits ≤ MAX_BITS
     → Rule about (opening (replicate (2 ^ about.bits + 2 ^ cache_bits about.bits) 0) [] (first_view about))
 starts about low high small =
     let n : ℕ = 2 ^ about.bits in let m : ℕ = 2 ^ cache_bits about.bits in let t : Terms = terms_of about in
     let front : take {A = ℕ} n (replicate (n + m) 0) ≡ replicate n 0 = take-replicate n (n + m) 0 (omega arith) in
-    opens (IsWhole about) (FitsWhole about) (replicate (n + m) 0) (first_view about)
+    opens (IsWhole about) (FitsWhole about) IsNew (replicate (n + m) 0) (first_view about)
     (record {
       size = length-replicate (n + m) 0;
       nodes = rw front (first_table t n refl low high small);
       cache = λ p less. inl (let l : p < m = less in get_or-replicate (n + m) (n + p) 0 0 (omega arith));
     })
-    (λ _. rw front (first_fits about n))
+    (λ _. rw front (first_fits about n)) (zeros_vacant (n + m))
 
 -- the first view is a store
 pub first_sound : (about : About) → 1 ≤ about.vars → about.vars ≤ MAX_VARS → about.bits ≤ MAX_BITS → (v : View) → v ≡ first_view about
@@ -250,7 +260,7 @@ module _ (about : About) (me : Sat) (live : me.0.live ≡ true) where
 
   -- a view that fits the table, and what a step that leaves it tells
   abbrev Left : List ℕ → (Sat → Type 0) → Type 0
-  Left ws Told = (u : View) × Fits t ws u × Told (u, me.1)
+  Left ws Told = (u : View) × Fits t ws u × (IsNew u → IsNew v) × Told (u, me.1)
 
   module _ (ws : List ℕ) (table : IsTable t ws) (fits : Fits t ws v) where
     own_table : IsTable v.terms ws
@@ -267,7 +277,12 @@ module _ (about : About) (me : Sat) (live : me.0.live ≡ true) where
       -- a filled slot is met
       met : (more : List Entry) → FitsHistory (2 ^ v.terms.bits) ws (v.history ++ more)
           → Left ws (λ m. Keeps me m × Meets v more at (slice_index ws at) m.0)
-      met more history = grind (arith, meets v ws own_table own_fits live at filled more history)
+      met more history = let m = meets v ws own_table own_fits live at filled more history in (
+        m.0,
+        (λ _. subst (λ (k : Terms). LiveFits k ws m.0) (fits live).of m.1),
+        (λ new. goes_new v m.0 more m.2.goes m.3 new),
+        (record { bare = refl; sound = m.2.sound; terms = m.2.goes.terms; steps = m.3 }, m.2),
+      )
 
       stands : (w : ℕ) → slice_index ws at ≡ w → Left ws (λ m. Keeps me m × Stands v at w m.0)
       stands w is =
@@ -278,15 +293,16 @@ module _ (about : About) (me : Sat) (live : me.0.live ≡ true) where
       -- with the word asked for, or another one
       found : (w : ℕ) (last : Bool) → EndsPath v w at last → let x = slice_index ws at in
           Left ws (λ m. Keeps me m × (((x ≡ w) × Stands v at w m.0) ⊎ Passes v last at x w m.0))
-      found w last end = dite (ℕ_discrete (slice_index ws at) w) (λ is. let l = stands w is in (l.0, l.1, (l.2.0, inl (is, l.2.1))))
+      found w last end = dite (ℕ_discrete (slice_index ws at) w) (λ is. let l = stands w is in (l.0, l.1, l.2, (l.3.0, inl (is, l.3.1))))
           (λ ne.
           let l = met (passing last (suc (suc at)) (slice_index ws at) w) (passes v ws own_table own_fits w at filled ne last end) in (
             l.0,
             l.1,
+            l.2,
             (
-              l.2.0,
+              l.3.0,
               inr (record
-                  { some = filled; differs = ne; meets = l.2.1; over = passes_over v ws own_table own_fits w at filled ne last end }),
+                  { some = filled; differs = ne; meets = l.3.1; over = passes_over v ws own_table own_fits w at filled ne last end }),
             ),
           ))
 
@@ -299,13 +315,15 @@ module _ (about : About) (me : Sat) (live : me.0.live ≡ true) where
   -- a load keeps the rule
   pub probes : (slots id at asked : ℕ) (last : Bool) → at < 2 ^ v.terms.bits → EndsPath v asked at last
       → Allows (Rule about) slots id me at (λ n. n) (Probed asked last at me)
-  probes slots id at asked last less end = node_looks nodes words (IsTable t) (Fits t) (IsVacantOrTrue t) slots id me at
-      (Probed asked last at me) (inside at less) (λ ws table fits. dite (ℕ_discrete (slice_index ws at) 0)
+  probes slots id at asked last less end = node_looks nodes words (IsTable t) (Fits t) IsNew (IsVacantOrTrue t) slots id me at
+      (Probed asked last at me) (inside at less) (λ ws table fits first. dite (ℕ_discrete (slice_index ws at) 0)
       (λ vacant. (
         v,
         fits,
+        (λ new. new),
         (
           unchanged ws table fits,
+          first,
           inl (record {
             none = vacant;
             same = refl;
@@ -315,7 +333,7 @@ module _ (about : About) (me : Sat) (live : me.0.live ≡ true) where
         ),
       ))
       (λ filled. let l = found ws table fits at filled asked last end in
-      (l.0, l.1, (l.2.0, inr (elim l.2.1 [ inl s ↦ inr s | inr p ↦ inl p ])))))
+      (l.0, l.1, l.2, (l.3.0, first, inr (elim l.3.1 [ inl s ↦ inr s | inr p ↦ inl p ])))))
 
   -- a cache word stays true
   stays_true : (ws later : List ℕ) → KeepsWords ws later → (p y : ℕ) → IsVacantOrTrue t ws p y → IsVacantOrTrue t later p y
@@ -325,7 +343,7 @@ module _ (about : About) (me : Sat) (live : me.0.live ≡ true) where
   -- an exchange for a vacant word keeps the rule
   pub exchanges : (slots id at w d : ℕ) (last : Bool) → at < 2 ^ v.terms.bits → IsAsked v w → IsNext v w d at → EndsPath v w at last
       → Allows (Rule about) slots id me at (λ n. either (eqb n 0) w n) (Exchanged last at w me)
-  exchanges slots id at w d last less asked next end = node_trades nodes words (IsTable t) (Fits t) (IsVacantOrTrue t) slots id me at
+  exchanges slots id at w d last less asked next end = node_trades nodes words (IsTable t) (Fits t) IsNew (IsVacantOrTrue t) slots id me at
       (Exchanged last at w me) (inside at less) 0 w
       (λ ws table fits vacant.
       let own = own_fits ws table fits in let mine = own_table ws table fits in
@@ -334,15 +352,24 @@ module _ (about : About) (me : Sat) (live : me.0.live ≡ true) where
       (filled_table v ws mine own w asked d at next less vacant) in
       let stay : (u : View) → Fits t ws u → Fits t (set ws at w) u = λ u f live'. live_grows t ws (set ws at w) u still (f live') in
       let l = stands (set ws at w) whole (stay v fits) at (here_filled v ws mine own w asked d at next less vacant) w
-      (here v ws mine own w asked d at next less vacant) in
-      ((l.0, whole, stay, l.1, (l.2.0, inl (inl vacant, l.2.1))), stays_true ws (set ws at w) still))
-      (λ ws table fits filled. let l = found ws table fits at filled w last end in
-      (l.0, l.1, (l.2.0, elim l.2.1 [ inl s ↦ inl (inr s.0, s.1) | inr p ↦ inr p ])))
+      (here v ws mine own w asked d at next less vacant) in (
+        (
+          l.0,
+          whole,
+          stay,
+          l.1,
+          (λ new. absurd (met_not_new v l.0 _ _ (l.3.1).meets.goes new)),
+          (l.3.0, (λ _. vacant), inl (inl vacant, l.3.1)),
+        ),
+        stays_true ws (set ws at w) still,
+      ))
+      (λ ws table fits first filled. let l = found ws table fits at filled w last end in
+      (l.0, l.1, l.2, (l.3.0, first, elim l.3.1 [ inl s ↦ inl (inr s.0, s.1) | inr p ↦ inr p ])))
 
   -- a load that changes nothing keeps the rule
   pub checks : (slots id at : ℕ) → at < 2 ^ v.terms.bits → Allows (Rule about) slots id me at (λ n. n) (λ _ after. Checked me after)
-  checks slots id at less = node_looks nodes words (IsTable t) (Fits t) (IsVacantOrTrue t) slots id me at (λ _ after. Checked me after)
-      (inside at less) (λ ws table fits. (v, fits, (unchanged ws table fits, refl)))
+  checks slots id at less = node_looks nodes words (IsTable t) (Fits t) IsNew (IsVacantOrTrue t) slots id me at (λ _ after. Checked me after)
+      (inside at less) (λ ws table fits _. (v, fits, (λ new. new), (unchanged ws table fits, refl)))
 
   -- ---- steps on cache words
 
@@ -356,14 +383,15 @@ module _ (about : About) (me : Sat) (live : me.0.live ≡ true) where
 
     -- what a load leaves where something is learned from the word
     looked : (ws : List ℕ) (table : IsTable t ws) (fits : Fits t ws v) (x : ℕ) (add : Addition v ws) → add.entries ≡ []
-        → add.last ≡ Some (p, x) → add.loads ≡ suc v.loads
+        → add.last ≡ Some (p, x) → add.loads ≡ suc v.loads → (IsNew v → x ≡ 0)
         → ((name : List ℕ) → let u = learned v ws (own_table ws table fits) (own_fits ws table fits) add in
         (x ≡ 0) ⊎ IsKept (view_state name v) (view_state name u) v.terms.bits p x) → Left ws (Looked at me x)
-    looked ws table fits x add none last loads word =
+    looked ws table fits x add none last loads first word =
         let mine = own_table ws table fits in
         let own = own_fits ws table fits in (
           learned v ws mine own add,
           (λ _. subst (λ (k : Terms). LiveFits k ws (learned v ws mine own add)) (fits live).of (learned_fits v ws mine own add)),
+          (λ new. record { whole = new.whole; kept = new.kept; met = left_nil v.history add.entries new.met }),
           record {
             bare = refl;
             sound = learned_sound v ws mine own add live;
@@ -376,14 +404,15 @@ module _ (about : About) (me : Sat) (live : me.0.live ≡ true) where
               stores = v.stores;
               splits = v.splits;
             };
+            vacant = first;
             word = λ name place e. rw (same_place place e) at (word name);
           },
         )
 
     -- a load keeps the rule
     pub loads : (slots id : ℕ) → Allows (Rule about) slots id me at (λ n. n) (Looked at me)
-    loads slots id = cache_looks nodes words (IsTable t) (Fits t) (IsVacantOrTrue t) slots id me at p inside_cache (Looked at me)
-        (λ ws table fits x told. elim told [
+    loads slots id = cache_looks nodes words (IsTable t) (Fits t) IsNew (IsVacantOrTrue t) slots id me at p inside_cache (Looked at me)
+        (λ ws table fits x told first. elim told [
           | inl none ↦ looked ws table fits x (record {
             extra = [];
             pairs = All-nil (IsPair v.terms.vars ws);
@@ -393,9 +422,9 @@ module _ (about : About) (me : Sat) (live : me.0.live ≡ true) where
             history = rw append-nil (own_fits ws table fits).history;
             last = Some (p, x);
             loads = suc v.loads;
-          }) refl refl refl (λ name. inl none)
+          }) refl refl refl first (λ name. inl none)
           | inr word ↦ let true_word = subst (λ (k : Terms). IsTrueWord (cache_bits k.bits) k.vars ws p x) (sym (fits live).of) word in
-              looked ws table fits x (kept v ws (own_table ws table fits) (own_fits ws table fits) p x true_word) refl refl refl
+              looked ws table fits x (kept v ws (own_table ws table fits) (own_fits ws table fits) p x true_word) refl refl refl first
               (λ name. inr (looked_kept v ws (own_table ws table fits) (own_fits ws table fits) p x true_word name))
         ])
 
@@ -407,7 +436,7 @@ module _ (about : About) (me : Sat) (live : me.0.live ≡ true) where
     -- and keeps the rule
     pub stores : (slots id x : ℕ) (name : List ℕ) → IsShown (view_state name v) v.terms.bits p x
         → Allows (Rule about) slots id me at (λ _. x) (λ _. Stored at me x)
-    stores slots id x name shown = cache_stores nodes words (IsTable t) (Fits t) (IsVacantOrTrue t) slots id me at p inside_cache x
+    stores slots id x name shown = cache_stores nodes words (IsTable t) (Fits t) IsNew (IsVacantOrTrue t) slots id me at p inside_cache x
         (Stored at me x) (λ ws table fits.
         let mine = own_table ws table fits in let own = own_fits ws table fits in
         let u : View = record v { put = Some (p, x); stores = suc v.stores } in
@@ -417,6 +446,7 @@ module _ (about : About) (me : Sat) (live : me.0.live ≡ true) where
           (
             u,
             (λ _. subst (λ (k : Terms). LiveFits k ws u) (fits live).of fit),
+            (λ new. omega (arith, new.kept)),
             record {
               bare = refl;
               sound = sound u ws mine fit live;

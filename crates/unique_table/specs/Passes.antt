@@ -24,6 +24,11 @@ token_steps t = steps_of t.seat.me.0
 abbrev pub no_steps : Steps
 no_steps = record { last = None; put = None; loads = 0; stores = 0; splits = 0 }
 
+-- nothing was done to the table of a seat in this state, with these steps: it was never split, stored no cache word and met no slot, and
+-- so no other seat is there
+abbrev pub IsUntouched : State → Steps → Type 0
+IsUntouched s k = (k.splits ≡ 0) × (k.stores ≡ 0) × (s.history ≡ [])
+
 -- the name of a table
 unfoldable pub table_name : Shared → List ℕ
 table_name s = name_of s.table.shared.table_id

@@ -58,9 +58,15 @@ IsWhole about = IsBoth (2 ^ about.bits) (2 ^ cache_bits about.bits) (IsTable (te
 abbrev pub FitsWhole : About → List ℕ → View → Type 0
 FitsWhole about = FitsNodes (2 ^ about.bits) (Fits (terms_of about))
 
--- the table, and each view by itself
+-- no seat was split off, no cache word was stored and no slot was met: so nothing was done to the table
+pub record IsNew (v : View) : Type 0 where
+  pub whole : v.splits ≡ 0
+  pub kept : v.stores ≡ 0
+  pub met : v.history ≡ []
+
+-- the table, each view by itself, and a seat that is new: it is the only one, and all words are vacant
 abbrev pub Rule : About → State (Unit {0}) View → Type 0
-Rule about = ByViews (IsWhole about) (FitsWhole about)
+Rule about = ByViews (IsWhole about) (FitsWhole about) IsNew
 
 -- ---- views
 
@@ -85,7 +91,7 @@ split_view v = record v { splits = suc v.splits }
 
 -- a second seat knows what the first one knows, and has no history yet
 abbrev pub second_view : View → View
-second_view v = record v { history = [] }
+second_view v = record v { history = []; splits = suc v.splits }
 
 -- the held families with those of another list
 abbrev pub with_family : List Family → Family → List Family
@@ -109,7 +115,7 @@ no_view = record {
   put = None;
   loads = 0;
   stores = 0;
-  splits = 0;
+  splits = 1;
 }
 
 -- the seat is a store, each handle that it knows is one of a table of this size, and each pair is what it knows

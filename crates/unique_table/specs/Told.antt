@@ -10,7 +10,7 @@ use Rattle.lattice.specs.declared.entry.Entry.TheVariants.{Met, Ask, Full}
 use Rattle.unique_table.specs.declared.view.View.{View}
 use Rattle.unique_table.specs.Views.{known_by, view_state, steps_of, after_load, after_store}
 use Rattle.unique_table.specs.Kept.{IsKept}
-use Rattle.unique_table.specs.Rule.{IsSoundView}
+use Rattle.unique_table.specs.Rule.{IsNew, IsSoundView}
 
 -- ---- a view goes on
 
@@ -126,15 +126,16 @@ pub record IsVacant (v : View) (s found : ℕ) (u : View) : Type 0 where
   pub same : u ≡ v
   pub unknown : known_by v.known (suc (suc s)) ≡ None
 
--- a load at the slot s finds no word, another one, or the one asked for
+-- a load at the slot s finds no word, another one, or the one asked for. A seat that is new finds none
 abbrev pub Probed : ℕ → Bool → ℕ → Sat → ℕ → Sat → Type 0
 Probed asked last s m found m' =
-    Keeps m m' × (IsVacant m.0 s found m'.0 ⊎ (Passes m.0 last s found asked m'.0 ⊎ ((found ≡ asked) × Stands m.0 s asked m'.0)))
+    Keeps m m' × (IsNew m.0 → found ≡ 0) × (IsVacant m.0 s found m'.0 ⊎ (Passes m.0 last s found asked m'.0 ⊎ ((found ≡ asked) × Stands m.0 s asked m'.0)))
 
--- an exchange of the word into the slot s leaves it there where it found no word or the word itself, and else another one
+-- an exchange of the word into the slot s leaves it there where it found no word or the word itself, and else another one. A seat that
+-- is new finds none
 abbrev pub Exchanged : Bool → ℕ → ℕ → Sat → ℕ → Sat → Type 0
 Exchanged last s w m found m' =
-    Keeps m m' × ((((found ≡ 0) ⊎ (found ≡ w)) × Stands m.0 s w m'.0) ⊎ Passes m.0 last s found w m'.0)
+    Keeps m m' × (IsNew m.0 → found ≡ 0) × ((((found ≡ 0) ⊎ (found ≡ w)) × Stands m.0 s w m'.0) ⊎ Passes m.0 last s found w m'.0)
 
 -- a load that changes nothing
 abbrev pub Checked : Sat → Sat → Type 0
@@ -147,6 +148,7 @@ pub record Looked (at : ℕ) (m : Sat) (found : ℕ) (m' : Sat) : Type 0 where
   pub terms : m'.0.terms ≡ m.0.terms
   pub goes : Goes m.0 [] m'.0
   pub steps : (place : ℕ) → at ≡ 2 ^ m.0.terms.bits + place → steps_of m'.0 ≡ after_load (steps_of m.0) place found
+  pub vacant : IsNew m.0 → found ≡ 0
   pub word : (name : List ℕ) (place : ℕ) → at ≡ 2 ^ m.0.terms.bits + place
       → (found ≡ 0) ⊎ IsKept (view_state name m.0) (view_state name m'.0) m.0.terms.bits place found
 

@@ -22,8 +22,8 @@ abbrev pub name_of : TableId → List ℕ
 name_of z = z.words ∷ z.slots ∷ z.views_name ∷ z.atom ∷ z.block ∷ z.offset ∷ z.slot_names
 
 -- what a seat did that its history does not tell: the place and the word of the cache word that it loaded last, and of the one
--- that it stored last, how many it loaded, how many it stored, and how many seats were split off it. A seat that is split off
--- another goes on from what that one did
+-- that it stored last, how many it loaded, how many it stored, and how many splits it came out of, as the one or as the other seat.
+-- A seat that is split off another goes on from what that one did
 pub record Steps : Type 0 where
   pub last : Option (ℕ × ℕ)
   pub put : Option (ℕ × ℕ)
@@ -43,7 +43,7 @@ after_load s place w = record s { last = Some (place, w); loads = suc s.loads }
 abbrev pub after_store : Steps → ℕ → ℕ → Steps
 after_store s place w = record s { put = Some (place, w); stores = suc s.stores }
 
--- one seat was split off
+-- it was split in two
 abbrev pub after_split : Steps → Steps
 after_split s = record s { splits = suc s.splits }
 

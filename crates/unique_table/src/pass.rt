@@ -1,11 +1,11 @@
 //! The table, and the passes over it.
-ghost use Rattle.std.specs.Prelude.{◌≡◌, ◌≢◌, ◌==◌, ℕ, suc, List, ◌+◌, ◌<◌, ◌≤◌, ◌^◌, ◌⊎◌, MatchBool, IfSome, IfNone, IfOk, Some, None, true, [], ◌∷◌, ◌++◌};
+ghost use Rattle.std.specs.Prelude.{◌≡◌, ◌≢◌, ◌==◌, ℕ, suc, List, ◌+◌, ◌<◌, ◌≤◌, ◌^◌, ◌⊎◌, MatchBool, IsSome, IfSome, IfNone, IfOk, Some, None, true, [], ◌∷◌, ◌++◌};
 ghost use Rattle.lattice.specs.Family.{Family};
 ghost use Rattle.lattice.specs.NodeWords.{place, cache_bits};
 ghost use Rattle.lattice.specs.declared.limits.TheConstants.{MAX_VARS, MIN_BITS, MAX_BITS};
 ghost use Rattle.lattice.specs.declared.entry.Entry.TheVariants.{Met};
 ghost use Rattle.unique_table.specs.Views.{known_by};
-ghost use Rattle.unique_table.specs.Rule.{first_view, second_view, joined_view, IsSoundView};
+ghost use Rattle.unique_table.specs.Rule.{first_view, second_view, joined_view, IsNew, IsSoundView};
 ghost use Rattle.unique_table.specs.Told.{IsAsked, IsNext, EndsPath, Probed, Exchanged, Stands, Passes, Interned, AllOthers, Meets};
 ghost use Rattle.unique_table.specs.PassLaws.{IsSoundView-prop};
 
@@ -52,17 +52,18 @@ pub struct Pass<'t> {
 }
 
 impl Shared {
-    ghost use Rattle.unique_table.specs.Passes.{token_state, token_steps, token_table, first_state, no_steps, IsOf};
+    ghost use Rattle.unique_table.specs.Passes.{token_state, token_steps, token_table, first_state, no_steps, IsUntouched, IsOf};
     ghost use Rattle.unique_table.specs.PassOf.{pass_state, pass_steps};
 
     /// A vacant table of 2^bits slots and as many kept results, or 2^12 where these are more, over so many variables, and
-    /// the token of its first seat.
+    /// the token of its first seat, with which nothing was done to the table yet.
     pub fn make(alloc: Global, bits: u32, vars: u32, plan: Plan) -> Result<(Shared, Token), Memory>
         requires bits { (MIN_BITS ≤ bits) × (bits ≤ MAX_BITS) }
         requires vars { (1 ≤ vars) × (vars ≤ MAX_VARS) }
         ensures of { IfOk result (λ r. IsOf r.1 r.0) }
         ensures state { IfOk result (λ r. token_state r.1 ≡ first_state (token_table r.1) bits vars plan.families) }
         ensures steps { IfOk result (λ r. token_steps r.1 ≡ no_steps) }
+        ensures vacant { IfOk result (λ r. IsUntouched (token_state r.1) (token_steps r.1)) }
     {
         let count = (1usize << bits) + cache_size(bits);
         let spare = Vec::from_elem(alloc, 0u64, spare_count(count))?;
@@ -100,7 +101,7 @@ impl<'t> Pass<'t> {
     ghost use Rattle.node_store.specs.Stores.{Reads};
     ghost use Rattle.unique_table.specs.Kept.{IsShown, IsKept};
     ghost use Rattle.unique_table.specs.Views.{after_load, after_store, after_split};
-    ghost use Rattle.unique_table.specs.Passes.{token_state, token_steps, table_name, IsJoined, twin_of};
+    ghost use Rattle.unique_table.specs.Passes.{token_state, token_steps, table_name, IsJoined, IsUntouched, twin_of};
     ghost use Rattle.unique_table.specs.PassOf.{pass_state, pass_steps, bits_of, AreOfOne};
 
     /// Gives the token back with all that it knows.
@@ -159,6 +160,7 @@ impl<'t> Pass<'t> {
         requires next { IsNext self.old.seat.me.0 word steps (place self.old.bits word steps) }
         ensures same { AreOfOne self.old self.new }
         ensures some { IfSome result (λ at. (at ≡ place self.old.bits word steps) × Stands self.old.seat.me.0 at word self.new.seat.me.0) }
+        ensures vacant { IsNew self.old.seat.me.0 → IsSome result }
         ensures none { IfNone result ((other : ℕ) × Passes self.old.seat.me.0 J.last (place self.old.bits word steps) other word self.new.seat.me.0) }
     {
         let place = probe_place(self.bits, word, steps);
@@ -190,6 +192,7 @@ impl<'t> Pass<'t> {
         ensures same { AreOfOne self.old self.new }
         ensures some { IfSome result (λ at. (at < 2 ^ self.old.bits) × Interned self.old.seat.me.0 word at self.new.seat.me.0) }
         ensures none { IfNone result (AllOthers self.old.seat.me.0 word self.new.seat.me.0) }
+        ensures vacant { IsNew self.old.seat.me.0 → result ≡ Some (place self.old.bits word 0) }
     {
         for steps in 0..self.slots() {
             let slot = self.visit::<Brand>(word, steps);
@@ -218,12 +221,13 @@ impl<'t> Pass<'t> {
         self.bits
     }
 
-    /// Loads the cache word of the place. It is vacant, or that of a key at this place: where the pass knows the handles of
-    /// the key, it knows the result afterwards.
+    /// Loads the cache word of the place. It is vacant, as all are in a new table, or that of a key at this place: where the pass
+    /// knows the handles of the key, it knows the result afterwards.
     pub fn cache_load(&mut self, place: u32) -> u64
         requires { place < 2 ^ cache_bits (bits_of self.old) }
         ensures reads { Reads (pass_state self.old) (pass_state self.new) }
         ensures history { (pass_state self.new).history ≡ (pass_state self.old).history }
+        ensures vacant { IsUntouched (pass_state self.old) (pass_steps self.old) → result ≡ 0 }
         ensures word { (result ≡ 0) ⊎ IsKept (pass_state self.old) (pass_state self.new) (bits_of self.old) place result }
         ensures steps { pass_steps self.new ≡ after_load (pass_steps self.old) place result }
         ensures bits { bits_of self.new ≡ bits_of self.old }
@@ -254,7 +258,7 @@ impl<'t> Pass<'t> {
     pub fn split(&mut self) -> Pass<'t>
         ensures same { pass_state self.new ≡ pass_state self.old }
         ensures twin { pass_state result ≡ twin_of (pass_state self.old) }
-        ensures steps { (pass_steps self.new ≡ after_split (pass_steps self.old)) × (pass_steps result ≡ pass_steps self.old) }
+        ensures steps { (pass_steps self.new ≡ after_split (pass_steps self.old)) × (pass_steps result ≡ after_split (pass_steps self.old)) }
     {
         let seat = self.table.table.shared.split_seat::<Twin>(&mut self.seat);
         Pass {
@@ -288,8 +292,8 @@ impl<'t> Store for Pass<'t> {
     ghost use Rattle.std.specs.Prelude.{MatchResult, IsNone, IfSome, ◌↔◌};
     ghost use Rattle.lattice.specs.Family.{Has};
     ghost use Rattle.node_store.specs.Stores.{IsNode, node_family, family, Knows, AreOperands, IsResult, Builds, Reads};
-    ghost use Rattle.unique_table.specs.Passes.{IsInterned, FindsFull, HasMet};
-    ghost use Rattle.unique_table.specs.PassOf.{pass_state, pass_steps, pass_sound};
+    ghost use Rattle.unique_table.specs.Passes.{IsUntouched, IsInterned, FindsFull, HasMet, word_of};
+    ghost use Rattle.unique_table.specs.PassOf.{pass_state, pass_steps, pass_sound, bits_of};
 
     ghost state = { pass_state };
 
@@ -308,6 +312,9 @@ impl<'t> Store for Pass<'t> {
         ensures same { IfOk result (λ h. (k : ℕ) → (pass_state self.old).known k ≡ Some (node_family (pass_state self.old) n.now) → h.0 ≡ k) }
 
         ensures steps { pass_steps self.new ≡ pass_steps self.old }
+
+        // In a new table a node takes the first slot of its path.
+        ensures vacant { IsUntouched (pass_state self.old) (pass_steps self.old) → MatchResult result (λ h. h.0 ≡ suc (suc (place (bits_of self.old) (word_of n.now) 0))) (λ _. ⊥) }
 
         // What it adds to the history.
         ensures history { MatchResult result (IsInterned (pass_state self.old) (pass_state self.new) n.now) (λ _. FindsFull (pass_state self.old) (pass_state self.new) n.now) }

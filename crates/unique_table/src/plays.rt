@@ -45,7 +45,7 @@ impl<J: Asked> Play<(), View> for Insert<J> {
     ghost then = { λ step. Exchanged J.last step.word step.second };
 }
 
-/// Both know what the one knew, the first one counts the split, and the second has no history.
+/// Both know what the one knew and count the split, and the second has no history.
 pub struct Twin;
 
 impl Split<View> for Twin {

@@ -11,4 +11,5 @@ visit-slot-requires-clause-next c =
 
 pub loop-steps-preserved : goal.loop-steps-preserved
 loop-steps-preserved c = walked_more c.args.self.now c.args.word c.loop-steps.steps c.loop-steps.self c.loop-steps.invariant (grind arith)
-    c.visit-slot.new.self c.visit-slot.ensures.same (grind (arith, c.visit-slot.ensures.none))
+    c.visit-slot.new.self c.visit-slot.ensures.same (λ new. grind (arith, c.visit-slot.ensures.vacant new))
+    (grind (arith, c.visit-slot.ensures.none))
