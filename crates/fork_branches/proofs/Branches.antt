@@ -1,12 +1,16 @@
 -- Two branches on one table: each goes on from a twin of the state, which then takes in what both know.
-use Rattle.std.proofs.Common.{◌≡◌, ◌∙◌, arith, Result, Ok, Err, List, rules}
+use Rattle.std.proofs.Common.{◌≡◌, ◌∙◌, ◌++◌, ◌<◌, ◌≤◌, ℕ, ap, arith, Result, Ok, Err, OnErr, List, rules}
 use Rattle.lattice.specs.Words.{Family, Rose}
 use Rattle.node_store.specs.Stores.{State, Grows, IsFull, IsSound, Gives, Reads}
 use Rattle.node_store.specs.declared.store.Handle.{Handle}
 use Rattle.node_store.specs.declared.store.Full.{Full}
 use Rattle.node_store.proofs.StoreLaws.{Grows-refl, Grows-trans}
 use Rattle.unique_table.specs.Passes.{IsJoined, twin_of}
-use Rattle.fork_branches.specs.Branches.{GivesBoth, pair_of}
+use Rattle.lattice.specs.declared.entry.Entry.{Entry}
+use Rattle.lattice.specs.declared.op.Op.{Op}
+use Rattle.set_algebra.specs.Pairs.{AreCofactors, AreInOrder}
+use Rattle.set_algebra.specs.declared.pairs.Cofactors.{Cofactors}
+use Rattle.fork_branches.specs.Branches.{GivesBoth, TakesBoth, ForksCombining, IsForkedCombining, ForksFinding, IsForkedFinding, pair_of}
 
 -- s is the state, whose twin went on to y, and t, a later state of s, took in what y knows, which gives u
 module _ {s y t u : State} (later : Grows s t) (joined : IsJoined t y u) where
@@ -35,6 +39,50 @@ module _ {s y u w v : State} {f g : Family} {needed more : List Family} (oks : I
   both_gives (Err e) hi low high =
       search (joined_grows one two, full_later okv two.grows (branch_full (Grows-refl s) one low.grows low.full), rules)
   both_gives (Ok lo) (Err e) low high = search (joined_grows one two, branch_full one.grows two high.grows high.full, rules)
+
+-- u knows, holds and did what s and y did, and v what u and w did
+pub takes_both : {s y u w v : State} → IsJoined s y u → IsJoined u w v → TakesBoth s y w v
+takes_both {w = w} one two = record {
+  grows = joined_grows one two;
+  first_known = λ h f is. two.grows.known h f (one.known h f is);
+  second_known = two.known;
+  first_held = λ f i. two.grows.held f (one.held f i);
+  second_held = two.held;
+  history = two.history ∙ ap (λ (es : List Entry). es ++ w.history) one.history;
+}
+
+-- a pointwise operation that was cut, where what ran on both halves is known
+pub forked_combining : {op : Op} {s here joined t : State} {a b x y : Handle} {workers before : ℕ} {c : Cofactors}
+    {r : Result (Handle × Handle) Full} → AreInOrder op a b x y → Reads s here → AreCofactors s here x y c
+    → (2 ≤ workers → c.var < before → ForksCombining op here joined c.a_low c.b_low c.a_high c.b_high r) → Grows joined t
+    → IsForkedCombining op s t a b workers before
+forked_combining {here = here} {joined = joined} {x = x} {y = y} {c = c} {r = r} order reads are forks later = record {
+  x = x;
+  y = y;
+  order = order;
+  forked = record { here = here; reads = reads; cofactors = c; are = are; joined = joined; result = r; forks = forks; later = later };
+}
+
+-- and for the points where a polynomial is 1
+pub forked_finding : {s here joined t : State} {h set x y : Handle} {workers before : ℕ} {c : Cofactors}
+    {r : Result (Handle × Handle) Full} → (x ≡ h) × (y ≡ set) → Reads s here → AreCofactors s here x y c
+    → (2 ≤ workers → c.var < before → ForksFinding here joined c.a_low c.b_low c.a_high c.b_high r) → Grows joined t
+    → IsForkedFinding s t h set workers before
+forked_finding {here = here} {joined = joined} {c = c} {r = r} same reads are forks later = record {
+  here = here;
+  reads = reads;
+  cofactors = c;
+  are = rw (same.0, same.1) at are;
+  joined = joined;
+  result = r;
+  forks = forks;
+  later = later;
+}
+
+-- a fact that holds anyway
+pub on_err : {A P : Type 0} (r : Result A Full) → P → OnErr r P
+on_err (Ok a) is = tt
+on_err (Err e) is = is
 
 -- ---- two calls one after the other
 

@@ -1,5 +1,5 @@
 -- What a list of jobs gives that were all run.
-use Rattle.std.specs.Prelude.{◌≡◌, ℕ, ◌<◌, List, [], ◌∷◌, length, slice_index_or, slice_set}
+use Rattle.std.specs.Prelude.{◌≡◌, ℕ, ◌<◌, Result, Ok, Err, List, [], ◌∷◌, length, slice_index_or, slice_set}
 use Rattle.lattice.specs.Family.{Covers}
 use Rattle.node_store.specs.Stores.{State, Denotes, IsFull}
 use Rattle.node_store.specs.declared.store.Handle.{Handle}
@@ -19,6 +19,12 @@ pub record AreSolved (tasks : Tasks) (s t : State) (handles : List Handle) : Typ
 abbrev pub Refuses : State → State → SolveRefusal → Type 0
 Refuses s t Full = IsFull s t
 Refuses s t Memory = t ≡ s
+
+-- the jobs were run: memory did not run out
+abbrev pub AreRun : {A : Type 0} → Result A SolveRefusal → Type 0
+AreRun (Ok a) = Unit {0}
+AreRun (Err Full) = Unit {0}
+AreRun (Err Memory) = ⊥
 
 -- each answer's handle put at its number
 abbrev pub placed : List Answer → List Handle → List Handle

@@ -1,16 +1,17 @@
 -- What job workers are asked and what they leave: numbers drawn, and an answer for each that is the number of a job.
-use Rattle.std.specs.Prelude.{◌≡◌, ℕ, ◌+◌, ◌-◌, ◌/◌, ◌^◌, ◌<◌, ◌≤◌, ◌⊎◌, Result, Ok, Err, OnOk, OnErr, List, [], ◌++◌, length}
+use Rattle.std.specs.Prelude.{◌≡◌, ℕ, ◌+◌, ◌-◌, ◌/◌, ◌^◌, ◌<◌, ◌≤◌, ◌⊎◌, Result, OnOk, OnErr, List, [], ◌++◌, length}
 use Rattle.std.specs.Prelude.{vec_capacity}
 use Rattle.std.specs.List.{Contains}
 use Rattle.lattice.specs.Family.{Covers}
 use Rattle.node_store.specs.Stores.{State, Denotes, Grows, IsFull}
 use Rattle.node_store.specs.declared.store.Full.{Full}
-use Rattle.unique_table.specs.Passes.{token_state, IsOf}
+use Rattle.unique_table.specs.Passes.{token_state, twin_of, IsOf}
 use Rattle.unique_table.specs.declared.pass.Shared.{Shared}
 use Rattle.unique_table.specs.declared.pass.Token.{Token}
 use Rattle.job_counter.specs.Drawing.{Drawing, drawing, name}
 use Rattle.job_counter.specs.declared.counter.Counter.{Counter}
 use Rattle.job_counter.specs.declared.counter.Drawer.{Drawer}
+use Rattle.fork_branches.specs.Branches.{TakesBoth}
 use Rattle.fork_branches.specs.Jobs.{Tasks, needed_by, KnowsUses}
 use Rattle.fork_branches.specs.declared.crew.Answer.{Answer}
 use Rattle.fork_branches.specs.declared.crew.Worker.{Worker}
@@ -102,7 +103,23 @@ pub record IsBack (tasks : Tasks) (table : Shared) (token : Token) (drawer : Dra
   pub draws : GoesOnDrawing (drawing drawer) (drawing back.drawer)
   pub works : Works tasks (token_state token) (token_state back.token) (drawing back.drawer).drawn (answers_of back.crew.value) back.result
 
--- both are done, or one found the store full
-abbrev pub both_of : {A : Type 0} → Result A Full → Result A Full → Result A Full
-both_of (Ok x) r = r
-both_of (Err e) r = Err e
+-- both halves of a crew worked, each from a twin of s and to the token that it gave back, and t took in what both know, hold and did,
+-- whether or not one of them found the store full
+pub record WorksInHalves (tasks : Tasks) (s t : State) : Type 0 where
+  pub first : Token
+  pub second : Token
+  pub first_drew : List ℕ
+  pub second_drew : List ℕ
+  pub front : List Answer
+  pub back : List Answer
+  pub first_result : Result (Unit {0}) Full
+  pub second_result : Result (Unit {0}) Full
+  pub one : Works tasks (twin_of s) (token_state first) first_drew front first_result
+  pub two : Works tasks (twin_of s) (token_state second) second_drew back second_result
+  pub takes : TakesBoth s (token_state first) (token_state second) t
+
+-- the crew has two halves
+abbrev pub HasHalves : Crew → Type 0
+HasHalves Away = ⊥
+HasHalves (One w) = ⊥
+HasHalves (Two' p a q b) = Unit {0}

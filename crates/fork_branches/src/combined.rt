@@ -1,11 +1,11 @@
 //! The operations that tell for each number alone whether it is in the result, in two branches.
-ghost use Rattle.std.specs.Prelude.{◌≡◌, ◌≤◌, true};
+ghost use Rattle.std.specs.Prelude.{◌≡◌, ◌≤◌, ◌<◌, OnErr, true};
 ghost use Rattle.std.specs.Thread.{IsSync};
 ghost use Rattle.lattice.specs.Operations.{is_pointwise};
 ghost use Rattle.set_algebra.specs.Pairs.{Asks};
 ghost use Rattle.unique_table.specs.Passes.{token_state, IsOf};
 ghost use Rattle.computed_cache.specs.Cached.{cached_state};
-ghost use Rattle.fork_branches.specs.Branches.{Combines, CombinesBoth};
+ghost use Rattle.fork_branches.specs.Branches.{Combines, CombinesBoth, ForksCombining, IsForkedCombining};
 
 use crate::pairs::pair_of;
 use computed_cache::CachedPass;
@@ -43,7 +43,8 @@ fn combine_both<R: Threads + Sync, G: Gate + Sync>(
     requires op { is_pointwise op ≡ true }
     requires low { Asks op (cached_state store.old) c.a_low c.b_low }
     requires high { Asks op (cached_state store.old) c.a_high c.b_high }
-    ensures { CombinesBoth op (cached_state store.old) (cached_state store.new) c.a_low c.b_low c.a_high c.b_high result }
+    ensures gives { CombinesBoth op (cached_state store.old) (cached_state store.new) c.a_low c.b_low c.a_high c.b_high result }
+    ensures forks { ForksCombining op (cached_state store.old) (cached_state store.new) c.a_low c.b_low c.a_high c.b_high result }
 {
     let table = store.table();
     let first = store.split().end().end();
@@ -112,7 +113,9 @@ fn combine_halves<R: Threads + Sync, G: Gate + Sync>(
     requires op { is_pointwise op ≡ true }
     requires low { Asks op (cached_state store.old) c.a_low c.b_low }
     requires high { Asks op (cached_state store.old) c.a_high c.b_high }
-    ensures { CombinesBoth op (cached_state store.old) (cached_state store.new) c.a_low c.b_low c.a_high c.b_high result }
+    ensures gives { CombinesBoth op (cached_state store.old) (cached_state store.new) c.a_low c.b_low c.a_high c.b_high result }
+    ensures forks { 2 ≤ workers → c.var < first.old → ForksCombining op (cached_state store.old) (cached_state store.new) c.a_low c.b_low c.a_high c.b_high result }
+    ensures first { first.new ≤ first.old }
 {
     if workers < 2 || *first <= c.var {
         return combine_in_row(store, op, c);
@@ -137,7 +140,9 @@ pub(crate) fn combine_in<R: Threads + Sync, G: Gate + Sync>(
     requires workers { 1 ≤ workers }
     requires op { is_pointwise op ≡ true }
     requires asks { Asks op (cached_state store.old) a b }
-    ensures { Combines op (cached_state store.old) (cached_state store.new) a b result }
+    ensures combines { Combines op (cached_state store.old) (cached_state store.new) a b result }
+    ensures full { OnErr result (IsForkedCombining op (cached_state store.old) (cached_state store.new) a b workers first.old) }
+    ensures first { first.new ≤ first.old }
 {
     match begin(store, op, a, b) {
         Begun::Done(r) => Ok(r),

@@ -3,7 +3,7 @@ ghost use Rattle.std.specs.Prelude.{◌≡◌, ◌/◌, ◌-◌, ◌++◌, []};
 ghost use Rattle.std.specs.Thread.{IsSync};
 ghost use Rattle.job_counter.specs.Drawing.{drawing, IsOf};
 ghost use Rattle.computed_cache.specs.Cached.{cached_state};
-ghost use Rattle.fork_branches.specs.Work.{MayWork, Works, GoesOnDrawing, IsReady, IsSent, IsBack, answers_of};
+ghost use Rattle.fork_branches.specs.Work.{MayWork, Works, WorksInHalves, GoesOnDrawing, IsReady, IsSent, IsBack, HasHalves, answers_of};
 
 use crate::crew::Crew;
 use crate::forked::Forked;
@@ -46,6 +46,7 @@ fn work_both<R: Threads + Sync, J: Jobs>(
     requires back { IsReady (J.tasks jobs.now).total (((drawing drawer.old).parts - (drawing drawer.old).parts / 2) / 2) second.value }
     ensures drawer { GoesOnDrawing (drawing drawer.old) (drawing drawer.new) }
     ensures works { Works (J.tasks jobs.now) (cached_state pass.old) (cached_state pass.new) (drawing drawer.new).drawn (answers_of result.0.value ++ answers_of result.1.value) result.2 }
+    ensures halves { WorksInHalves (J.tasks jobs.now) (cached_state pass.old) (cached_state pass.new) }
 {
     let table = pass.table();
     let one = pass.split().end().end();
@@ -119,6 +120,7 @@ pub fn work_in<R: Threads + Sync, J: Jobs>(
     requires ready { IsReady (J.tasks jobs.now).total (drawing drawer.old).parts crew.old }
     ensures drawer { GoesOnDrawing (drawing drawer.old) (drawing drawer.new) }
     ensures works { Works (J.tasks jobs.now) (cached_state pass.old) (cached_state pass.new) (drawing drawer.new).drawn (answers_of crew.new) result }
+    ensures halves { HasHalves crew.old → WorksInHalves (J.tasks jobs.now) (cached_state pass.old) (cached_state pass.new) }
 {
     match mem::replace(crew, Crew::Away) {
         Crew::Away => Ok(()),

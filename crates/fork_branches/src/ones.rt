@@ -1,10 +1,10 @@
 //! The points where a polynomial is 1, in two branches.
-ghost use Rattle.std.specs.Prelude.{◌≡◌, ◌≤◌};
+ghost use Rattle.std.specs.Prelude.{◌≡◌, ◌≤◌, ◌<◌, OnErr};
 ghost use Rattle.std.specs.Thread.{IsSync};
 ghost use Rattle.bool_poly.specs.Parts.{AsksOnes, AsksWith};
 ghost use Rattle.unique_table.specs.Passes.{token_state, IsOf};
 ghost use Rattle.computed_cache.specs.Cached.{cached_state};
-ghost use Rattle.fork_branches.specs.Branches.{FindsOnes, FindsWith, FindsBoth};
+ghost use Rattle.fork_branches.specs.Branches.{FindsOnes, FindsWith, FindsBoth, ForksFinding, IsForkedFinding};
 
 use crate::pairs::pair_of;
 use bool_poly::{begin_ones, finish_ones, ones_of, part_with};
@@ -40,7 +40,8 @@ fn ones_both<R: Threads + Sync, G: Gate + Sync>(
     requires workers { 2 ≤ workers }
     requires low { AsksOnes (cached_state store.old) c.a_low c.b_low }
     requires high { AsksWith (cached_state store.old) c.a_low c.a_high c.b_high }
-    ensures { FindsBoth (cached_state store.old) (cached_state store.new) c.a_low c.b_low c.a_high c.b_high result }
+    ensures gives { FindsBoth (cached_state store.old) (cached_state store.new) c.a_low c.b_low c.a_high c.b_high result }
+    ensures forks { ForksFinding (cached_state store.old) (cached_state store.new) c.a_low c.b_low c.a_high c.b_high result }
 {
     let table = store.table();
     let first = store.split().end().end();
@@ -148,7 +149,9 @@ fn ones_halves<R: Threads + Sync, G: Gate + Sync>(
     requires workers { 1 ≤ workers }
     requires low { AsksOnes (cached_state store.old) c.a_low c.b_low }
     requires high { AsksWith (cached_state store.old) c.a_low c.a_high c.b_high }
-    ensures { FindsBoth (cached_state store.old) (cached_state store.new) c.a_low c.b_low c.a_high c.b_high result }
+    ensures gives { FindsBoth (cached_state store.old) (cached_state store.new) c.a_low c.b_low c.a_high c.b_high result }
+    ensures forks { 2 ≤ workers → c.var < first.old → ForksFinding (cached_state store.old) (cached_state store.new) c.a_low c.b_low c.a_high c.b_high result }
+    ensures first { first.new ≤ first.old }
 {
     if workers < 2 || *first <= c.var {
         return ones_in_row(store, c);
@@ -171,7 +174,9 @@ pub(crate) fn ones_in<R: Threads + Sync, G: Gate + Sync>(
 ) -> Result<Handle, Full>
     requires workers { 1 ≤ workers }
     requires asks { AsksOnes (cached_state store.old) h set }
-    ensures { FindsOnes (cached_state store.old) (cached_state store.new) h set result }
+    ensures finds { FindsOnes (cached_state store.old) (cached_state store.new) h set result }
+    ensures full { OnErr result (IsForkedFinding (cached_state store.old) (cached_state store.new) h set workers first.old) }
+    ensures first { first.new ≤ first.old }
 {
     match begin_ones(store, h, set) {
         Begun::Done(r) => Ok(r),

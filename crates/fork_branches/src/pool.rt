@@ -29,8 +29,8 @@ pub trait Pool {
     ghost use Rattle.std.specs.Prelude.{◌≡◌, ◌≤◌, ◌<◌, ◌+◌, ◌^◌, ℕ, length, IfOk, IfErr, OnOk, OnErr};
     ghost use Rattle.node_store.specs.Stores.{Grows};
     ghost use Rattle.computed_cache.specs.Cached.{cached_state};
-    ghost use Rattle.fork_branches.specs.Work.{MayWork};
-    ghost use Rattle.fork_branches.specs.Solves.{AreSolved, Refuses};
+    ghost use Rattle.fork_branches.specs.Work.{MayWork, WorksInHalves};
+    ghost use Rattle.fork_branches.specs.Solves.{AreSolved, Refuses, AreRun};
 
     ghost done: { Self → ℕ };
 
@@ -56,6 +56,7 @@ pub trait Pool {
         ensures grows { Grows (cached_state pass.old) (cached_state pass.new) }
         ensures solved { IfOk result (λ v. AreSolved (J.tasks jobs.now) (cached_state pass.old) (cached_state pass.new) v.items) }
         ensures refused { IfErr result (Refuses (cached_state pass.old) (cached_state pass.new)) }
+        ensures halves { AreRun result → 2 ≤ workers → 2 ≤ (J.tasks jobs.now).total → WorksInHalves (J.tasks jobs.now) (cached_state pass.old) (cached_state pass.new) }
         ensures done { OnOk result (done self.new ≡ done self.old + (J.tasks jobs.now).total) }
         ensures undone { OnErr result (done self.new ≡ done self.old) }
     {

@@ -2,8 +2,9 @@ use Rattle.std.proofs.Common.{rules, ◌≡◌, ◌∙◌, ◌++◌, refl, ap, s
 use Rattle.unique_table.specs.Passes.{twin_of}
 use Rattle.job_counter.specs.Drawing.{drawing, left_half, right_half}
 use Rattle.computed_cache.specs.Cached.{cached_sound, cached_state}
-use Rattle.fork_branches.specs.Work.{IsReady, IsSent}
+use Rattle.fork_branches.specs.Work.{IsReady, IsSent, answers_of}
 use Rattle.fork_branches.specs.declared.crew.Crew.TheVariants.{One}
+use Rattle.fork_branches.proofs.Branches.{takes_both}
 use Rattle.fork_branches.proofs.Works.{both_work, sent}
 use Rattle.fork_branches.proofs.crews.+crews.Goals as goal
 
@@ -40,3 +41,21 @@ work_both-returns-clause-works g m c =
     let all : (drawing c.join-4.new.drawer).drawn ≡ d ++ e =
     rw (c.join-4.ensures, c.join-3.ensures, c.split-other.ensures.left, c.split-mine.ensures.left, c.requires.fresh) refl in
     rw (all, c.and.ensures) both
+
+pub work_both-returns-clause-halves : goal.work_both-returns-clause-halves
+work_both-returns-clause-halves g m c =
+    let here = c.split-2.ensures.same ∙ c.split.ensures.same in let z_is = c.split-2.ensures.twin ∙ ap twin_of c.split.ensures.same in
+    let front = c.join-front.result.0 in let back = c.join-front.result.1 in record {
+      first = front.token;
+      second = back.token;
+      first_drew = (drawing front.drawer).drawn;
+      second_drew = (drawing back.drawer).drawn;
+      front = answers_of front.crew.value;
+      back = answers_of back.crew.value;
+      first_result = front.result;
+      second_result = back.result;
+      one = rw (c.end-one.ensures.state, c.end.ensures.state, c.split.ensures.twin) at c.join-front.ensures.first.works;
+      two = rw (c.end-two.ensures.state, c.end-2.ensures.state, z_is) at c.join-front.ensures.second.works;
+      takes = takes_both (rw (c.new.ensures.state, c.pass.ensures.state, here) at c.join.ensures.joined)
+          (rw (c.new-2.ensures.state, c.pass-2.ensures.state) at c.join-2.ensures.joined);
+    }
