@@ -252,7 +252,13 @@ module _ (p : Pass) (y : TableId) (m : Sat) (place at w : ℕ) (same : y ≡ p.s
   looked_told told =
       let here : at ≡ 2 ^ (p.seat.me.0).terms.bits + place = grind (arith, p.sizes) in
       let kept = told.word (name_of p.seat.table_id) place here in
-      (goes_reads _ _ _ _ same _ told.goes refl, grind (arith, p.sizes, kept), told.goes.history ∙ append-nil _, (λ is. told.vacant (new_view p is)), told.steps place here)
+      (
+        goes_reads _ _ _ _ same _ told.goes refl,
+        grind (arith, p.sizes, kept),
+        told.goes.history ∙ append-nil _,
+        (λ is. told.vacant (new_view p is)),
+        told.steps place here,
+      )
 
   -- what is told where one was stored
   pub stored_told : Stored at p.seat.me w m

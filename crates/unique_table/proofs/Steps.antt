@@ -368,8 +368,8 @@ module _ (about : About) (me : Sat) (live : me.0.live ≡ true) where
 
   -- a load that changes nothing keeps the rule
   pub checks : (slots id at : ℕ) → at < 2 ^ v.terms.bits → Allows (Rule about) slots id me at (λ n. n) (λ _ after. Checked me after)
-  checks slots id at less = node_looks nodes words (IsTable t) (Fits t) IsNew (IsVacantOrTrue t) slots id me at (λ _ after. Checked me after)
-      (inside at less) (λ ws table fits _. (v, fits, (λ new. new), (unchanged ws table fits, refl)))
+  checks slots id at less = node_looks nodes words (IsTable t) (Fits t) IsNew (IsVacantOrTrue t) slots id me at
+      (λ _ after. Checked me after) (inside at less) (λ ws table fits _. (v, fits, (λ new. new), (unchanged ws table fits, refl)))
 
   -- ---- steps on cache words
 
