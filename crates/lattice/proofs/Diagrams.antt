@@ -43,7 +43,7 @@ pub use Rattle.lattice.proofs.WorkingSets.{working_set_members, working_set_is_n
 -- The number of slots.
 pub use Rattle.lattice.proofs.Tables.{shifted_one, slots_most, weight_is, ℕ_trichotomy}
 -- Filled slots, and filling one.
-pub use Rattle.lattice.proofs.Tables.{fills, filling_grows, grows_handle, grows_filled, filled_within, none_filled, node_some}
+pub use Rattle.lattice.proofs.Tables.{fills, filling_grows, grows_handle, grows_filled, filled_within, no_word, none_filled, node_some}
 -- What handles denote.
 pub use Rattle.lattice.proofs.Tables.{denoted, denotes_grows, denotes_handle, denotes_one, high_after, low_after, slot_level, some_members}
 -- One handle for each family.

@@ -86,6 +86,12 @@ module _ (bits vars : ℕ) (ws : List ℕ) (i w : ℕ) (can : IsCanonical bits v
         apart = λ j k is same. grind (arith, slot_is j, slot_is k, new j, new k, can.apart j k);
       }
 
+-- Each word of a list of vacant words is vacant.
+pub no_word : (n i : ℕ) → slice_index (replicate n 0) i ≡ 0
+no_word zero i = refl
+no_word (suc n) zero = refl
+no_word (suc n) (suc i) = no_word n i
+
 -- A table of vacant places has no filled slot.
 pub none_filled : (n i : ℕ) → IsFilled (replicate n 0) i → ⊥
 none_filled n i is = grind (arith, filled_within, get_or-replicate, length-replicate)

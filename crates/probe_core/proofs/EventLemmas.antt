@@ -11,8 +11,8 @@ use native.Mathlib.Decide.{ℕ_discrete}
 use Rattle.lattice.specs.declared.entry.Entry.TheVariants.{Met}
 use Rattle.lattice.specs.Words.{lo_of, hi_of, place, cache_bits, key_at, result_of, IsTrueWord, IsFilled, IsHandle, IsNodeWord, IsCanonical}
 use Rattle.lattice.specs.Words.{MayFill, KeepsWords, FitsHistory}
-use Rattle.lattice.proofs.Diagrams.{grows_handle, fits_append, fits_grows, slot_holds, fills, filling_grows, node_some, none_filled, legal}
-use Rattle.lattice.proofs.Diagrams.{denoted, met_slot, true_word_stays}
+use Rattle.lattice.proofs.Diagrams.{grows_handle, fits_append, fits_grows, slot_holds, fills, filling_grows, node_some, no_word}
+use Rattle.lattice.proofs.Diagrams.{none_filled, legal, denoted, met_slot, true_word_stays}
 use Rattle.node_store.specs.declared.store.Handle.{Handle}
 use Rattle.lattice.specs.declared.memory.Memory.{Memory}
 use Rattle.probe_core.specs.declared.event.Event.{Event}
@@ -121,12 +121,6 @@ fitting s is = record {
 }
 
 -- ---- the first state
-
--- a vacant cache has no word
-no_word : (n i : ℕ) → slice_index (replicate n 0) i ≡ 0
-no_word zero i = refl
-no_word (suc n) zero = refl
-no_word (suc n) (suc i) = no_word n i
 
 start_fits : (bits vars : ℕ) → Fits (start bits vars)
 start_fits bits vars =

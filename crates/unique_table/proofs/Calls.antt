@@ -1,6 +1,7 @@
 -- What the calls of a pass leave, as calls of a store.
-use Rattle.std.proofs.Common.{◌≡◌, ℕ, suc, ◌+◌, ◌-◌, ◌^◌, ◌<◌, ◌≤◌, Some, None, Ok, Err, Option, IsNone, IfSome, IfNone, List, [], ◌∷◌}
-use Rattle.std.proofs.Common.{◌++◌, ◌∙◌, zero, ◌==◌, true, false, length-append, eq-eqb, eqb-true, length, sym, refl, ◌↔◌, ◌⊎◌, subst, arith}
+use Rattle.std.proofs.Common.{◌≡◌, ℕ, suc, ◌+◌, ◌-◌, ◌^◌, ◌<◌, ◌≤◌, Some, None, Ok, Err, Option, IsNone, IfSome, IfNone, List, []}
+use Rattle.std.proofs.Common.{◌∷◌, ◌++◌, ◌∙◌, zero, ◌==◌, true, false, length-append, eq-eqb, eqb-true, length, sym, refl, ◌↔◌, ◌⊎◌}
+use Rattle.std.proofs.Common.{subst, arith}
 use Rattle.lattice.specs.Words.{Family, Has, var_of, lo_of, hi_of, place, refused}
 use Rattle.std.proofs.lemmas.List.{append-nil, append_assoc}
 use Rattle.std.proofs.lemmas.List.Elements.{Contains-append_right}

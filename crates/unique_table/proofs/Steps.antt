@@ -1,6 +1,6 @@
 -- The steps of the shared table keep its rule, and so do its opening, splits and joins.
-use Rattle.std.proofs.Common.{◌≡◌, ℕ, zero, suc, ◌+◌, ◌^◌, ◌<◌, ◌≤◌, ◌⊎◌, Bool, true, cond, is_some, unwrap_or, eqb, Option, Some, None, List, []}
-use Rattle.std.proofs.Common.{◌∷◌, ◌++◌, slice_index, set, take, replicate, sym, refl, ap, ◌∙◌, subst, inl, inr, arith}
+use Rattle.std.proofs.Common.{◌≡◌, ℕ, zero, suc, ◌+◌, ◌^◌, ◌<◌, ◌≤◌, ◌⊎◌, Bool, true, cond, is_some, unwrap_or, eqb, Option, Some, None}
+use Rattle.std.proofs.Common.{List, [], ◌∷◌, ◌++◌, slice_index, set, take, replicate, sym, refl, ap, ◌∙◌, subst, inl, inr, arith}
 use Rattle.std.specs.List.{All}
 use Rattle.std.proofs.lemmas.Bool.{cases_Bool}
 use Rattle.std.proofs.lemmas.List.{append-nil, length-replicate, take-replicate, get_or-replicate}
@@ -16,7 +16,7 @@ use Rattle.lattice.specs.declared.entry.Entry.{Entry}
 use Rattle.lattice.specs.declared.entry.Entry.TheVariants.{Met, Ask}
 use Rattle.lattice.specs.declared.limits.TheConstants.{MAX_VARS, MAX_BITS, HANDLE_UNIT}
 use Rattle.lattice.proofs.Diagrams.{Has-nil, Has-append_left, sub-nil, fits_append, denotes_one, denotes_handle, true_word_stays}
-use Rattle.lattice.proofs.Diagrams.{none_filled, refusals_of-append, refusals_of-grows}
+use Rattle.lattice.proofs.Diagrams.{no_word, none_filled, refusals_of-append, refusals_of-grows}
 use Rattle.node_store.specs.Stores.{Adds, Knows, IsResult}
 use Rattle.node_store.proofs.StoreLaws.{some_is}
 use Rattle.unique_table.specs.declared.view.View.{View}
@@ -32,7 +32,8 @@ use Rattle.unique_table.specs.Passes.{IsJoined}
 use Rattle.unique_table.proofs.Lists.{merged_keeps, merged_has, merged_only, merged_distinct, merged_all, All-Has, All-from_Has}
 use Rattle.unique_table.proofs.Lists.{append_cases, pair_cases, pair_there, first_stays}
 use Rattle.unique_table.proofs.Fitting.{unit_none, small, live_grows, agrees, sound, Addition, learned, learned_known, learned_fits}
-use Rattle.unique_table.proofs.Fitting.{left_nil, goes_new, met_not_new, learned_sound, learned_goes, meets, keeps, here, here_filled, filled_table, passes, passes_over}
+use Rattle.unique_table.proofs.Fitting.{left_nil, goes_new, met_not_new, learned_sound, learned_goes, meets, keeps}
+use Rattle.unique_table.proofs.Fitting.{here, here_filled, filled_table, passes, passes_over}
 use Rattle.unique_table.proofs.Parts.{opens, splits, joins, node_looks, node_trades, cache_looks, cache_stores}
 
 -- ---- the opening, splits and joins
@@ -81,11 +82,6 @@ first_pairs vars ws = grind (arith, All-cons, All-nil, nothing, unit)
 first_fits : (about : About) (n : ℕ) → LiveFits (terms_of about) (replicate n 0) (first_view about)
 first_fits about n = grind (arith, All-nil, pair_cases, Has-nil, sub-nil, unit_none, first_pairs about.vars (replicate n 0))
 
-zeros_vacant : (n i : ℕ) → slice_index (replicate n 0) i ≡ 0
-zeros_vacant zero i = refl
-zeros_vacant (suc n) zero = refl
-zeros_vacant (suc n) (suc i) = zeros_vacant n i
-
 -- a table of vacant words, with its first seat
 pub starts : (about : About) → 1 ≤ about.vars → about.vars ≤ MAX_VARS → about.bits ≤ MAX_BITS
     → Rule about (opening (replicate (2 ^ about.bits + 2 ^ cache_bits about.bits) 0) [] (first_view about))
@@ -98,7 +94,7 @@ starts about low high small =
       nodes = rw front (first_table t n refl low high small);
       cache = λ p less. inl (let l : p < m = less in get_or-replicate (n + m) (n + p) 0 0 (omega arith));
     })
-    (λ _. rw front (first_fits about n)) (zeros_vacant (n + m))
+    (λ _. rw front (first_fits about n)) (no_word (n + m))
 
 -- the first view is a store
 pub first_sound : (about : About) → 1 ≤ about.vars → about.vars ≤ MAX_VARS → about.bits ≤ MAX_BITS → (v : View) → v ≡ first_view about

@@ -17,7 +17,8 @@ ones_both-returns-clause-gives g m c =
 
 pub ones_both-returns-clause-forks : goal.ones_both-returns-clause-forks
 ones_both-returns-clause-forks g m c =
-    let here = c.split-2.ensures.same ∙ c.split.ensures.same in let back = c.split-2.ensures.twin ∙ ap twin_of c.split.ensures.same in record {
+    let here = c.split-2.ensures.same ∙ c.split.ensures.same in
+    let back = c.split-2.ensures.twin ∙ ap twin_of c.split.ensures.same in record {
       first = c.join-first.result.0.0;
       second = c.join-first.result.1.0;
       low = c.join-first.result.0.1;
