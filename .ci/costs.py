@@ -110,6 +110,9 @@ class Costs:
     def part(self, number, process):
         above = self.parts[process.parent]
         words = words_of(number)
+        if words == [""]:
+            # (it has ended)
+            return self.parts.get(number, above)
         if process.parent == self.root:
             # (bash copies itself before it starts a command)
             return OTHERS if words == words_of(self.root) else label(words)
