@@ -1,0 +1,315 @@
+"""The first run of a program: what is answered before anything is built, and how it is built, by a toolchain that only plays."""
+
+import contextlib
+import json
+import os
+import pathlib
+import pty
+import re
+import shutil
+import signal
+import subprocess
+import sys
+import tempfile
+import time
+import unittest
+
+from tests.harness import TOP, Test, program, run
+
+# What a program says of wrong words, and what its script adds.
+USAGE = {
+    "interp": "interp: usage: interp MODE [--workers N] [--nodes B] [--terms T] [--seed S] [--order NAMES]\n",
+    "nfq": "nfq: usage: nfq reduce|union|meet\n",
+}
+ADVICE = {
+    "interp": "interp reads standard input: interp anf < file.pla\n",
+    "nfq": "nfq reads standard input: nfq reduce < file.pla\n",
+}
+REFUSED = [
+    ("interp", []),
+    ("interp", [""]),
+    ("interp", ["--help"]),
+    ("interp", ["-h"]),
+    ("interp", ["anf", "--help"]),
+    ("interp", ["solve"]),
+    ("interp", ["file.pla"]),
+    ("interp", ["anf", "file.pla"]),
+    ("interp", ["file.pla", "anf"]),
+    ("interp", ["--nodes", "anf"]),
+    ("interp", ["anf", "anf"]),
+    ("nfq", []),
+    ("nfq", ["--help"]),
+    ("nfq", ["anf"]),
+    ("nfq", ["reduce", "file.pla"]),
+]
+TAKEN = [
+    ("interp", ["anf"]),
+    ("interp", ["--nodes", "5", "basis", "--order=a,b"]),
+    ("interp", ["check", "--order", "--help"]),
+    ("interp", ["--", "gen"]),
+    ("nfq", ["reduce"]),
+    ("nfq", ["union"]),
+    ("nfq", ["meet"]),
+]
+CRATES = {"interp": "interp_main", "nfq": "nf_query"}
+
+# It plays the command rt in the current folder, a crate: `rt lib` makes its library, and `rt run` its program, which prints
+# its words. Each takes a while, and in the middle of it half of the file is there. RT_LOG has a line for each beginning and end;
+# RT_STOPS names a crate where it fails.
+PLAYED_RT = """#!{python}
+import json, os, pathlib, sys, time
+here = pathlib.Path.cwd()
+def log(what):
+    with open(os.environ["RT_LOG"], "a") as file:
+        file.write(json.dumps([what, here.name, time.monotonic(), sys.argv[1:]]) + "\\n")
+def write(file, text):
+    file.parent.mkdir(parents=True, exist_ok=True)
+    file.write_text(text[: len(text) // 2])
+    file.chmod(0o755)
+    time.sleep(float(os.environ["RT_SECONDS"]))
+    file.write_text(text)
+rows = dict(line.split(":") for line in (here / "../../crates.txt").read_text().splitlines() if line[:1].isalpha())
+lacking = [it for it in rows[here.name].split() if it in rows and not (here / f"../{{it}}/out/rlib/stamp").is_file()]
+if lacking:
+    sys.exit(f"no library: {{lacking}}")
+log("begins")
+print(f"fn {{here.name}}::one: proved", flush=True)
+if os.environ.get("RT_STOPS") == here.name:
+    sys.exit("the proof fails")
+stamp = "".join(file.read_text() for file in sorted(here.glob("src/**/*.rt")))
+if sys.argv[1] == "run":
+    write(here / "out" / here.name, '#!/bin/sh\\necho "built: $@"\\n')
+    (here / f"out/{{here.name}}.stamp").write_text(stamp)
+elif not (here / "out/rlib/stamp").is_file() or (here / "out/rlib/stamp").read_text() != stamp:
+    write(here / f"out/rlib/{{here.name}}.rlib/format", "whole")
+    write(here / "out/incremental/kept.oantt", "whole")
+    (here / "out/rlib/stamp").write_text(stamp)
+log("ends")
+"""
+
+
+class Checkout:
+    """A copy of the repository in which nothing is built, and a toolchain that only plays."""
+
+    def __init__(self, folder, seconds=0.05):
+        self.folder = pathlib.Path(folder).resolve()
+        self.top, self.log = self.folder / "top", self.folder / "log"
+        # (the toolchain that plays reads no proofs)
+        leave = shutil.ignore_patterns(".git", "out", "made", "must-fail", "__pycache__", "*.antt")
+        shutil.copytree(TOP, self.top, ignore=leave, symlinks=True)
+        for name in ("bin", "tmp"):
+            (self.folder / name).mkdir()
+        self.rt = self.folder / "bin/rt"
+        self.rt.write_text(PLAYED_RT.format(python=sys.executable))
+        self.rt.chmod(0o755)
+        others = [it for it in os.environ["PATH"].split(":") if not os.path.exists(f"{it}/rt")]
+        self.env = {
+            **os.environ,
+            "PATH": ":".join([str(self.rt.parent), *others]),
+            "TMPDIR": str(self.folder / "tmp"),
+            "RT_LOG": str(self.log),
+            "RT_SECONDS": str(seconds),
+        }
+
+    def run(self, name, *words, **how):
+        return run([self.top / name, *words], env={**self.env, **how.pop("env", {})}, **how)
+
+    def start(self, name, *words):
+        how = {"stdin": subprocess.DEVNULL, "stdout": subprocess.PIPE, "stderr": subprocess.PIPE, "text": True}
+        return subprocess.Popen([self.top / name, *words], env=self.env, start_new_session=True, **how)
+
+    def events(self):
+        """What the toolchain was asked for: begins or ends, the crate, when, and the words."""
+        with contextlib.suppress(FileNotFoundError):
+            return [json.loads(line) for line in self.log.read_text().splitlines()]
+        return []
+
+    def wait_for(self, crate):
+        while not any(it == crate for _, it, _, _ in self.events()):
+            time.sleep(0.01)
+
+    def program(self, name):
+        return self.top / "crates" / CRATES[name] / "out" / CRATES[name]
+
+    def rows(self):
+        """The crates and what they stand on."""
+        lines = (self.top / "crates.txt").read_text().splitlines()
+        return {name: words.split() for name, _, words in (line.partition(":") for line in lines if line[:1].isalpha())}
+
+
+class FirstRun(Test):
+    """Runs in a checkout in which nothing is built."""
+
+    def checkout(self, **how):
+        folder = tempfile.TemporaryDirectory()
+        self.addCleanup(folder.cleanup)
+        return Checkout(folder.name, **how)
+
+    def test_words_are_refused_before_anything_is_built(self):
+        checkout = self.checkout()
+        for name, words in REFUSED:
+            with self.case(f"{name} {words}"):
+                begun = time.monotonic()
+                ended = checkout.run(name, *words)
+                self.assertEqual(ended, (2, "", USAGE[name] + ADVICE[name]))
+                self.assertLess(time.monotonic() - begun, 1)
+        self.assertEqual(checkout.events(), [])
+
+    def test_the_program_refuses_the_same_words_by_the_same_line(self):
+        for name, words in REFUSED:
+            with self.case(f"{name} {words}"):
+                self.assertEqual(run([program(name), *words]), (2, "", USAGE[name]))
+                self.assertEqual(run([TOP / name, *words]), (2, "", USAGE[name] + ADVICE[name]))
+
+    def test_other_words_reach_the_program(self):
+        checkout = self.checkout(seconds=0)
+        for name, words in TAKEN:
+            with self.case(f"{name} {words}"):
+                ended = checkout.run(name, *words)
+                self.assertEqual((ended.status, ended.out), (0, f"built: {' '.join(words)}\n"), ended.err)
+
+    def test_no_toolchain(self):
+        checkout = self.checkout()
+        checkout.rt.unlink()
+        ended = checkout.run("interp", "anf")
+        self.assertEqual((ended.status, ended.out), (70, ""))
+        self.assertIn("interp: the program is not built yet, and the command rt is missing", ended.err)
+        self.assertIn("the toolchain's kit", ended.err)
+        self.assertEqual(checkout.run("interp", "--help").status, 2)
+
+    def test_through_a_symbolic_link(self):
+        checkout = self.checkout()
+        link = checkout.folder / "bin/polynomials"
+        link.symlink_to(checkout.top / "interp")
+        ended = run([link, "anf"], env=checkout.env)
+        self.assertEqual((ended.status, ended.out), (0, "built: anf\n"), ended.err)
+        self.assertEqual(run([link], env=checkout.env), (2, "", USAGE["interp"] + ADVICE["interp"]))
+
+    def test_each_crate_is_proved_once_and_after_those_below_it(self):
+        checkout = self.checkout()
+        ended = checkout.run("interp", "anf")
+        self.assertEqual((ended.status, ended.out), (0, "built: anf\n"), ended.err)
+        begun = {crate: when for what, crate, when, _ in checkout.events() if what == "begins"}
+        ends = {crate: when for what, crate, when, _ in checkout.events() if what == "ends"}
+        self.assertEqual(len(checkout.events()), 2 * len(begun))
+        for crate, libraries in checkout.rows().items():
+            for it in libraries:
+                if crate in begun and it in checkout.rows():
+                    self.assertLess(ends[it], begun[crate], f"{crate} over {it}")
+        self.assertEqual({"interp_main", "interp_run", "lattice"} - {*begun}, set())
+        self.assertNotIn("nf_query", begun)
+
+    @unittest.skipIf(len(os.sched_getaffinity(0)) < 2, "there is one processor")
+    def test_crates_are_proved_side_by_side_as_far_as_processors_allow(self):
+        checkout, at_once, most = self.checkout(), 0, 0
+        checkout.run("interp", "anf")
+        for what, _, _, words in checkout.events():
+            jobs = int(words[words.index("--jobs") + 1])
+            at_once += jobs if what == "begins" else -jobs
+            most = max(most, at_once)
+        self.assertLessEqual(2, most)
+        self.assertLessEqual(most, len(os.sched_getaffinity(0)))
+        begins = [what for what, _, _, _ in checkout.events()]
+        self.assertIn(["begins", "begins"], [begins[at : at + 2] for at in range(len(begins))])
+
+    def test_it_says_how_far_it_is(self):
+        checkout = self.checkout()
+        lines = checkout.run("interp", "anf").err.splitlines()
+        crates = len({crate for _, crate, _, _ in checkout.events()})
+        self.assertEqual(lines[0], f"interp: proving and building the program first, which is {crates} crates; README.md says how long it takes")
+        self.assertEqual(len(lines), 1 + crates)
+        self.assertEqual(lines[1], f"interp: 0 of {crates} crates and 0 functions proved in 0 min 0 s; now lattice")
+        self.assertRegex(lines[-1], rf"^interp: {crates - 1} of {crates} crates and {crates - 1} functions proved in 0 min \d+ s; now interp_main$")
+
+    def test_on_a_terminal_it_rewrites_one_line(self):
+        checkout = self.checkout()
+        master, slave = pty.openpty()
+        self.addCleanup(os.close, master)
+        ended = checkout.run("interp", "anf", stderr=slave)
+        os.close(slave)
+        self.assertEqual(ended.out, "built: anf\n")
+        said = os.read(master, 1 << 16).decode()
+        self.assertEqual(said.count("\n"), 1)
+        self.assertTrue(said.endswith("\r\033[K"))
+        self.assertTrue(all(len(it) < 80 for it in said.splitlines()[1].split("\r\033[K")))
+
+    def test_two_at_once(self):
+        for names in (("interp", "interp"), ("interp", "nfq")):
+            with self.case(names):
+                checkout = self.checkout()
+                one = checkout.start(names[0], "anf")
+                checkout.wait_for("lattice")
+                ended = checkout.run(names[1], "anf" if names[1] == "interp" else "reduce")
+                self.assertEqual(ended.status, 0, ended.err)
+                self.assertIn(f"{names[1]}: another first run is at work in this checkout; waiting for it to end\n", ended.err)
+                said, err = one.communicate()
+                self.assertEqual((one.returncode, said), (0, "built: anf\n"), err)
+                crates = [crate for what, crate, _, _ in checkout.events() if what == "begins"]
+                first = crates[: crates.index("interp_main") + 1]
+                self.assertEqual(len(first), len({*first}))
+                self.assertEqual(crates[len(first) :] == [], names[1] == "interp")
+
+    def test_a_killed_run_leaves_nothing_in_part(self):
+        for crate in ("set_algebra", "interp_main"):
+            with self.case(crate):
+                checkout = self.checkout(seconds=0.3)
+                one = checkout.start("interp", "anf")
+                checkout.wait_for(crate)
+                # (in the middle of what is written)
+                time.sleep(0.15)
+                os.killpg(one.pid, signal.SIGKILL)
+                one.communicate()
+                self.assertFalse(checkout.program("interp").exists())
+                for library in checkout.top.glob("crates/*/out/rlib"):
+                    self.assertTrue((library / "stamp").is_file())
+                    self.assertEqual(next(library.glob("*.rlib/format")).read_text(), "whole")
+                proved = {it.parent.parent.name for it in checkout.top.glob("crates/*/out/rlib")}
+                self.assertIn("lattice", proved)
+                self.assertNotIn(crate, proved)
+                ended = checkout.run("interp", "anf")
+                self.assertEqual((ended.status, ended.out), (0, "built: anf\n"), ended.err)
+                self.assertNotIn("waiting", ended.err)
+                self.assertEqual([*(checkout.folder / "tmp").iterdir()], [])
+
+    def test_a_run_that_is_told_to_end_ends_what_it_started(self):
+        for sign in (signal.SIGTERM, signal.SIGINT):
+            with self.case(sign):
+                checkout = self.checkout(seconds=60)
+                one = checkout.start("interp", "anf")
+                checkout.wait_for("lattice")
+                one.send_signal(sign)
+                one.communicate(timeout=10)
+                self.assertNotEqual(one.returncode, 0)
+                self.assertEqual([*(checkout.folder / "tmp").iterdir()], [])
+
+    def test_a_proof_that_fails(self):
+        checkout = self.checkout()
+        ended = checkout.run("interp", "anf", env={"RT_STOPS": "set_algebra"})
+        self.assertEqual((ended.status, ended.out), (70, ""))
+        self.assertIn("fn set_algebra::one: proved\nthe proof fails\ninterp: the program could not be proved and built\n", ended.err)
+        self.assertEqual([*(checkout.folder / "tmp").iterdir()], [])
+        self.assertFalse(checkout.program("interp").exists())
+        self.assertEqual(checkout.run("interp", "anf").out, "built: anf\n")
+
+    def test_a_program_is_built_again_where_a_source_is_newer(self):
+        checkout = self.checkout()
+        checkout.run("interp", "anf")
+        count = len(checkout.events())
+        checkout.run("interp", "anf")
+        self.assertEqual(len(checkout.events()), count)
+        with self.case("changed during the build"):
+            source = checkout.top / "crates/lattice/src/lib.rt"
+            source.write_text(source.read_text() + "// first\n")
+            one = checkout.start("interp", "anf")
+            while len(checkout.events()) == count:
+                time.sleep(0.01)
+            source.write_text(source.read_text() + "// second\n")
+            one.communicate()
+            count = len(checkout.events())
+            checkout.run("interp", "anf")
+            self.assertGreater(len(checkout.events()), count)
+            self.assertIn("// second", (checkout.top / "crates/lattice/out/rlib/stamp").read_text())
+
+
+if __name__ == "__main__":
+    unittest.main()
