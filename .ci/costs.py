@@ -3,11 +3,11 @@
 
     .ci/costs.py PID        PID: the process whose children are the parts; it ends this program by SIGTERM
 
-It looks at the processes below that one twice a second, and prints a table once it is told to end. Where the process ended
-without a word it prints nothing. It changes nothing, and its own time is in the last part.
+It looks at the processes below that one twice a second, and prints a table once it is told to end. Where the process
+ended without a word it prints nothing. It changes nothing, and its own time is in the last part.
 
-A process adds its own time to the part that it belongs to. What it did after the last look at it, and what was never seen, is
-in the sum that its parent has of children that ended: from there each part gets it, so that the sum of all is right.
+A process adds its own time to the part that it belongs to. What it did after the last look at it, and what was never
+seen, is in the sum that its parent has of children that ended: from there each part gets it, so the whole is right.
 """
 import os
 import re
@@ -75,7 +75,7 @@ def folder_of(number):
 
 
 def label(words):
-    """Returns what the table calls a command: the first file or module of the repository that it names, or its last two words."""
+    """Returns what the table calls a command: the first file or module that it names, or its last two words."""
     return next(filter(NAMED.match, words), None) or " ".join(os.path.basename(it) for it in words[-2:])
 
 
@@ -150,7 +150,7 @@ class Costs:
         return True
 
     def add_ended(self, number, ticks, gone, early):
-        """Adds the time of children that ended, so far as it was not seen, to their parts, or else to that of their parent."""
+        """Adds the time of children that ended, so far as it was not seen, to their parts, else to their parent's."""
         children = [it for it, was in gone.items() if was.parent == number]
         below = list(children)
         for it in below:
@@ -167,7 +167,8 @@ class Costs:
         self.ticks[OTHERS] += TICKS * (own.user + own.system)
         first = [it for it in (PROOFS, TESTS, READY, EDITS, BUILDS, RUNS, GATE) if it in self.ticks]
         rest = [it for it in self.ticks if it not in first and it != OTHERS]
-        rows = [(f"{GATE} itself" if it == GATE else it, self.clock[it], self.ticks[it] / TICKS) for it in [*first, *rest]]
+        named = {GATE: f"{GATE} itself"}
+        rows = [(named.get(it, it), self.clock[it], self.ticks[it] / TICKS) for it in [*first, *rest]]
         rows.append((OTHERS, None, self.ticks[OTHERS] / TICKS))
         rows.append(("together", self.last - self.begin, sum(self.ticks.values()) / TICKS))
         width = max(len(name) for name, _, _ in rows)

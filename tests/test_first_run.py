@@ -1,7 +1,9 @@
-"""The first run of a program: what is answered before anything is built, and how it is built, by a toolchain that only plays."""
+"""The first run of a program: what is answered before anything is built, and how it is built.
+
+Nothing is proved here: a command that plays `rt` makes what the toolchain would make.
+"""
 
 import contextlib
-import json
 import os
 import pathlib
 import pty
@@ -53,37 +55,46 @@ TAKEN = [
 ]
 CRATES = {"interp": "interp_main", "nfq": "nf_query"}
 
-# It plays the command rt in the current folder, a crate: `rt lib` makes its library, and `rt run` its program, which prints
-# its words. Each takes a while, and in the middle of it half of the file is there. RT_LOG has a line for each beginning and end;
-# RT_STOPS names a crate where it fails.
-PLAYED_RT = """#!{python}
-import json, os, pathlib, sys, time
-here = pathlib.Path.cwd()
+# It plays the command rt in the current folder, a crate: `rt lib` makes its library, and `rt run` its program, which
+# prints its words. Each takes a while, and in the middle of it half of the file is there. RT_LOG has a line for each
+# beginning and end; RT_STOPS names a crate where it fails.
+PLAYED_RT = """#!{python} -IS
+import os, sys, time
+here = os.path.basename(os.getcwd())
 def log(what):
     with open(os.environ["RT_LOG"], "a") as file:
-        file.write(json.dumps([what, here.name, time.monotonic(), sys.argv[1:]]) + "\\n")
-def write(file, text):
-    file.parent.mkdir(parents=True, exist_ok=True)
-    file.write_text(text[: len(text) // 2])
-    file.chmod(0o755)
-    time.sleep(float(os.environ["RT_SECONDS"]))
-    file.write_text(text)
-rows = dict(line.split(":") for line in (here / "../../crates.txt").read_text().splitlines() if line[:1].isalpha())
-lacking = [it for it in rows[here.name].split() if it in rows and not (here / f"../{{it}}/out/rlib/stamp").is_file()]
+        file.write(f"{{what}} {{here}} {{time.monotonic()}} {{' '.join(sys.argv[1:])}}\\n")
+def read(name):
+    if os.path.isfile(name):
+        with open(name) as file:
+            return file.read()
+def write(name, text, seconds=0):
+    os.makedirs(os.path.dirname(name), exist_ok=True)
+    if os.path.isfile(name):
+        os.remove(name)
+    with open(name, "w") as file:
+        file.write(text[: len(text) // 2])
+        file.flush()
+        os.chmod(name, 0o755)
+        time.sleep(seconds)
+        file.write(text[len(text) // 2 :])
+rows = dict(line.split(":") for line in read("../../crates.txt").splitlines() if line[:1].isalpha())
+lacking = [it for it in rows[here].split() if it in rows and not os.path.isfile(f"../{{it}}/out/rlib/stamp")]
 if lacking:
     sys.exit(f"no library: {{lacking}}")
 log("begins")
-print(f"fn {{here.name}}::one: proved", flush=True)
-if os.environ.get("RT_STOPS") == here.name:
+print(f"fn {{here}}::one: proved", flush=True)
+if os.environ.get("RT_STOPS") == here:
     sys.exit("the proof fails")
-stamp = "".join(file.read_text() for file in sorted(here.glob("src/**/*.rt")))
+stamp = "".join(read(f"src/{{it}}") for it in sorted(os.listdir("src")))
+seconds = float(os.environ["RT_SECONDS"])
 if sys.argv[1] == "run":
-    write(here / "out" / here.name, '#!/bin/sh\\necho "built: $@"\\n')
-    (here / f"out/{{here.name}}.stamp").write_text(stamp)
-elif not (here / "out/rlib/stamp").is_file() or (here / "out/rlib/stamp").read_text() != stamp:
-    write(here / f"out/rlib/{{here.name}}.rlib/format", "whole")
-    write(here / "out/incremental/kept.oantt", "whole")
-    (here / "out/rlib/stamp").write_text(stamp)
+    write(f"out/{{here}}", '#!/bin/sh\\necho "built: $@"\\n', seconds)
+    write(f"out/{{here}}.stamp", stamp)
+elif read("out/rlib/stamp") != stamp:
+    write(f"out/rlib/{{here}}.rlib/format", "whole", seconds)
+    write("out/incremental/kept.oantt", "whole")
+    write("out/rlib/stamp", stamp)
 log("ends")
 """
 
@@ -114,14 +125,16 @@ class Checkout:
     def run(self, name, *words, **how):
         return run([self.top / name, *words], env={**self.env, **how.pop("env", {})}, **how)
 
-    def start(self, name, *words):
+    def start(self, name, *words, seconds=None):
+        env = {**self.env, **({"RT_SECONDS": str(seconds)} if seconds else {})}
         how = {"stdin": subprocess.DEVNULL, "stdout": subprocess.PIPE, "stderr": subprocess.PIPE, "text": True}
-        return subprocess.Popen([self.top / name, *words], env=self.env, start_new_session=True, **how)
+        return subprocess.Popen([self.top / name, *words], env=env, start_new_session=True, **how)
 
     def events(self):
         """What the toolchain was asked for: begins or ends, the crate, when, and the words."""
         with contextlib.suppress(FileNotFoundError):
-            return [json.loads(line) for line in self.log.read_text().splitlines()]
+            lines = [line.split(" ", 3) for line in self.log.read_text().splitlines()]
+            return [(what, crate, float(when), words.split()) for what, crate, when, words in lines]
         return []
 
     def wait_for(self, crate):
@@ -161,6 +174,13 @@ class FirstRun(Test):
                 self.assertEqual(run([program(name), *words]), (2, "", USAGE[name]))
                 self.assertEqual(run([TOP / name, *words]), (2, "", USAGE[name] + ADVICE[name]))
 
+    def test_each_mode_is_known(self):
+        of_interp = re.search(r"(?m)^\| MODE \| (.*?) \|", (TOP / "README.md").read_text())[1]
+        for name, modes in (("interp", of_interp), ("nfq", USAGE["nfq"].split()[-1])):
+            with self.case(name):
+                known = re.search(rf"tools/run_proved\" {name} \w+ '([a-z ]+)'", (TOP / name).read_text())[1]
+                self.assertEqual(known.split(), re.findall(r"\w+", modes))
+
     def test_other_words_reach_the_program(self):
         checkout = self.checkout(seconds=0)
         for name, words in TAKEN:
@@ -176,6 +196,18 @@ class FirstRun(Test):
         self.assertIn("interp: the program is not built yet, and the command rt is missing", ended.err)
         self.assertIn("the toolchain's kit", ended.err)
         self.assertEqual(checkout.run("interp", "--help").status, 2)
+
+    def test_the_program_ends_by_a_closed_pipe(self):
+        checkout = self.checkout(seconds=0)
+        for built in ("now", "before"):
+            with self.case(built):
+                reader, writer = os.pipe()
+                os.close(reader)
+                # (Python ignores this signal, and so would all that it starts)
+                catch = lambda: signal.signal(signal.SIGPIPE, signal.SIG_DFL)
+                ended = checkout.run("interp", "anf", stdout=writer, preexec_fn=catch)
+                os.close(writer)
+                self.assertEqual(ended.status, -signal.SIGPIPE, ended.err)
 
     def test_through_a_symbolic_link(self):
         checkout = self.checkout()
@@ -204,7 +236,7 @@ class FirstRun(Test):
         checkout, at_once, most = self.checkout(), 0, 0
         checkout.run("interp", "anf")
         for what, _, _, words in checkout.events():
-            jobs = int(words[words.index("--jobs") + 1])
+            jobs = int(words[words.index("--jobs") + 1]) if "--jobs" in words else 1
             at_once += jobs if what == "begins" else -jobs
             most = max(most, at_once)
         self.assertLessEqual(2, most)
@@ -216,10 +248,15 @@ class FirstRun(Test):
         checkout = self.checkout()
         lines = checkout.run("interp", "anf").err.splitlines()
         crates = len({crate for _, crate, _, _ in checkout.events()})
-        self.assertEqual(lines[0], f"interp: proving and building the program first, which is {crates} crates; README.md says how long it takes")
         self.assertEqual(len(lines), 1 + crates)
-        self.assertEqual(lines[1], f"interp: 0 of {crates} crates and 0 functions proved in 0 min 0 s; now lattice")
-        self.assertRegex(lines[-1], rf"^interp: {crates - 1} of {crates} crates and {crates - 1} functions proved in 0 min \d+ s; now interp_main$")
+        self.assertIn(f"first: {crates} crates", lines[0])
+        time_so_far = r"proved in \d+ min \d+ s"
+        for at, line in enumerate(lines[1:]):
+            self.assertLessEqual(int(re.match(rf"interp: (\d+) of {crates} crates ", line)[1]), at)
+            self.assertRegex(line, rf"and \d+ functions {time_so_far}; now \w+(, \w+)*$")
+        self.assertRegex(lines[1], f"0 of {crates} crates and 0 functions {time_so_far}; now lattice$")
+        last = f"{crates - 1} of {crates} crates and {crates - 1} functions {time_so_far}; now interp_main$"
+        self.assertRegex(lines[-1], last)
 
     def test_on_a_terminal_it_rewrites_one_line(self):
         checkout = self.checkout()
@@ -228,10 +265,16 @@ class FirstRun(Test):
         ended = checkout.run("interp", "anf", stderr=slave)
         os.close(slave)
         self.assertEqual(ended.out, "built: anf\n")
-        said = os.read(master, 1 << 16).decode()
-        self.assertEqual(said.count("\n"), 1)
-        self.assertTrue(said.endswith("\r\033[K"))
-        self.assertTrue(all(len(it) < 80 for it in said.splitlines()[1].split("\r\033[K")))
+        said = b""
+        with contextlib.suppress(OSError):
+            while piece := os.read(master, 1 << 16):
+                said += piece
+        first, last = said.decode().split("\r\n")
+        self.assertRegex(first, r"first: \d+ crates")
+        pieces = last.split("\r\033[K")
+        self.assertEqual((pieces[0], pieces[-1]), ("", ""))
+        self.assertTrue(all(it.startswith("interp: ") and len(it) < 80 for it in pieces[1:-1]), pieces)
+        self.assertLess(10, len(pieces))
 
     def test_two_at_once(self):
         for names in (("interp", "interp"), ("interp", "nfq")):
@@ -241,7 +284,8 @@ class FirstRun(Test):
                 checkout.wait_for("lattice")
                 ended = checkout.run(names[1], "anf" if names[1] == "interp" else "reduce")
                 self.assertEqual(ended.status, 0, ended.err)
-                self.assertIn(f"{names[1]}: another first run is at work in this checkout; waiting for it to end\n", ended.err)
+                waits = f"{names[1]}: another first run is at work in this checkout; waiting for it to end\n"
+                self.assertIn(waits, ended.err)
                 said, err = one.communicate()
                 self.assertEqual((one.returncode, said), (0, "built: anf\n"), err)
                 crates = [crate for what, crate, _, _ in checkout.events() if what == "begins"]
@@ -286,7 +330,8 @@ class FirstRun(Test):
         checkout = self.checkout()
         ended = checkout.run("interp", "anf", env={"RT_STOPS": "set_algebra"})
         self.assertEqual((ended.status, ended.out), (70, ""))
-        self.assertIn("fn set_algebra::one: proved\nthe proof fails\ninterp: the program could not be proved and built\n", ended.err)
+        failed = "the proof fails\ninterp: the program could not be proved and built\n"
+        self.assertIn(f"fn set_algebra::one: proved\n{failed}", ended.err)
         self.assertEqual([*(checkout.folder / "tmp").iterdir()], [])
         self.assertFalse(checkout.program("interp").exists())
         self.assertEqual(checkout.run("interp", "anf").out, "built: anf\n")

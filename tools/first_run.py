@@ -3,10 +3,11 @@
 
     first_run.py NAME CRATE MODES FILE [WORDS]
 
-Crates that do not stand on each other are proved at the same time, as far as processors and memory allow. Those of one time are
-proved in trees of their own outside the checkout, as one command of the toolchain keeps others from its crate and from all below
-it. A tree has a copy of the sources and the libraries that were built. What was made there is given its place in the checkout
-whole, by renaming it. So whoever ends this program leaves what was proved until then, and nothing that is built in part.
+Crates that do not stand on each other are proved at the same time, as far as processors and memory allow. Those of one
+time are proved in trees of their own outside the checkout, as one command of the toolchain keeps others from its crate
+and from all below it. A tree has a copy of the sources and the libraries that were built. What was made there is given
+its place in the checkout whole, by renaming it. So whoever ends this program leaves what was proved until then, and
+nothing that is built in part.
 """
 import contextlib
 import fcntl
@@ -62,7 +63,8 @@ def read(file):
 
 def jobs_at_once():
     """Returns how many jobs processors and memory allow, also by the limits of the control group."""
-    processors, free = len(os.sched_getaffinity(0)), 1024 * int(re.search(r"MemAvailable:\s+(\d+)", read("/proc/meminfo"))[1])
+    processors = len(os.sched_getaffinity(0))
+    free = 1024 * int(re.search(r"MemAvailable:\s+(\d+)", read("/proc/meminfo"))[1])
     quota = re.match(r"(\d+) (\d+)", read("/sys/fs/cgroup/cpu.max"))
     if quota:
         processors = min(processors, int(quota[1]) // int(quota[2]))
@@ -77,8 +79,8 @@ def size_of(folder):
 
 
 def link_or_copy(one, other):
-    """Gives a file another name. The toolchain makes such files anew and never writes into one; but of its kept work this holds
-    of the proofs alone."""
+    """Gives a file another name. The toolchain makes such files anew and never writes into one; of what a check kept
+    this holds of the proofs alone."""
     if "/incremental/" in one and not one.endswith(".oantt"):
         return shutil.copy2(one, other)
     try:
@@ -113,25 +115,25 @@ def if_free(folder):
 
 
 class Progress:
-    """Says on standard error how far the build is: on a terminal in one line that is rewritten, else in a line for each crate."""
+    """Says on standard error how far the build is: on a terminal in a line that is rewritten, else in one a crate."""
 
     def __init__(self, name, total):
         self.name, self.total, self.begun = name, total, time.monotonic()
-        self.proved, self.functions, self.within = 0, 0, {}
+        self.proved, self.functions, self.within = 0, {}, {}
         self.is_terminal = sys.stderr.isatty()
 
     def begin(self, crate):
-        self.within[crate] = ""
+        self.within[crate], self.functions[crate] = "", 0
         if not self.is_terminal:
             self.tell()
 
     def hear(self, crate, line):
-        """Takes a line of the toolchain, which tells now and then how many functions of the crate were checked, and names all of
-        them once the crate is proved."""
+        """Takes a line of the toolchain, which tells now and then how many functions of the crate were checked, and
+        names all of them once the crate is proved."""
         so_far = re.match(r"(?:so far: |checked .*, )(\d+ of \d+)\b", line)
         if so_far:
             self.within[crate] = so_far[1]
-        self.functions += bool(re.match(r"fn \S+: proved", line))
+        self.functions[crate] += bool(re.match(r"fn \S+: proved", line))
 
     def end(self, crate):
         del self.within[crate]
@@ -140,11 +142,11 @@ class Progress:
     def tell(self):
         minutes, seconds = divmod(int(time.monotonic() - self.begun), 60)
         crates = [f"{it} ({so_far} functions)" if so_far else it for it, so_far in list(self.within.items())]
-        at = f"{self.proved} of {self.total} crates and {self.functions} functions proved in {minutes} min {seconds} s"
-        text = f"{self.name}: {at}; now {', '.join(crates)}"
+        proved = f"{self.proved} of {self.total} crates and {sum(self.functions.values())} functions proved"
+        text = f"{self.name}: {proved} in {minutes} min {seconds} s; now {', '.join(crates)}"
         if self.is_terminal:
-            width = shutil.get_terminal_size().columns - 1
-            text = f"\r\033[K{text[:width]}"
+            width = os.get_terminal_size(sys.stderr.fileno()).columns or 80
+            text = f"\r\033[K{text[: width - 1]}"
         print(text, end="" if self.is_terminal else "\n", file=sys.stderr, flush=True)
 
     def clear(self):
@@ -178,7 +180,7 @@ class Build:
         return found
 
     def lay_out(self, tree, crate):
-        """Brings the crate's libraries, and what an earlier check of it kept in the checkout, to a tree, and returns its folder."""
+        """Brings the crate's libraries, and what was kept of it in the checkout, to a tree, and returns its folder."""
         if not os.path.isdir(tree):
             shutil.copytree(f"{self.room}/sources", f"{tree}/crates", copy_function=link_or_copy)
             with open(f"{tree}/crates.txt", "w", encoding="utf-8") as it:
@@ -197,16 +199,16 @@ class Build:
                 shutil.rmtree(to, ignore_errors=True)
         return f"{tree}/crates/{crate}"
 
-    def prove(self, crate, tree, jobs):
+    def prove(self, crate, tree, flags):
         """Proves and builds a crate in a tree, and gives what was made its place."""
         folder = self.lay_out(tree, crate)
-        words, given = ["rt", "lib", "--jobs", str(jobs)], os.devnull
+        words, given = ["rt", "lib", *flags], os.devnull
         if crate == self.program:
             mode, given = self.trial
-            words = ["rt", "run", "--jobs", str(jobs), "--", mode]
+            words = ["rt", "run", *flags, "--", mode]
         with open(given, "rb") as source:
             how = {"cwd": folder, "stdin": source, "stdout": subprocess.PIPE, "stderr": subprocess.STDOUT}
-            ran = subprocess.Popen(words, text=True, errors="replace", start_new_session=True, **how)
+            ran = subprocess.Popen(words, encoding="utf-8", errors="replace", **how)
         self.running.add(ran)
         if self.is_over.is_set():
             ran.kill()
@@ -236,8 +238,8 @@ class Build:
             os.replace(f"{to}/{name}.new", f"{to}/{name}")
 
     def run(self):
-        """Proves all crates, each once those below it are proved, first those on the longest chain. A crate gets the processors
-        that no other waits for."""
+        """Proves all crates, each once those below it are proved, first those on the longest chain. A crate gets the
+        jobs that no other waits for; where it is alone the toolchain chooses how many."""
         behind, proved, running, jobs_free = self.lengths_behind(), set(), {}, jobs_at_once()
         left = sorted(self.below, key=lambda it: -behind[it])
         trees = [f"{self.room}/{number}" for number in range(jobs_free)]
@@ -245,13 +247,14 @@ class Build:
             try:
                 while left or running:
                     ready = [it for it in left if proved.issuperset(self.below[it])]
+                    is_alone = not running and len(ready) == 1
                     for at, crate in enumerate(ready[:jobs_free]):
                         jobs = max(1, min(MOST_JOBS, jobs_free // (len(ready) - at)))
                         jobs_free -= jobs
                         left.remove(crate)
                         self.progress.begin(crate)
-                        tree = trees.pop()
-                        running[pool.submit(self.prove, crate, tree, jobs)] = crate, tree, jobs
+                        tree, flags = trees.pop(), [] if is_alone else ["--jobs", str(jobs)]
+                        running[pool.submit(self.prove, crate, tree, flags)] = crate, tree, jobs
                     for it in wait(running, timeout=1, return_when=FIRST_COMPLETED).done:
                         it.result()
                         crate, tree, jobs = running.pop(it)
@@ -269,11 +272,14 @@ class Build:
 
 
 def become(*words):
+    """Goes on as tools/run_proved, with the signals that Python ignores as they were."""
+    for it in (signal.SIGPIPE, signal.SIGXFSZ):
+        signal.signal(it, signal.SIG_DFL)
     os.execv(f"{TOP}/tools/run_proved", [f"{TOP}/tools/run_proved", *words])
 
 
 def new_room():
-    """Returns the folder for the builds of this checkout, empty, and removes what one that was killed left elsewhere."""
+    """Returns the folder for builds of this checkout, empty, and removes what one that was killed left elsewhere."""
     for it in glob.glob(f"{TOP}/crates/*/out/{ROOM}*"):
         shutil.rmtree(it, ignore_errors=True)
     room = f"{tempfile.gettempdir()}/{ROOM}{os.getuid()}-{hashlib.sha256(TOP.encode()).hexdigest()[:16]}"
@@ -298,12 +304,14 @@ def main(words):
             fcntl.flock(lock, fcntl.LOCK_EX)
             become(*words)
         # (so that what is at work is ended too)
-        signal.signal(signal.SIGTERM, lambda *_: sys.exit(128 + signal.SIGTERM))
+        for it in (signal.SIGTERM, signal.SIGINT, signal.SIGHUP):
+            if signal.getsignal(it) != signal.SIG_IGN:
+                signal.signal(it, lambda number, _: sys.exit(128 + number))
         try:
             room = new_room()
             try:
                 build = Build(name, crate, (modes.split()[0], f"{TOP}/{file}"), room)
-                say(f"proving and building the program first, which is {len(build.below)} crates; README.md says how long it takes")
+                say(f"proving and building the program first: {len(build.below)} crates (how long: see README.md)")
                 build.run()
             finally:
                 shutil.rmtree(room, ignore_errors=True)
