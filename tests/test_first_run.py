@@ -56,8 +56,8 @@ TAKEN = [
 CRATES = {"interp": "interp_main", "nfq": "nf_query"}
 
 # It plays the command rt in the current folder, a crate: `rt lib` makes its library, and `rt run` its program, which
-# prints its words. Each takes a while, and in the middle of it half of the file is there. RT_LOG has a line for each
-# beginning and end; RT_STOPS names a crate where it fails.
+# prints its words, where it is not there or other sources were. That takes a while, and in the middle of it half of the
+# file is there. RT_LOG has a line for each beginning, making and end; RT_STOPS names a crate where it fails.
 PLAYED_RT = """#!{python} -IS
 import os, sys, time
 here = os.path.basename(os.getcwd())
@@ -88,10 +88,12 @@ if os.environ.get("RT_STOPS") == here:
     sys.exit("the proof fails")
 stamp = "".join(read(f"src/{{it}}") for it in sorted(os.listdir("src")))
 seconds = float(os.environ["RT_SECONDS"])
-if sys.argv[1] == "run":
+if sys.argv[1] == "run" and read(f"out/{{here}}.stamp") != stamp:
+    log("makes")
     write(f"out/{{here}}", '#!/bin/sh\\necho "built: $@"\\n', seconds)
     write(f"out/{{here}}.stamp", stamp)
-elif read("out/rlib/stamp") != stamp:
+elif sys.argv[1] == "lib" and read("out/rlib/stamp") != stamp:
+    log("makes")
     write(f"out/rlib/{{here}}.rlib/format", "whole", seconds)
     write("out/incremental/kept.oantt", "whole")
     write("out/rlib/stamp", stamp)
@@ -130,15 +132,15 @@ class Checkout:
         how = {"stdin": subprocess.DEVNULL, "stdout": subprocess.PIPE, "stderr": subprocess.PIPE, "text": True}
         return subprocess.Popen([self.top / name, *words], env=env, start_new_session=True, **how)
 
-    def events(self):
-        """What the toolchain was asked for: begins or ends, the crate, when, and the words."""
-        with contextlib.suppress(FileNotFoundError):
-            lines = [line.split(" ", 3) for line in self.log.read_text().splitlines()]
-            return [(what, crate, float(when), words.split()) for what, crate, when, words in lines]
-        return []
+    def events(self, *kinds):
+        """What the toolchain did, of these kinds: begins, makes or ends, the crate, when, and the words."""
+        if not self.log.exists():
+            return []
+        lines = [line.split(" ", 3) for line in self.log.read_text().splitlines()]
+        return [(what, crate, float(when), words.split()) for what, crate, when, words in lines if what in kinds]
 
     def wait_for(self, crate):
-        while not any(it == crate for _, it, _, _ in self.events()):
+        while not any(it == crate for _, it, _, _ in self.events("makes")):
             time.sleep(0.01)
 
     def program(self, name):
@@ -166,7 +168,7 @@ class FirstRun(Test):
                 ended = checkout.run(name, *words)
                 self.assertEqual(ended, (2, "", USAGE[name] + ADVICE[name]))
                 self.assertLess(time.monotonic() - begun, 1)
-        self.assertEqual(checkout.events(), [])
+        self.assertEqual(checkout.events("begins"), [])
 
     def test_the_program_refuses_the_same_words_by_the_same_line(self):
         for name, words in REFUSED:
@@ -221,9 +223,9 @@ class FirstRun(Test):
         checkout = self.checkout()
         ended = checkout.run("interp", "anf")
         self.assertEqual((ended.status, ended.out), (0, "built: anf\n"), ended.err)
-        begun = {crate: when for what, crate, when, _ in checkout.events() if what == "begins"}
-        ends = {crate: when for what, crate, when, _ in checkout.events() if what == "ends"}
-        self.assertEqual(len(checkout.events()), 2 * len(begun))
+        begun = {crate: when for _, crate, when, _ in checkout.events("begins")}
+        ends = {crate: when for _, crate, when, _ in checkout.events("ends")}
+        self.assertEqual(len(checkout.events("begins")), len(begun))
         for crate, libraries in checkout.rows().items():
             for it in libraries:
                 if crate in begun and it in checkout.rows():
@@ -235,19 +237,19 @@ class FirstRun(Test):
     def test_crates_are_proved_side_by_side_as_far_as_processors_allow(self):
         checkout, at_once, most = self.checkout(), 0, 0
         checkout.run("interp", "anf")
-        for what, _, _, words in checkout.events():
+        for what, _, _, words in checkout.events("begins", "ends"):
             jobs = int(words[words.index("--jobs") + 1]) if "--jobs" in words else 1
             at_once += jobs if what == "begins" else -jobs
             most = max(most, at_once)
         self.assertLessEqual(2, most)
         self.assertLessEqual(most, len(os.sched_getaffinity(0)))
-        begins = [what for what, _, _, _ in checkout.events()]
+        begins = [what for what, _, _, _ in checkout.events("begins", "ends")]
         self.assertIn(["begins", "begins"], [begins[at : at + 2] for at in range(len(begins))])
 
     def test_it_says_how_far_it_is(self):
         checkout = self.checkout()
         lines = checkout.run("interp", "anf").err.splitlines()
-        crates = len({crate for _, crate, _, _ in checkout.events()})
+        crates = len(checkout.events("begins"))
         self.assertEqual(len(lines), 1 + crates)
         self.assertIn(f"first: {crates} crates", lines[0])
         time_so_far = r"proved in \d+ min \d+ s"
@@ -288,7 +290,7 @@ class FirstRun(Test):
                 self.assertIn(waits, ended.err)
                 said, err = one.communicate()
                 self.assertEqual((one.returncode, said), (0, "built: anf\n"), err)
-                crates = [crate for what, crate, _, _ in checkout.events() if what == "begins"]
+                crates = [crate for _, crate, _, _ in checkout.events("begins")]
                 first = crates[: crates.index("interp_main") + 1]
                 self.assertEqual(len(first), len({*first}))
                 self.assertEqual(crates[len(first) :] == [], names[1] == "interp")
@@ -336,24 +338,35 @@ class FirstRun(Test):
         self.assertFalse(checkout.program("interp").exists())
         self.assertEqual(checkout.run("interp", "anf").out, "built: anf\n")
 
+    def made_by(self, checkout, change):
+        """Whether a run asks the toolchain after a change of the checkout, and which crates that makes anew."""
+        count, begun = len(checkout.events("makes")), len(checkout.events("begins"))
+        change()
+        self.assertEqual(checkout.run("interp", "anf").out, "built: anf\n")
+        made = [crate for _, crate, _, _ in checkout.events("makes")[count:]]
+        return len(checkout.events("begins")) > begun, made
+
     def test_a_program_is_built_again_where_a_source_is_newer(self):
         checkout = self.checkout()
         checkout.run("interp", "anf")
-        count = len(checkout.events())
-        checkout.run("interp", "anf")
-        self.assertEqual(len(checkout.events()), count)
+        source = checkout.top / "crates/lattice/src/lib.rt"
+        with self.case("nothing changed"):
+            self.assertEqual(self.made_by(checkout, lambda: None), (False, []))
+        with self.case("the same text"):
+            self.assertEqual(self.made_by(checkout, source.touch), (True, []))
+            self.assertEqual(self.made_by(checkout, lambda: None), (False, []))
+        with self.case("another text"):
+            self.assertEqual(self.made_by(checkout, lambda: source.write_text("// first\n")), (True, ["lattice"]))
         with self.case("changed during the build"):
-            source = checkout.top / "crates/lattice/src/lib.rt"
-            source.write_text(source.read_text() + "// first\n")
+            source.write_text("// second\n")
+            count = len(checkout.events("begins"))
             one = checkout.start("interp", "anf")
-            while len(checkout.events()) == count:
+            while len(checkout.events("begins")) == count:
                 time.sleep(0.01)
-            source.write_text(source.read_text() + "// second\n")
+            source.write_text("// third\n")
             one.communicate()
-            count = len(checkout.events())
-            checkout.run("interp", "anf")
-            self.assertGreater(len(checkout.events()), count)
-            self.assertIn("// second", (checkout.top / "crates/lattice/out/rlib/stamp").read_text())
+            self.assertEqual(self.made_by(checkout, lambda: None), (True, ["lattice"]))
+            self.assertIn("// third", (checkout.top / "crates/lattice/out/rlib/stamp").read_text())
 
 
 if __name__ == "__main__":

@@ -189,15 +189,23 @@ class Build:
             library = f"{tree}/crates/{it}/out/rlib"
             if not os.path.isdir(library):
                 shutil.copytree(self.libraries[it], library, copy_function=link_or_copy)
+        kept, to = f"{TOP}/crates/{crate}/out", f"{tree}/crates/{crate}/out"
+        os.mkdir(to)
         for part in BUILT:
-            kept, to = f"{TOP}/crates/{crate}/out/{part}", f"{tree}/crates/{crate}/out/{part}"
             try:
-                if os.path.isdir(kept):
-                    shutil.copytree(kept, to, copy_function=link_or_copy)
+                if os.path.isdir(f"{kept}/{part}"):
+                    shutil.copytree(f"{kept}/{part}", f"{to}/{part}", copy_function=link_or_copy)
             except (OSError, shutil.Error):
                 # (another command may write what this one copies)
-                shutil.rmtree(to, ignore_errors=True)
+                shutil.rmtree(f"{to}/{part}", ignore_errors=True)
+        for name in self.of_program(crate):
+            if os.path.isfile(f"{kept}/{name}"):
+                shutil.copy2(f"{kept}/{name}", f"{to}/{name}")
         return f"{tree}/crates/{crate}"
+
+    def of_program(self, crate):
+        """Returns the files of the crate's out/ that are the program and tell of what it was built, if it is one."""
+        return (crate, f"{crate}.stamp") if crate == self.program else ()
 
     def prove(self, crate, tree, flags):
         """Proves and builds a crate in a tree, and gives what was made its place."""
@@ -231,7 +239,7 @@ class Build:
             for part in BUILT if is_free and not is_same else ():
                 if os.path.isdir(f"{made}/{part}"):
                     put(f"{made}/{part}", f"{to}/{part}")
-        for name in (crate, f"{crate}.stamp") if crate == self.program else ():
+        for name in self.of_program(crate):
             shutil.copy2(f"{made}/{name}", f"{to}/{name}.new")
             # (a source that was changed since then is newer)
             os.utime(f"{to}/{name}.new", (self.begun, self.begun))
