@@ -66,7 +66,7 @@ class Faults:
             return "calls are made to fail on Linux alone"
         if self.compiler is None:
             return "no compiler for C is installed"
-        words = [self.compiler, "-O1", "-shared", "-fPIC", str(EXAMPLES / "faults.c"), "-o", str(self.path)]
+        words = [self.compiler, "-O1", "-shared", "-fPIC", str(TOP / "tests/faults.c"), "-o", str(self.path)]
         built = subprocess.run(words, capture_output=True, text=True, check=False)
         return None if built.returncode == 0 else f"the library does not build: {built.stderr}"
 

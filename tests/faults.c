@@ -1,13 +1,19 @@
-/* A library that is loaded before a program and has calls of its fail, or move less than they could. The environment says which:
+/* A library that is loaded before a program and has calls of it fail, or move less than they could, or counts them. The environment
+   says which:
 
-       FAULT_CALL    alloc, read or write: the calls that are counted, from 1; of alloc malloc, calloc and realloc together
+       FAULT_CALL    alloc, read, write or thread: the calls that are counted, from 1; of alloc malloc, calloc and realloc together,
+                     and of thread pthread_create
        FAULT_FD      of reads and writes, the descriptor whose calls are counted
        FAULT_FIRST   the first of these calls that is met, and
        FAULT_LAST    the last one
-       FAULT_HOW     what becomes of a call that is met: fail (ENOMEM or EIO), interrupt (EINTR), or short, where it moves one byte
-       FAULT_TELL    a descriptor that takes one byte at the first call that is met
+       FAULT_HOW     what becomes of a call that is met: fail (ENOMEM, EIO or EAGAIN), interrupt (EINTR), short, where it moves one
+                     byte, or pass, where nothing is changed
+       FAULT_TELL    a descriptor that takes one byte at each call that is met
 */
+#define _GNU_SOURCE
+#include <dlfcn.h>
 #include <errno.h>
+#include <pthread.h>
 #include <stddef.h>
 #include <stdlib.h>
 #include <string.h>
@@ -19,40 +25,55 @@ extern void *__libc_malloc(size_t size);
 extern void *__libc_calloc(size_t count, size_t size);
 extern void *__libc_realloc(void *block, size_t size);
 
-enum call { NONE, ALLOC, READ, WRITE };
+enum call { NONE, ALLOC, READ, WRITE, THREAD };
+enum how { FAIL, INTERRUPT, SHORT, PASS };
+
+typedef int create(pthread_t *, const pthread_attr_t *, void *(*)(void *), void *);
 
 static enum call counted = NONE;
+static enum how how = PASS;
 static int descriptor, tell;
-static long first, last, calls, told;
-static const char *how;
+static long first, last, calls;
+static create *library_create;
 
 static long number(const char *name) {
     const char *word = getenv(name);
     return word ? atol(word) : 0;
 }
 
+/* The place of a word among four. */
+static int place(const char *word, const char *const *words) {
+    int at = 0;
+    while (at < 4 && strcmp(word, words[at]))
+        at++;
+    return at;
+}
+
 __attribute__((constructor)) static void start(void) {
+    static const char *const names[] = {"alloc", "read", "write", "thread"};
+    static const char *const ways[] = {"fail", "interrupt", "short", "pass"};
     const char *call = getenv("FAULT_CALL");
-    how = getenv("FAULT_HOW");
-    if (!call || !how)
+    const char *way = getenv("FAULT_HOW");
+    library_create = (create *)dlsym(RTLD_NEXT, "pthread_create");
+    if (!call || !way)
         return;
     descriptor = (int)number("FAULT_FD");
     tell = (int)number("FAULT_TELL");
     first = number("FAULT_FIRST");
     last = number("FAULT_LAST");
-    counted = !strcmp(call, "alloc") ? ALLOC : !strcmp(call, "read") ? READ : WRITE;
+    how = (enum how)place(way, ways);
+    counted = (enum call)(ALLOC + place(call, names));
 }
 
 /* Whether a call of this kind is one that is met. */
 static int is_met(enum call call, int fd) {
-    if (call != counted || (call != ALLOC && fd != descriptor))
+    if (call != counted || ((call == READ || call == WRITE) && fd != descriptor))
         return 0;
     long count = __atomic_add_fetch(&calls, 1, __ATOMIC_SEQ_CST);
     if (count < first || last < count)
         return 0;
-    if (__atomic_add_fetch(&told, 1, __ATOMIC_SEQ_CST) == 1)
-        syscall(SYS_write, tell, "x", 1);
-    return 1;
+    syscall(SYS_write, tell, "x", 1);
+    return how != PASS;
 }
 
 static int is_refused(void) {
@@ -74,11 +95,15 @@ void *realloc(void *block, size_t size) {
     return is_refused() ? NULL : __libc_realloc(block, size);
 }
 
+int pthread_create(pthread_t *thread, const pthread_attr_t *attributes, void *(*body)(void *), void *given) {
+    return is_met(THREAD, 0) ? EAGAIN : library_create(thread, attributes, body, given);
+}
+
 /* A read or a write, by the number that the system knows it by. */
 static ssize_t move(enum call call, long number, int fd, void *bytes, size_t size) {
     if (is_met(call, fd)) {
-        if (strcmp(how, "short")) {
-            errno = strcmp(how, "interrupt") ? EIO : EINTR;
+        if (how != SHORT) {
+            errno = how == INTERRUPT ? EINTR : EIO;
             return -1;
         }
         size = size < 1 ? 0 : 1;

@@ -1,0 +1,7 @@
+"""What runs the built programs and looks at how they end. From the top of the repository
+
+    python3 -m unittest [-v]                 runs all of it
+    python3 -m unittest tests.test_NAME      runs one file
+
+The environment variables INTERP and NFQ name programs to try in place of those that are built here.
+"""
