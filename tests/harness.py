@@ -1,4 +1,4 @@
-"""What all tests share: finding a program, running it, how it ended, descriptions, calls that fail, cases that are counted.
+"""What all tests share: finding programs and running them, how they ended, descriptions, calls that fail, and counted cases.
 
 A test that cannot run, as a program or a compiler is missing, is skipped with the reason: the functions here raise
 unittest.SkipTest, which a test lets through.
@@ -28,12 +28,16 @@ NOT_BUILT = 70
 Ended = collections.namedtuple("Ended", "status out err")
 
 
+# How many runs were started.
+started = collections.Counter()
+
+
 @functools.cache
 def program(name):
-    """The path of a program: the one that an environment variable names (INTERP for interp), or the one that is built here.
+    """The path of a program: the one that the environment names (INTERP for interp), or the one that is built here.
 
-    The script of this name at the top builds it, where it is missing or older than its sources. A program without a script,
-    or one that cannot be built for want of the toolchain, skips the test.
+    The script of this name at the top builds it, where it is missing or older than its sources. A program without a
+    script, or one that cannot be built for want of the toolchain, skips the test.
     """
     given = os.environ.get(name.upper())
     if given is not None:
@@ -63,14 +67,15 @@ def installed(name):
 def run(words, text=None, **how):
     """Runs the words, and answers how this ended.
 
-    The text, bytes or a string, stands in a file that is the standard input. Where there is none, the input is empty, or the
-    one that `how` gives: these are the arguments of subprocess.run, as `env`, `cwd`, `preexec_fn` and `timeout`.
+    The text, bytes or a string, stands in a file that is the standard input. Where there is none, the input is empty, or
+    the one that `how` gives: these are the arguments of subprocess.run, as `env`, `cwd`, `preexec_fn` and `timeout`.
     """
     if text is not None:
         with open(os.memfd_create("input"), "w+b") as file:
             file.write(text.encode() if isinstance(text, str) else text)
             file.seek(0)
             return run(words, None, **how, stdin=file)
+    started["runs"] += 1
     piped = {"stdin": subprocess.DEVNULL, "stdout": subprocess.PIPE, "stderr": subprocess.PIPE, "timeout": SECONDS}
     how = {**piped, **how}
     try:
@@ -96,9 +101,9 @@ def answer(words, text=None, **how):
 def description(inputs, outputs, kind, rows, names=None, results=None, end=".e"):
     """The text of a file, a string.
 
-    A row is a line, or a pair: the symbols of its inputs and those of its outputs. `kind` is the type, and None leaves its
-    line out. `names` and `results` are the names of the inputs and of the outputs, if they have some. `end` is the last
-    line, and None leaves it out.
+    A row is a line, or a pair: the symbols of its inputs and those of its outputs. `kind` is the type, and None leaves
+    its line out. `names` and `results` are the names of the inputs and of the outputs, if they have some. `end` is the
+    last line, and None leaves it out.
     """
     lines = [f".i {inputs}", f".o {outputs}"]
     lines += [f".ilb {' '.join(names)}"] if names else []
@@ -109,8 +114,8 @@ def description(inputs, outputs, kind, rows, names=None, results=None, end=".e")
     return "".join(f"{line}\n" for line in lines)
 
 
-# Which calls are met, and what becomes of them: see faults.c. `call` is alloc, read, write or thread, `fd` the descriptor of
-# reads and writes, `first` and `last` count the calls from 1, and `how` is fail, interrupt, short or pass.
+# Which calls are met, and what becomes of them: see faults.c. `call` is alloc, read, write or thread, `fd` the descriptor
+# of reads and writes, `first` and `last` count the calls from 1, and `how` is fail, interrupt, short or pass.
 Fault = collections.namedtuple("Fault", "call fd first last how")
 
 # The number of the last call, where all of them are met from some call on.
@@ -129,7 +134,8 @@ class Faults:
         self.folder = tempfile.TemporaryDirectory()
         self.path = pathlib.Path(self.folder.name) / "faults.so"
         source = TOP / "tests/faults.c"
-        subprocess.run([compiler, "-O1", "-Wall", "-Werror", "-shared", "-fPIC", source, "-o", self.path], check=True)
+        words = [compiler, "-O1", "-Wall", "-Werror", "-shared", "-fPIC", source, "-o", self.path]
+        subprocess.run(words, check=True)
 
     def count(self, words, text, fault, **how):
         """Runs the words on a text, and answers how this ended and how many calls were met."""
@@ -160,23 +166,21 @@ def faults():
 
 
 class Test(unittest.TestCase):
-    """Tests whose cases are counted; how many were tried is told behind the last test of a class."""
+    """Tests whose cases are counted: behind the last test of a class it is told how many there were, and how many runs."""
 
     maxDiff = None
-    tried = 0
 
     @classmethod
     def setUpClass(cls):
-        cls.tried = 0
+        cls.cases = 0
+        cls.runs_before = started["runs"]
 
     @classmethod
     def tearDownClass(cls):
-        print(f"{cls.__module__}.{cls.__qualname__}: {cls.tried} cases", file=sys.stderr, flush=True)
+        runs = started["runs"] - cls.runs_before
+        print(f"{cls.__module__}.{cls.__qualname__}: {cls.cases} cases, {runs} runs", file=sys.stderr, flush=True)
 
-    def case(self, what, count=1):
-        """The context of a case, which is named here: where it fails this is told, and the cases behind it are tried too.
-
-        `count` says for how many cases it stands.
-        """
-        type(self).tried += count
+    def case(self, what):
+        """The context of a case, which is named here: where it fails this is told, and the cases behind it are tried too."""
+        type(self).cases += 1
         return self.subTest(what)

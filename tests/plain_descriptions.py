@@ -1,17 +1,23 @@
-"""Files that keep to the plain forms, read by a program of its own: what `exact` and `queries` share."""
+"""Descriptions that keep to the plain forms, read without the program, with the care points of their outputs.
+
+It is written from the documents, for few inputs: each point is tried with each row.
+"""
 
 import itertools
 
 
+ENDS = (".e", ".end")
+
+
 def read(text):
-    """The inputs, outputs, type and rows of a file that keeps to the plain forms."""
+    """The inputs, outputs, type and rows of a description."""
     inputs = outputs = 0
     kind, rows = "fd", []
-    for line in text.decode().splitlines():
+    for line in text.splitlines():
         words = line.split("#")[0].split()
         if not words:
             continue
-        if words[0] in (".e", ".end"):
+        if words[0] in ENDS:
             break
         if words[0] == ".i":
             inputs = int(words[1])
@@ -25,9 +31,29 @@ def read(text):
     return inputs, outputs, kind, rows
 
 
+def without_end(text):
+    """The lines of a description before the one that ends it."""
+    lines = []
+    for line in text.splitlines():
+        if line.strip() in ENDS:
+            break
+        lines.append(f"{line}\n")
+    return "".join(lines)
+
+
+def with_end(text):
+    """A description, with a line that ends it."""
+    return f"{without_end(text)}.e\n"
+
+
+def inputs_of(text):
+    """The number of inputs of a description."""
+    return read(text)[0]
+
+
 def names(text, command, letter, count):
     """The names that a command gives, or the letter with numbers."""
-    for line in text.decode().splitlines():
+    for line in text.splitlines():
         words = line.split("#")[0].split()
         if words and words[0] == command:
             return words[1:]

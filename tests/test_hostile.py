@@ -1,0 +1,94 @@
+"""The program where its standard streams are closed, full or endless, and with little memory."""
+
+import os
+import resource
+import subprocess
+import tempfile
+
+from tests.harness import EXAMPLES, Ended, Test, description, installed, program, run
+
+MOST_READ = 4_194_305
+POINTS = description(2, 1, "fr", ["11 1", "00 0"])
+ANSWER = "f1 = x2\n"
+TOLD = "output 1: 1 terms, 0 basis\n"
+
+READ_FAULT = Ended(8, "", "interp: read fault\n")
+WRITE_FAULT = Ended(9, "", "interp: write fault\n")
+TOO_LONG = Ended(10, "", "interp: longer than 4194304 bytes\n")
+NO_MEMORY = Ended(7, "", "interp: out of memory\n")
+
+
+def closing(*descriptors):
+    """What a child does before the program starts."""
+    return lambda: [os.close(fd) for fd in descriptors]
+
+
+class Hostile(Test):
+    """Streams that do not serve, in mode anf."""
+
+    def ends(self, what, wanted, text=None, **how):
+        with self.case(what):
+            self.assertEqual(run([program("interp"), "anf"], text, **how), wanted)
+
+    def test_input(self):
+        """Nothing that can be read, and nothing at all."""
+        self.ends("closed", READ_FAULT, preexec_fn=closing(0))
+        folder = os.open(EXAMPLES, os.O_RDONLY)
+        self.ends("a folder", READ_FAULT, stdin=folder)
+        os.close(folder)
+        written = os.open(os.devnull, os.O_WRONLY)
+        self.ends("open for writing alone", READ_FAULT, stdin=written)
+        os.close(written)
+        self.ends("empty", Ended(3, "", "interp: line 0: NoSize\n"), "")
+
+    def test_long_input(self):
+        """Input without an end: a pipe, and a file, of which the place tells how much was read. Then the limit itself."""
+        with subprocess.Popen([installed("yes"), "11 1"], stdout=subprocess.PIPE, stderr=subprocess.DEVNULL) as endless:
+            self.ends("endless lines", TOO_LONG, stdin=endless.stdout)
+            endless.stdout.close()
+        with tempfile.TemporaryFile() as file:
+            file.truncate(2**33)
+            self.ends("8 GiB", TOO_LONG, stdin=file)
+            with self.case("bytes read of 8 GiB"):
+                self.assertEqual(os.lseek(file.fileno(), 0, os.SEEK_CUR), MOST_READ)
+        self.ends("as long as may be", Ended(3, "", "interp: line 1: BadByte\n"), b"\0" * (MOST_READ - 1))
+        self.ends("a byte longer", TOO_LONG, b"\0" * MOST_READ)
+
+    def test_output(self):
+        """Output that takes nothing, and a reader that has gone."""
+        self.ends("closed", WRITE_FAULT, POINTS, preexec_fn=closing(1))
+        with open("/dev/full", "wb") as full:
+            self.ends("full", WRITE_FAULT, POINTS, stdout=full)
+        read_end, write_end = os.pipe()
+        os.close(read_end)
+        self.ends("without a reader", WRITE_FAULT, POINTS, stdout=write_end)
+        os.close(write_end)
+
+    def test_errors(self):
+        """Standard error that takes nothing: the status and the answer stay."""
+        self.ends("closed", Ended(0, ANSWER, ""), POINTS, preexec_fn=closing(2))
+        with open("/dev/full", "wb") as full:
+            self.ends("full", Ended(0, ANSWER, ""), POINTS, stderr=full)
+            self.ends("full, and no answer", Ended(3, "", ""), "", stderr=full)
+            self.ends("both outputs full", Ended(9, "", ""), POINTS, stdout=full, stderr=full)
+        self.ends("all streams closed", Ended(8, "", ""), preexec_fn=closing(0, 1, 2))
+        self.ends("all streams as they should be", Ended(0, ANSWER, TOLD), POINTS)
+
+
+class Memory(Test):
+    """An address space without room for the table of nodes, and one with room for a table at a time."""
+
+    def basis(self, bits, limit):
+        """A run with an address space of so many MiB. While a table is made it takes twice its size."""
+        size = limit * 2**20
+        text = (EXAMPLES / "scattered.pla").read_bytes()
+        how = {"preexec_fn": lambda: resource.setrlimit(resource.RLIMIT_AS, (size, size))} if limit else {}
+        return run([program("interp"), "basis", "--nodes", str(bits)], text, **how)
+
+    def test_tables(self):
+        with self.case("64 MiB for a table of 128 MiB"):
+            self.assertEqual(self.basis(23, 64), NO_MEMORY)
+        with self.case("160 MiB for two tables of 64 MiB, one after the other"):
+            whole = run([program("interp"), "basis"], (EXAMPLES / "scattered.pla").read_bytes())
+            self.assertEqual(whole.status, 0)
+            self.assertEqual(self.basis(22, 160), whole)

@@ -1,0 +1,57 @@
+"""The program where memory is refused: each allocation of a run in turn, alone and with all that come after it.
+
+A run then ends with status 7, nothing on standard output and the line of this status or a front part of it on standard error,
+or as it does with memory. The allocations are those of the C library, which the program and its threads call.
+"""
+
+from tests.harness import ALL, Fault, Test, description, faults, program, run
+
+PAIR = description(2, 2, "fr", ["11 1-", "00 00", "10 -1"], end=None)
+JUDGED = description(2, 1, "fr", ["11 1", "00 0"]) + "f1 = x2\n0 = x1 + x2\n"
+BASES = "f1 = x2\n0 = x1 + x2\nf2 = x1\n0 = x2\n"
+
+# The words of each run, what it reads, and what it prints.
+RUNS = [
+    ("anf", PAIR, "f1 = x2\nf2 = x1\n"),
+    ("basis", PAIR, BASES),
+    ("check", JUDGED, "yes\n"),
+    ("anf --workers 2", PAIR, "f1 = x2\nf2 = x1\n"),
+    ("basis --workers 2", PAIR, BASES),
+    ("gen", "", "points 256\nf1 8\nf2 7\n"),
+    ("gen --workers 2", "", "points 256\nf1 8\nf2 7\n"),
+]
+
+MESSAGE = "interp: out of memory\n"
+
+
+def is_refused(ended):
+    """Whether this is the end for want of memory."""
+    return (ended.status, ended.out) == (7, "") and MESSAGE.startswith(ended.err)
+
+
+class Refused(Test):
+    """Allocations that are refused."""
+
+    def refuse(self, words, text, whole, number):
+        """Refuses an allocation, alone and with all that come after it. Answers whether it was met, and how many of the two
+        runs ended for want of memory."""
+        ends = 0
+        for last in (number, ALL):
+            ended, was_met = faults().run(words, text, Fault("alloc", 0, number, last, "fail"))
+            if ended != whole:
+                self.assertTrue(was_met and is_refused(ended), f"allocations {number} to {last} refused: {ended}")
+            ends += ended.status == 7
+        return was_met, ends
+
+    def test_each_allocation(self):
+        for line, text, answer in RUNS:
+            with self.case(line):
+                words = [program("interp"), *line.split()]
+                whole = run(words, text)
+                self.assertEqual((whole.status, whole.out), (0, answer))
+                number, ends, was_met = 0, 0, True
+                while was_met:
+                    number += 1
+                    was_met, more = self.refuse(words, text, whole, number)
+                    ends += more
+                self.assertGreater(ends, 0, f"{number - 1} allocations were met")
