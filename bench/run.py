@@ -3,7 +3,7 @@
 
     run.py [--runs N] [--workers N,N..] [--program PATH] [--also PATH] [FILE..]
 
-It makes the files (make_files.py), builds the driver (brial_driver.cpp) where Debian's packages libbrial-dev and
+It makes the files (make_files.py), builds the driver (brial.py) where Debian's packages libbrial-dev and
 libbrial-groebner-dev are installed, runs each program on each file in turn, N times, and prints a table: the least time of
 each in milliseconds, start and reading included, the peak memory of the first column, which is that of this script at the
 least, and the answer's bytes. --also names a second build of interp, to compare with.
@@ -13,28 +13,17 @@ import argparse
 import hashlib
 import os
 import pathlib
-import shutil
 import subprocess
 import sys
 import tempfile
 import time
 
+import brial
 import make_files
 
 HERE = pathlib.Path(__file__).resolve().parent
 # Seconds after which a run is ended.
 LIMIT = 30
-
-
-def driver(folder):
-    """The driver's path, or None where BRiAl is not installed."""
-    if not shutil.which("g++"):
-        return None
-    path = folder / "brial"
-    words = ["g++", "-O2", "-std=c++14", "-w", str(HERE / "brial_driver.cpp"), "-o", str(path)]
-    words += ["-lbrial_groebner", "-lbrial", "-lm4ri"]
-    built = subprocess.run(words, stderr=subprocess.PIPE, check=False)
-    return path if built.returncode == 0 else None
 
 
 def run(words, file):
@@ -58,13 +47,13 @@ def run(words, file):
     return spent, used.ru_maxrss, child.returncode, size, digest
 
 
-def commands(options, mode, brial):
+def commands(options, mode, driver):
     """The columns of the table: a name and the words of a command."""
     found = [(f"interp, {n}", [options.program, mode, "--workers", n]) for n in options.workers.split(",")]
     if options.also:
         found.append(("also", [options.also, mode]))
-    if brial:
-        found.append(("BRiAl", [str(brial), mode]))
+    if driver:
+        found.append(("BRiAl", [str(driver), mode]))
     return found
 
 
@@ -98,10 +87,10 @@ def main():
     options = parser.parse_args()
     with tempfile.TemporaryDirectory() as folder:
         folder = pathlib.Path(folder)
-        brial = driver(folder)
-        if brial is None:
+        driver = brial.driver(folder)
+        if driver is None:
             print("BRiAl is not installed: the table is without it", file=sys.stderr)
-        heads = [name for name, _ in commands(options, "", brial)]
+        heads = [name for name, _ in commands(options, "", driver)]
         print(f"| file | mode | {' | '.join(heads)} | MB | bytes |\n|{'---|' * (len(heads) + 4)}")
         different = []
         for name, (mode, make) in make_files.FILES.items():
@@ -109,7 +98,7 @@ def main():
                 continue
             path = folder / f"{name}.pla"
             path.write_text(make())
-            columns = commands(options, mode, brial)
+            columns = commands(options, mode, driver)
             if not row(name, mode, *measure(columns, path, options.runs)):
                 different.append(name)
     for name in different:

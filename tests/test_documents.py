@@ -1,0 +1,120 @@
+"""The lines of the documents do what stands there: those of docs/USES.md and of README.md, and the callers in docs/LIBRARY.md."""
+
+import pathlib
+import re
+import shutil
+import tempfile
+import unittest
+
+from tests.harness import TOP, Test, program, run
+
+# What the blocks of lines in docs/USES.md print, in order: a part of the block, and a part of what it prints.
+PRINTS = [
+    ("read_verilog examples/adder.v", "Networks are equivalent"),
+    ("cmp <(", "same\n"),
+    ("&exorcism", "-01- 1\n-1-1 1\n"),
+    ("examples/present.pla", "0 = y0 + x3 + x2*x1 + x2 + x0\n"),
+    ("bench/make_files.py", "0\n132\n133\n145\n136\n131\n114\n112\n110\n"),
+    ("examples/johnson.pla", "0 = q4*q3 + q4*q0 + q3*q0 + q3\n"),
+    ("./nfq reduce", "reachable = 0\n"),
+    ("Singular -q", "4\n"),
+    ("M2 --script", "4\n"),
+    ("./interp check", "yes\n"),
+]
+
+# Blocks of these documents that are no lines to run begin so.
+NO_LINES = ("prime =", "mkdir")
+
+# The programs of the system that the lines need.
+PROGRAMS = ("yosys", "berkeley-abc", "Singular", "M2")
+
+# Lines that stand in README.md, where what they print stands too.
+README_LINES = (
+    "./interp anf < examples/two_points.pla",
+    "./interp anf < examples/seven_segments.pla",
+    "./interp basis < examples/half_adder.pla",
+    "{ cat examples/half_adder.pla; ./interp basis < examples/half_adder.pla; } | ./interp check",
+    "./interp gen",
+    "./interp anf --order $(cat examples/decoder.order) < examples/decoder.pla",
+    "./nfq reduce < examples/relations.pla",
+    "./nfq union < examples/two_ideals.pla",
+)
+
+
+def blocks(text):
+    """The blocks of indented lines that run a program."""
+    found = []
+    for part in text.split("\n\n"):
+        lines = part.split("\n")
+        if lines[0].startswith("    "):
+            found.append("\n".join(line[4:] for line in lines if line.startswith("    ")))
+    return [block for block in found if not block.startswith(NO_LINES)]
+
+
+def missing(text):
+    """The programs of the system that a text names and that are not installed."""
+    return [name for name in PROGRAMS if name in text and not shutil.which(name)]
+
+
+class Lines(Test):
+    """Lines that a shell runs, in a folder with what they need."""
+
+    def setUp(self):
+        folder = tempfile.TemporaryDirectory()
+        self.addCleanup(folder.cleanup)
+        self.folder = pathlib.Path(folder.name)
+        for name in ("bench", "examples", "tools"):
+            (self.folder / name).symlink_to(TOP / name)
+        (self.folder / "made").mkdir()
+
+    def shell(self, text):
+        """How the lines end. The programs of this repository that they name are linked to those that are tried."""
+        for name in re.findall(r"(?<![\w/.])\./(\w+)", text):
+            link = self.folder / name
+            if not link.is_symlink():
+                link.symlink_to(program(name))
+        return run(["bash", "-c", text], cwd=self.folder)
+
+    def test_uses(self):
+        found = blocks((TOP / "docs/USES.md").read_text())
+        with self.case("each block has a line in the table"):
+            self.assertEqual(len(found), len(PRINTS))
+        for block, (part, prints) in zip(found, PRINTS):
+            with self.case(block):
+                self.assertIn(part, block)
+                self.try_use(block, prints)
+
+    def try_use(self, block, prints):
+        """Runs a block; of one that needs a missing program the other lines, as later blocks read what they write."""
+        absent = missing(block)
+        if absent:
+            self.shell("\n".join(line for line in block.splitlines() if not missing(line)))
+            raise unittest.SkipTest(f"{absent[0]} is not installed")
+        ended = self.shell(block)
+        self.assertEqual(ended.status, 0, ended)
+        self.assertIn(prints, ended.out, ended)
+
+    def test_readme(self):
+        """What a line prints stands in a block of its own or, if it is a word, in the text."""
+        readme = (TOP / "README.md").read_text()
+        for line in README_LINES:
+            with self.case(line):
+                self.assertTrue(line in readme, "not in README.md")
+                ended = self.shell(line)
+                self.assertEqual(ended.status, 0, ended)
+                printed = ended.out.splitlines()
+                stands = "".join(f"    {row}\n" for row in printed) in readme
+                self.assertTrue(stands or len(printed) == 1 and f"`{printed[0]}`" in readme, ended)
+
+
+class Library(Test):
+    """The callers that docs/LIBRARY.md shows are those of the crate."""
+
+    def test_callers(self):
+        document = (TOP / "docs/LIBRARY.md").read_text()
+        for name in ("listed", "whole"):
+            with self.case(f"{name}.rt"):
+                source = (TOP / f"crates/uses_library/src/{name}.rt").read_text()
+                lines = source.splitlines(keepends=True)
+                shown = "".join(f"    {line}" if line.strip() else line for line in lines)
+                self.assertTrue(shown in document, "not as it stands in the crate")

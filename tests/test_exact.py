@@ -1,0 +1,85 @@
+"""The program with just as many slots as a file needs and with half as many: the status, text and message that are due.
+
+How many nodes each phase of a run needs, and how many terms it has, is computed without the program (needed_nodes.py). Ten
+files of examples/ are run in the modes anf and basis, again and again, with several numbers of workers; then small random
+files with each small table and several limits of terms.
+"""
+
+import random
+
+from tests.harness import EXAMPLES, Ended, Test, description, program, run
+from tests.made_descriptions import random_rows
+from tests.needed_nodes import cost_of
+from tests.plain_descriptions import read
+
+FILES = (
+    "full_adder seven_segments half_adder johnson one_hot present present_graph digits three_points written_by_abc".split()
+)
+WORKERS = (1, 3, 16)
+TIMES = 8
+RANDOM_FILES = 60
+LEAST_BITS = 4
+MOST_TERMS = 1_000_000
+
+
+def due(cost, bits, limit, whole):
+    """How a run ends that needs this much, with 2^bits slots and this limit of terms; without limits it ends as `whole`."""
+    full = Ended(5, "", f"interp: more than {2**bits} nodes are needed\n")
+    long = Ended(6, "", f"interp: more than {limit} terms\n")
+    if cost.first > 2**bits:
+        return full
+    if cost.leads > limit:
+        return long
+    if cost.last > 2**bits:
+        return full
+    return long if cost.terms > limit else whole
+
+
+def bits_for(nodes):
+    """The least table that has so many slots, by its logarithm."""
+    return max(LEAST_BITS, (nodes - 1).bit_length())
+
+
+class Exact(Test):
+    """Runs whose limits are near to what they need."""
+
+    def expect(self, wanted, mode, text, *words):
+        ended = run([program("interp"), mode, *words], text)
+        self.assertEqual(ended, wanted, f"{mode} {' '.join(map(str, words))}")
+
+    def try_example(self, text, mode):
+        """With the least table that has enough slots, and with half of it, again and again."""
+        cost = cost_of(*read(text), mode)
+        whole = run([program("interp"), mode], text)
+        self.assertEqual(whole.status, 0)
+        enough = bits_for(cost.last)
+        for bits in range(max(LEAST_BITS, enough - 1), enough + 1):
+            for workers in WORKERS * TIMES:
+                self.expect(due(cost, bits, MOST_TERMS, whole), mode, text, "--nodes", bits, "--workers", workers)
+
+    def test_examples(self):
+        for name in FILES:
+            for mode in ("anf", "basis"):
+                with self.case(f"{name}, {mode}"):
+                    self.try_example((EXAMPLES / f"{name}.pla").read_text(), mode)
+
+    def try_limits(self, cost, whole, mode, text, draws):
+        """With each table up to the one that is great enough, and some limits of terms."""
+        limits = {max(1, count + more) for count in (cost.leads, cost.terms) for more in (-1, 0)} | {MOST_TERMS}
+        for bits in range(LEAST_BITS, bits_for(cost.last) + 1):
+            for limit in sorted(limits):
+                words = ("--nodes", bits, "--terms", limit, "--workers", draws.choice(WORKERS))
+                self.expect(due(cost, bits, limit, whole), mode, text, *words)
+
+    def test_random_files(self):
+        draws = random.Random(1)
+        for number in range(RANDOM_FILES):
+            inputs, outputs, kind = draws.randint(2, 9), draws.randint(1, 3), draws.choice(["f", "fd", "fr", "fdr"])
+            rows = random_rows(draws, inputs, outputs, 12)
+            text = description(inputs, outputs, kind, rows, end=None)
+            for mode in ("anf", "basis"):
+                whole = run([program("interp"), mode], text)
+                if whole.status == 4:
+                    break
+                with self.case(f"file {number}, {mode}: {text!r}"):
+                    self.try_limits(cost_of(inputs, outputs, kind, rows, mode), whole, mode, text, draws)
