@@ -1,4 +1,4 @@
-"""Builds the driver that has BRiAl solve a file, where Debian's packages libbrial-dev and libbrial-groebner-dev are installed."""
+"""The program that has BRiAl solve a file; it needs Debian's packages libbrial-dev and libbrial-groebner-dev."""
 
 import pathlib
 import shutil

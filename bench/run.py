@@ -4,9 +4,9 @@
     run.py [--runs N] [--workers N,N..] [--program PATH] [--also PATH] [FILE..]
 
 It makes the files (make_files.py), builds the driver (brial.py) where Debian's packages libbrial-dev and
-libbrial-groebner-dev are installed, runs each program on each file in turn, N times, and prints a table: the least time of
-each in milliseconds, start and reading included, the peak memory of the first column, which is that of this script at the
-least, and the answer's bytes. --also names a second build of interp, to compare with.
+libbrial-groebner-dev are installed, runs each program on each file in turn, N times, and prints a table: the least
+time of each in milliseconds, start and reading included, the peak memory of the first column, which is that of this
+script at the least, and the answer's bytes. --also names a second build of interp, to compare with.
 """
 
 import argparse

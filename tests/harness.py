@@ -1,4 +1,4 @@
-"""What all tests share: finding programs and running them, how they ended, descriptions, calls that fail, and counted cases.
+"""What all tests share: finding and running programs, how they ended, descriptions, calls that fail, counted cases.
 
 A test that cannot run, as a program or a compiler is missing, is skipped with the reason: the functions here raise
 unittest.SkipTest, which a test lets through.
@@ -13,6 +13,7 @@ import shutil
 import subprocess
 import sys
 import tempfile
+import threading
 import unittest
 
 TOP = pathlib.Path(__file__).resolve().parent.parent
@@ -28,8 +29,9 @@ NOT_BUILT = 70
 Ended = collections.namedtuple("Ended", "status out err")
 
 
-# How many runs were started.
+# How many runs were started, which several threads may do.
 started = collections.Counter()
+counting = threading.Lock()
 
 
 @functools.cache
@@ -67,15 +69,17 @@ def installed(name):
 def run(words, text=None, **how):
     """Runs the words, and answers how this ended.
 
-    The text, bytes or a string, stands in a file that is the standard input. Where there is none, the input is empty, or
-    the one that `how` gives: these are the arguments of subprocess.run, as `env`, `cwd`, `preexec_fn` and `timeout`.
+    The text, bytes or a string, stands in a file that is the standard input. Where there is none, the input is empty,
+    or the one that `how` gives: these are the arguments of subprocess.run, as `env`, `cwd`, `preexec_fn` and
+    `timeout`.
     """
     if text is not None:
         with open(os.memfd_create("input"), "w+b") as file:
             file.write(text.encode() if isinstance(text, str) else text)
             file.seek(0)
             return run(words, None, **how, stdin=file)
-    started["runs"] += 1
+    with counting:
+        started["runs"] += 1
     piped = {"stdin": subprocess.DEVNULL, "stdout": subprocess.PIPE, "stderr": subprocess.PIPE, "timeout": SECONDS}
     how = {**piped, **how}
     try:
@@ -114,8 +118,9 @@ def description(inputs, outputs, kind, rows, names=None, results=None, end=".e")
     return "".join(f"{line}\n" for line in lines)
 
 
-# Which calls are met, and what becomes of them: see faults.c. `call` is alloc, read, write or thread, `fd` the descriptor
-# of reads and writes, `first` and `last` count the calls from 1, and `how` is fail, interrupt, short or pass.
+# Which calls are met, and what becomes of them: see faults.c. `call` is alloc, read, write or thread, `fd` the
+# descriptor of reads and writes, `first` and `last` count the calls from 1, and `how` is fail, interrupt, short or
+# pass.
 Fault = collections.namedtuple("Fault", "call fd first last how")
 
 # The number of the last call, where all of them are met from some call on.
@@ -166,7 +171,7 @@ def faults():
 
 
 class Test(unittest.TestCase):
-    """Tests whose cases are counted: behind the last test of a class it is told how many there were, and how many runs."""
+    """Tests whose cases are counted: how many there were is told behind the last test of a class, and how many runs."""
 
     maxDiff = None
 
@@ -181,6 +186,6 @@ class Test(unittest.TestCase):
         print(f"{cls.__module__}.{cls.__qualname__}: {cls.cases} cases, {runs} runs", file=sys.stderr, flush=True)
 
     def case(self, what):
-        """The context of a case, which is named here: where it fails this is told, and the cases behind it are tried too."""
+        """The context of a case, which is named: where it fails this is told, and the cases behind it are tried too."""
         type(self).cases += 1
         return self.subTest(what)

@@ -23,4 +23,5 @@ def shared_out(draws, count, inputs, outputs):
 
 def valued(draws, count, inputs, outputs):
     """Rows of so many random points, each with a random value for each output."""
-    return [(point, "".join(draws.choice("01") for _ in range(outputs))) for point in random_points(draws, count, inputs)]
+    points = random_points(draws, count, inputs)
+    return [(point, "".join(draws.choice("01") for _ in range(outputs))) for point in points]

@@ -1,7 +1,7 @@
 """How many nodes and terms a run needs, by sets of diagrams and the lists of families that each operation asks for.
 
-It is written from the documents, for small files, and shares nothing with the program. A diagram is a number: 0 is the empty
-family, 1 the family whose one member is 0, and each other one names a node of a variable and two diagrams.
+It is written from the documents, for small files, and shares nothing with the program. A diagram is a number: 0 is
+the empty family, 1 the family whose one member is 0, and each other one names a node of a variable and two diagrams.
 """
 
 import collections

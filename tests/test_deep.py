@@ -1,8 +1,8 @@
 """The program on deep and on wide files with small stacks, compared with what it prints otherwise.
 
-The files have 62 inputs, in mode check 14, and up to 8,192 rows and 64 outputs. Each is run once with the stacks that the
-system gives, and then with 1, 2 and 16 workers and stacks of so many KiB as STACK says: that of the main thread, which has the
-words and the environment too, here none, and that of each thread that the program starts.
+The files have 62 inputs, in mode check 14, and up to 8,192 rows and 64 outputs. Each is run once with the stacks that
+the system gives, and then with 1, 2 and 16 workers and stacks of so many KiB as STACK says: that of the main thread,
+which has the words and the environment too, here none, and that of each thread that the program starts.
 """
 
 import random
@@ -11,8 +11,8 @@ import resource
 from tests.harness import Test, description, program, run
 from tests.made_descriptions import shared_out
 
-# In KiB: 512 for the marks of the search for contradicting rows, which stand on the main thread's stack, and 128 for all
-# else.
+# In KiB: 512 for the marks of the search for contradicting rows, which stand on the main thread's stack, and 128 for
+# all else.
 STACK = 640
 INPUTS = 62
 MOST_CHECKED = 14

@@ -1,10 +1,10 @@
 """The program where reads and writes fail: each one in turn, on each file of examples/.
 
-The modes are anf and basis, and check where there are few enough inputs and the answer is short. A read that fails ends the
-run with status 8, its message, and nothing on standard output; a write of the answer that fails ends it with status 9, its
-message, and the texts of the outputs before. A failed write to standard error takes its line away and changes nothing else.
-A read or write that is interrupted, or that moves one byte alone, changes nothing at all, nor do reads or writes that all do
-so.
+The modes are anf and basis, and check where there are few enough inputs and the answer is short. A read that fails
+ends the run with status 8, its message, and nothing on standard output; a write of the answer that fails ends it with
+status 9, its message, and the texts of the outputs before. A failed write to standard error takes its line away and
+changes nothing else. A read or write that is interrupted, or that moves one byte alone, changes nothing at all, nor
+do reads or writes that all do so.
 """
 
 import concurrent.futures
@@ -29,7 +29,7 @@ class Trial:
         self.wrong = []
 
     def judge(self, fault, is_right):
-        """Runs with a fault, and answers whether a call was met. Where one was, the end is to be right, and else whole."""
+        """Runs with a fault, and answers whether a call was met. Where one was, the end is to be right, else whole."""
         ended, was_met = faults().run(self.words, self.text, fault)
         if not (is_right(ended) if was_met else ended == self.whole):
             self.wrong.append(f"{fault}: {ended}")
@@ -41,7 +41,8 @@ class Trial:
     def try_descriptor(self, call, fd, is_used, is_right):
         """Each call on the descriptor fails, is interrupted and is short, one at a time; then all are short.
 
-        There is such a call where it is used. `is_right` is told the number of the call that fails, and how the run ended.
+        There is such a call where it is used. `is_right` is told the number of the call that fails, and how the run
+        ended.
         """
         number = 1
         while self.judge(Fault(call, fd, number, number, "fail"), lambda ended, at=number: is_right(at, ended)):

@@ -1,4 +1,4 @@
-"""The lines of the documents do what stands there: those of docs/USES.md and of README.md, and the callers in docs/LIBRARY.md."""
+"""The lines of docs/USES.md and of README.md print what stands there, and docs/LIBRARY.md shows callers as they are."""
 
 import pathlib
 import re

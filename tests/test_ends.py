@@ -61,7 +61,7 @@ class Ends(Test):
                 self.assertEqual(run([program("interp"), "gen", "--seed", "12345", "--workers", workers]), other)
 
     def test_progress(self):
-        """Of many outputs, the text of each is followed at once by its line of progress, as far as there are such lines."""
+        """Of many outputs, the text of each is followed by its line of progress, as far as there are such lines."""
         text = description(1, 20, "fr", ["1 " + 20 * "1", "0 " + 20 * "0"], end=None)
         lines = []
         for output in range(1, 21):

@@ -1,8 +1,8 @@
 """The program with just as many slots as a file needs and with half as many: the status, text and message that are due.
 
-How many nodes each phase of a run needs, and how many terms it has, is computed without the program (needed_nodes.py). Ten
-files of examples/ are run in the modes anf and basis, again and again, with several numbers of workers; then small random
-files with each small table and several limits of terms.
+How many nodes each phase of a run needs, and how many terms it has, is computed without the program
+(needed_nodes.py). Ten files of examples/ are run in the modes anf and basis, again and again, with several numbers of
+workers; then small random files with each small table and several limits of terms.
 """
 
 import random
@@ -13,8 +13,9 @@ from tests.needed_nodes import cost_of
 from tests.plain_descriptions import read
 
 FILES = (
-    "full_adder seven_segments half_adder johnson one_hot present present_graph digits three_points written_by_abc".split()
-)
+    "full_adder seven_segments half_adder johnson one_hot "
+    "present present_graph digits three_points written_by_abc"
+).split()
 WORKERS = (1, 3, 16)
 TIMES = 8
 RANDOM_FILES = 60
@@ -23,7 +24,7 @@ MOST_TERMS = 1_000_000
 
 
 def due(cost, bits, limit, whole):
-    """How a run ends that needs this much, with 2^bits slots and this limit of terms; without limits it ends as `whole`."""
+    """How a run that needs this much ends, with 2^bits slots and this limit of terms; without limits as `whole`."""
     full = Ended(5, "", f"interp: more than {2**bits} nodes are needed\n")
     long = Ended(6, "", f"interp: more than {limit} terms\n")
     if cost.first > 2**bits:

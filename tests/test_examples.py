@@ -1,8 +1,8 @@
 """The program on each file of examples/, compared with the answers beside it, which are judged in mode check too.
 
-NAME.anf and NAME.basis are the answers to NAME.pla in these modes, NAME.ordered the one in mode anf by the order of the inputs in
-NAME.order, and NAME.message what stands on standard error where there is no answer. Each answer in mode basis over few enough inputs
-is judged as it is, and with a term or a line of it dropped, added or moved.
+NAME.anf and NAME.basis are the answers to NAME.pla in these modes, NAME.ordered the one in mode anf by the order of
+the inputs in NAME.order, and NAME.message what stands on standard error where there is no answer. Each answer in mode
+basis over few enough inputs is judged as it is, and with a term or a line of it dropped, added or moved.
 """
 
 from tests.harness import EXAMPLES, Ended, Test, program, run

@@ -42,7 +42,7 @@ class Hostile(Test):
         self.ends("empty", Ended(3, "", "interp: line 0: NoSize\n"), "")
 
     def test_long_input(self):
-        """Input without an end: a pipe, and a file, of which the place tells how much was read. Then the limit itself."""
+        """Input without an end: a pipe, and a file, whose place tells how much was read. Then the limit itself."""
         with subprocess.Popen([installed("yes"), "11 1"], stdout=subprocess.PIPE, stderr=subprocess.DEVNULL) as endless:
             self.ends("endless lines", TOO_LONG, stdin=endless.stdout)
             endless.stdout.close()

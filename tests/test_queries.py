@@ -1,9 +1,10 @@
 """What nfq answers on examples and on random files, compared with what is found without it.
 
-The normal form of each element of a reduced basis is 0. A random polynomial and its normal form have the same values at all
-care points, which are found here by trying each point, and the normal form is its own. On random files with two outputs the
-bases of modes union and meet are those that interp finds for one output with all points that are in either set, and in both.
-Then most kinds of end are tried, for their status and message: not want of memory, nor a fault of a stream.
+The normal form of each element of a reduced basis is 0. A random polynomial and its normal form have the same values
+at all care points, which are found here by trying each point, and the normal form is its own. On random files with
+two outputs the bases of modes union and meet are those that interp finds for one output with all points that are in
+either set, and in both. Then most kinds of end are tried, for their status and message: not want of memory, nor a
+fault of a stream.
 """
 
 import random
@@ -13,8 +14,9 @@ from tests.made_descriptions import random_rows
 from tests.plain_descriptions import care_points, names, read, with_end
 
 FILES = (
-    "full_adder seven_segments half_adder johnson present present_graph digits three_points multiplier majority".split()
-)
+    "full_adder seven_segments half_adder johnson present "
+    "present_graph digits three_points multiplier majority"
+).split()
 POLYNOMIALS = 8
 RANDOM_FILES = 60
 

@@ -1,7 +1,8 @@
 """The program where memory is refused: each allocation of a run in turn, alone and with all that come after it.
 
-A run then ends with status 7, nothing on standard output and the line of this status or a front part of it on standard error,
-or as it does with memory. The allocations are those of the C library, which the program and its threads call.
+A run then ends with status 7, nothing on standard output and the line of this status or a front part of it on
+standard error, or as it does with memory. The allocations are those of the C library, which the program and its
+threads call.
 """
 
 from tests.harness import ALL, Fault, Test, description, faults, program, run
@@ -33,8 +34,10 @@ class Refused(Test):
     """Allocations that are refused."""
 
     def refuse(self, words, text, whole, number):
-        """Refuses an allocation, alone and with all that come after it. Answers whether it was met, and how many of the two
-        runs ended for want of memory."""
+        """Refuses an allocation, alone and with all that come after it.
+
+        Answers whether it was met, and how many of the two runs ended for want of memory.
+        """
         ends = 0
         for last in (number, ALL):
             ended, was_met = faults().run(words, text, Fault("alloc", 0, number, last, "fail"))

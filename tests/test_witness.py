@@ -1,8 +1,9 @@
 """The answers of interp compared with those of other programs, on small random files.
 
-BRiAl: the least polynomials and the reduced bases, byte by byte. Singular: the printed basis is the reduced one of its ideal,
-and as many points are its zeros as are care points. Macaulay2: the printed basis spans the ideal of the care points. ABC: the
-polynomials of a file without free points are the file's functions. Each is skipped where the program is not installed.
+BRiAl: the least polynomials and the reduced bases, byte by byte. Singular: the printed basis is the reduced one of
+its ideal, and as many points are its zeros as are care points. Macaulay2: the printed basis spans the ideal of the
+care points. ABC: the polynomials of a file without free points are the file's functions. Each is skipped where the
+program is not installed.
 """
 
 import functools
@@ -115,7 +116,7 @@ class Witness(Test):
 
 
 def in_singular(sample):
-    """A script that prints `wrong 0` where the basis is the reduced one, and has as many zeros as there are care points."""
+    """A script that prints `wrong 0` where the basis is the reduced one, with as many zeros as care points."""
     fields = ", ".join(f"{name}^2+{name}" for name in sample.names)
     elements = ", ".join(sample.basis()) or "0"
     return f"""
