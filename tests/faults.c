@@ -8,7 +8,7 @@
        FAULT_LAST    the last one
        FAULT_HOW     what becomes of a call that is met: fail (ENOMEM, EIO or EAGAIN), interrupt (EINTR), short, where it moves one
                      byte, or pass, where nothing is changed
-       FAULT_TELL    a descriptor that takes one byte at each call that is met
+       FAULT_TELL    the descriptor of a file that has in the end as many bytes as calls were met
 */
 #define _GNU_SOURCE
 #include <dlfcn.h>
@@ -72,7 +72,8 @@ static int is_met(enum call call, int fd) {
     long count = __atomic_add_fetch(&calls, 1, __ATOMIC_SEQ_CST);
     if (count < first || last < count)
         return 0;
-    syscall(SYS_write, tell, "x", 1);
+    /* Each call has a place of its own, as several threads may come here at one time. */
+    syscall(SYS_pwrite64, tell, "x", 1, (off_t)(count - first));
     return how != PASS;
 }
 

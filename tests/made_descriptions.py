@@ -25,3 +25,11 @@ def valued(draws, count, inputs, outputs):
     """Rows of so many random points, each with a random value for each output."""
     points = random_points(draws, count, inputs)
     return [(point, "".join(draws.choice("01") for _ in range(outputs))) for point in points]
+
+
+def random_cube(draws, inputs, fixed):
+    """The inputs of a row that fixes so many of them."""
+    symbols = ["-"] * inputs
+    for place in draws.sample(range(inputs), fixed):
+        symbols[place] = draws.choice("01")
+    return "".join(symbols)
