@@ -2,13 +2,14 @@
 
 How many nodes each phase of a run needs, and how many terms it has, is computed without the program
 (needed_nodes.py). Ten files of examples/ are run in the modes anf and basis, again and again, with several numbers of
-workers; then small random files with each small table and several limits of terms.
+workers; then small random files with each small table and several limits of terms. All these have tables on which two
+workers are the most. So last there are files on larger tables, and the threads that start are counted there.
 """
 
 import random
 
-from tests.harness import EXAMPLES, Ended, Test, description, program, run
-from tests.made_descriptions import random_rows
+from tests.harness import ALL, EXAMPLES, Ended, Fault, Test, description, faults, program, run
+from tests.made_descriptions import random_rows, valued
 from tests.needed_nodes import cost_of
 from tests.plain_descriptions import read
 
@@ -21,6 +22,9 @@ TIMES = 8
 RANDOM_FILES = 60
 LEAST_BITS = 4
 MOST_TERMS = 1_000_000
+
+# How often each larger file is run.
+LARGE_TIMES = 5
 
 
 def due(cost, bits, limit, whole):
@@ -39,6 +43,25 @@ def due(cost, bits, limit, whole):
 def bits_for(nodes):
     """The least table that has so many slots, by its logarithm."""
     return max(LEAST_BITS, (nodes - 1).bit_length())
+
+
+def turned(rows, row, output):
+    """The rows, one of which has the other value for an output."""
+    point, values = rows[row]
+    other = values[:output] + "10"[int(values[output])] + values[output + 1 :]
+    return [*rows[:row], (point, other), *rows[row + 1 :]]
+
+
+def large_files():
+    """Files on larger tables: the nodes that a whole run needs, what a description is made from, and the mode.
+
+    Two of them fill a table of 2^13 slots to the last one, and one needs a slot more.
+    """
+    many = valued(random.Random(1), 80, 12, 16)[:63]
+    yield 2**13, (12, 16, "fr", turned(many, 0, 12)), "anf"
+    yield 2**13 + 1, (12, 16, "fr", turned(many, 4, 10)), "anf"
+    yield 2**13, (16, 1, "fr", turned(valued(random.Random(6), 420, 16, 1)[:363], 12, 0)), "anf"
+    yield 10738, (10, 6, "fr", valued(random.Random(2), 80, 10, 6)), "basis"
 
 
 class Exact(Test):
@@ -63,6 +86,26 @@ class Exact(Test):
             for mode in ("anf", "basis"):
                 with self.case(f"{name}, {mode}"):
                     self.try_example((EXAMPLES / f"{name}.pla").read_text(), mode)
+
+    def test_large_files(self):
+        for nodes, file, mode in large_files():
+            text, cost = description(*file), cost_of(*file, mode)
+            whole = run([program("interp"), mode], text)
+            with self.case(f"{nodes} nodes"):
+                self.assertEqual((cost.last, whole.status), (nodes, 0))
+            for bits in (13, 14):
+                for workers in (2, 4, 8, 16):
+                    with self.case(f"{nodes} nodes, {mode} --nodes {bits} --workers {workers}"):
+                        words = [program("interp"), mode, "--nodes", bits, "--workers", workers]
+                        self.try_workers(due(cost, bits, MOST_TERMS, whole), words, text, workers)
+
+    def try_workers(self, wanted, words, text, workers):
+        """Again and again, with all workers at one time."""
+        for _ in range(LARGE_TIMES):
+            ended, started = faults().count(words, text, Fault("thread", 0, 1, ALL, "pass"))
+            self.assertEqual((ended.status, ended.err), (wanted.status, wanted.err))
+            self.assertTrue(ended == wanted, "other bytes are printed")
+            self.assertGreaterEqual(started, workers - 1)
 
     def try_limits(self, cost, whole, mode, text, draws):
         """With each table up to the one that is great enough, and some limits of terms."""

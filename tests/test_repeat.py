@@ -102,14 +102,15 @@ class Threads(Test):
     def test_large(self):
         """On the other ones the workers are as many as are asked for, and one of them is the main thread.
 
-        In mode gen there are four jobs and then two, so that four threads start in any case; how many more do so where
-        the operations of a job fork depends on who draws it.
+        How many more threads start depends on who draws a job, as the operations of a job fork. In mode gen there are
+        four jobs and then two, so that four threads start in any case; in mode basis each of two phases starts them.
         """
         for what, line, text in large_files():
             for workers in WORKERS:
                 with self.case(f"{what}, {line} --workers {workers}"):
+                    least = {"anf": workers - 1, "basis": 2 * (workers - 1), "gen": min(workers - 1, 4)}
                     started = self.count(line, text, workers)
-                    self.assertGreaterEqual(started, min(workers - 1, 4) if what == "mode gen" else workers - 1)
+                    self.assertGreaterEqual(started, least[line.split()[0]])
                     self.assertEqual(started == 0, workers == 1)
 
     def test_a_job_each(self):
