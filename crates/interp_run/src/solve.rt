@@ -27,38 +27,17 @@ use lattice::{MAX_VARS, Mode, MonoLists, Monos};
 use node_store::Store;
 use outside::Rendezvous;
 use pla_reader::Pla;
+use run_parts::{SMALL_BITS, first_bits};
 use set_algebra::{ValuedPoints, count_upto};
 use std::alloc::Global;
 use std::thread::Threads;
 use unique_table::Shared;
-
-// A run begins on small tables of 2^12 slots, on middle ones of 2^17, or on those of its own size. The greater a table is, the longer
-// it takes to make, and the slower it is where it does not fit the processor's own memory.
-const SMALL_BITS: u32 = 12;
-
-const MIDDLE_BITS: u32 = 17;
 
 /// What is printed of each output, and in mode gen how many care points the first one has.
 #[derive(Drop)]
 pub(crate) struct Solution {
     pub points: u64,
     pub shown: Vec<Shown>,
-}
-
-// The size of the tables that a run begins with. Each row may add a node for each input to the cover of each output: the small
-// ones where all these fit them, and but in mode basis, whose elements need the most nodes, the middle ones where these fit an eighth.
-fn first_bits(pla: &Pla, job: &Job) -> u32
-    requires { MIN_BITS ≤ job.now.nodes }
-    ensures { (MIN_BITS ≤ result) × (result ≤ job.now.nodes) }
-{
-    let nodes = pla.rows.len() as u64 * (pla.inputs * pla.outputs) as u64;
-    if nodes < 1 << SMALL_BITS {
-        job.nodes.min(SMALL_BITS)
-    } else if nodes <= 1 << (MIDDLE_BITS - 3) && job.mode != Mode::Basis {
-        job.nodes.min(MIDDLE_BITS)
-    } else {
-        job.nodes
-    }
 }
 
 // How many workers run a phase on tables of 2^bits slots. On a small table a phase takes less time than a thread takes to start, so
@@ -258,7 +237,7 @@ fn first_leads<R: Threads + Sync, P: Pool>(
     ensures terms { IsErrOf result Stop.Terms → IsDueSolving job.now (description pla.now) (silent (outcomes.Terms job.now.terms)) }
     ensures most { P.done pool.new ≤ P.done pool.old + 2 ^ 25 }
 {
-    let bits = first_bits(pla, job);
+    let bits = first_bits(pla, job.nodes, job.mode == Mode::Basis);
     match job.mode {
         Mode::Basis => leads_found(rt, alloc, pool, gate, pla, job, bits),
         Mode::Anf | Mode::Check | Mode::Gen => Ok((no_leads(alloc, pla.outputs)?, bits)),

@@ -264,6 +264,21 @@ module _ (bits limit : ℕ) (d : Description) (joining : Joining) where
     found_joint (Err e) h = tt
     found_joint (Ok lists) h = rw h.answer (joint_exists d joining)
 
+-- ---- stores of 2^small slots, and of 2^bits, which are no fewer
+
+module _ (small bits limit : ℕ) (more : 2 ^ small ≤ 2 ^ bits) (d : Description) (joining : Joining) where
+  -- a basis that is within the limits with the fewer is with the more
+  pub within_more : (r : Result (List Family) BasisRefusal)
+      → IfOk r (λ lists. first_refused small limit d joining (map reverse lists) ≡ None)
+      → IfOk r (λ lists. first_refused bits limit d joining (map reverse lists) ≡ None)
+  within_more (Ok lists) none = grind (arith, nat_tests, none, more)
+  within_more (Err e) none = tt
+
+  -- and one that is refused for another cause than its nodes is refused for it
+  pub refused_with_more : (e : BasisRefusal) → e ≢ Exhausted → (basis : List Family)
+      → first_refused small limit d joining basis ≡ Some e → first_refused bits limit d joining basis ≡ Some e
+  refused_with_more e other basis over = grind (arith, nat_tests, other, over, more)
+
 -- ---- what a phase gives
 
 module _ {T : Type 0} (slots limit nodes count : ℕ) (IsAnswer : T → Type 0) (r : Result T BasisRefusal) where

@@ -1,4 +1,4 @@
-//! The reduced basis of the intersection or the sum of the ideals of two outputs' care points, each phase on a store of its own.
+//! The reduced basis of the intersection or the sum of the ideals of two outputs' care points, each phase on a table of its own.
 ghost use Rattle.std.specs.Prelude.{◌≡◌, ◌≢◌, ◌<◌, ◌≤◌, ◌^◌, List, None, Some, IfErr, IfOk, map, reverse};
 ghost use Rattle.lattice.specs.Family.{Family};
 ghost use Rattle.lattice.specs.WorkingLists.{working_set};
@@ -9,13 +9,15 @@ ghost use Rattle.point_ideals.specs.Joined.{FindsBasis, FindsLeads, IsJointBasis
 ghost use Rattle.point_ideals.specs.declared.joined.BasisRefusal.TheVariants.{Memory as OutOfMemory};
 
 use crate::phases::{first_phase, second_phase};
+use computed_cache::CachedPass;
 use cube_build::CubesRefusal;
 use lattice::{Memory, Mono, MonoLists, Monos, Plan, Planned, plan_of};
-use node_store::{PlainStore, Store};
+use node_store::Store;
 use pla_reader::Pla;
-use run_parts::lists_upto;
+use run_parts::{first_bits, lists_upto};
 use set_algebra::{WalkRefusal, walk_upto};
 use std::alloc::Global;
+use unique_table::Shared;
 
 /// How the care points of two outputs are put together.
 #[derive(Clone, Copy, Debug, PartialEq, Eq)]
@@ -143,9 +145,8 @@ fn basis_in<S: Store>(
     Ok(lists_upto(alloc, store, &elements, limit)?)
 }
 
-/// Phase 1 on a store of its own, which is given up.
-#[tactic(auto, unfolding(node_store::specs::Plain::plain_state))]
-fn leads_found(
+/// Phase 1 on a table of its own, which is given up.
+fn leads_on(
     alloc: Global,
     bits: u32,
     p: &Pla,
@@ -156,13 +157,13 @@ fn leads_found(
     requires outputs { p.now.outputs ≡ 2 }
     ensures { FindsLeads (2 ^ bits) limit (description p.now) joining result }
 {
-    let mut store = PlainStore::make(alloc, bits, p.inputs, first_plan(p, joining))?;
-    leads_in(alloc, &mut store, p, joining, limit)
+    let (table, token) = Shared::make(alloc, bits, p.inputs, first_plan(p, joining))?;
+    let mut pass = CachedPass::new(table.pass(token));
+    leads_in(alloc, &mut pass, p, joining, limit)
 }
 
-/// Phase 2 on a store of its own.
-#[tactic(auto, unfolding(node_store::specs::Plain::plain_state))]
-fn basis_found(
+/// Phase 2 on a table of its own.
+fn basis_on(
     alloc: Global,
     bits: u32,
     p: &Pla,
@@ -175,14 +176,33 @@ fn basis_found(
     requires leads { reverse leads.now ≡ joint_leads (description p.now) joining }
     ensures { FindsBasis (2 ^ bits) limit (description p.now) joining result }
 {
-    let mut store = PlainStore::make(alloc, bits, p.inputs, second_plan(p, joining))?;
-    basis_in(alloc, &mut store, p, joining, leads, limit)
+    let (table, token) = Shared::make(alloc, bits, p.inputs, second_plan(p, joining))?;
+    let mut pass = CachedPass::new(table.pass(token));
+    basis_in(alloc, &mut pass, p, joining, leads, limit)
+}
+
+/// Both phases, each on a table of 2^bits slots.
+fn joint_basis_on(
+    alloc: Global,
+    bits: u32,
+    p: &Pla,
+    joining: Joining,
+    limit: u64,
+) -> Result<MonoLists, BasisRefusal>
+    requires bits { (MIN_BITS ≤ bits) × (bits ≤ MAX_BITS) }
+    requires outputs { p.now.outputs ≡ 2 }
+    ensures basis { IfOk result (λ lists. IsJointBasis (description p.now) joining (map reverse lists)) }
+    ensures within { IfOk result (λ lists. first_refused bits limit (description p.now) joining (map reverse lists) ≡ None) }
+    ensures refused { IfErr result (λ e. e ≢ OutOfMemory → (basis : List Family) → IsJointBasis (description p.now) joining basis → first_refused bits limit (description p.now) joining basis ≡ Some e) }
+{
+    let leads = leads_on(alloc, bits, p, joining, limit)?;
+    basis_on(alloc, bits, p, joining, leads.as_slice(), limit)
 }
 
 /// The reduced basis of the intersection or of the sum of two ideals, those of the care points of outputs 1 and 2: the terms of each
-/// element from the greatest to the least, the elements by ascending lead. Each of two phases works on a store of 2^bits slots of its
+/// element from the greatest to the least, the elements by ascending lead. Each of two phases works on a table of 2^bits slots of its
 /// own: the first finds the leads, which are counted and listed, and the second the elements, whose terms are counted. The refusal is
-/// that of the first limit that is passed, or want of memory.
+/// that of the first limit that is passed, or want of memory. Tables are tried first that the description may do with.
 pub fn joint_basis(
     alloc: Global,
     bits: u32,
@@ -196,6 +216,11 @@ pub fn joint_basis(
     ensures within { IfOk result (λ lists. first_refused bits limit (description p.now) joining (map reverse lists) ≡ None) }
     ensures refused { IfErr result (λ e. e ≢ OutOfMemory → (basis : List Family) → IsJointBasis (description p.now) joining basis → first_refused bits limit (description p.now) joining basis ≡ Some e) }
 {
-    let leads = leads_found(alloc, bits, p, joining, limit)?;
-    basis_found(alloc, bits, p, joining, leads.as_slice(), limit)
+    let first = first_bits(p, bits, true);
+    match joint_basis_on(alloc, first, p, joining, limit) {
+        Err(BasisRefusal::Exhausted) if first < bits => {
+            joint_basis_on(alloc, bits, p, joining, limit)
+        }
+        basis => basis,
+    }
 }

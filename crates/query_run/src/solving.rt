@@ -1,4 +1,4 @@
-//! Queries answered on a store of their own.
+//! Queries answered on a table of their own.
 ghost use Rattle.std.specs.Prelude.{◌≡◌, ◌<◌, ◌≤◌, ◌^◌, IfOk, IsErrOf, OnOk, reverse};
 ghost use Rattle.std.specs.List.{All, AllZip};
 ghost use Rattle.lattice.specs.WorkingLists.{working_set};
@@ -10,13 +10,15 @@ ghost use Rattle.query_run.specs.Queries.{IsQueryOver};
 
 use crate::answering::answered;
 use crate::queries::Query;
+use computed_cache::CachedPass;
 use cube_build::CubesRefusal;
 use lattice::{Memory, MonoLists, Plan, Planned, plan_of};
-use node_store::{PlainStore, Store};
+use node_store::Store;
 use pla_reader::Pla;
-use run_parts::lists_of;
+use run_parts::{first_bits, lists_of};
 use set_algebra::WalkRefusal;
 use std::alloc::Global;
+use unique_table::Shared;
 
 /// Why queries were not answered.
 #[derive(Clone, Copy, Debug, PartialEq, Eq)]
@@ -105,10 +107,30 @@ fn reduce_in<S: Store>(
     Ok(lists_of(alloc, store, &found, &mut left)?)
 }
 
-/// Answers the queries on a store of 2^bits slots: for each the terms, from the greatest to the least, of the least polynomial
+/// The same on a table of 2^bits slots, which all queries share.
+fn reduce_on(
+    alloc: Global,
+    bits: u32,
+    p: &Pla,
+    queries: &[Query],
+    limit: u64,
+) -> Result<MonoLists, ReduceRefusal>
+    requires bits { (MIN_BITS ≤ bits) × (bits ≤ MAX_BITS) }
+    requires over { All (IsQueryOver p.now.inputs p.now.outputs) queries.now }
+    ensures answers { IfOk result (AllZip (λ q terms. IsAnswerTo (description p.now) q (reverse terms)) queries.now) }
+    ensures fits { OnOk result (query_nodes (description p.now) queries.now ≤ 2 ^ bits) }
+    ensures few { OnOk result (answer_terms (description p.now) queries.now ≤ limit) }
+    ensures exhausted { IsErrOf result ReduceRefusal.Exhausted → 2 ^ bits < query_nodes (description p.now) queries.now }
+    ensures terms { IsErrOf result ReduceRefusal.Terms → (query_nodes (description p.now) queries.now ≤ 2 ^ bits) × (limit < answer_terms (description p.now) queries.now) }
+{
+    let (table, token) = Shared::make(alloc, bits, p.inputs, query_plan(p, queries))?;
+    let mut pass = CachedPass::new(table.pass(token));
+    reduce_in(alloc, &mut pass, p, queries, limit)
+}
+
+/// Answers the queries on a table of 2^bits slots: for each the terms, from the greatest to the least, of the least polynomial
 /// that has the values of the query's at the care points of its output, where all have at most `limit` terms. The care points of
-/// an output are found once, however many queries are on it.
-#[tactic(auto, unfolding(node_store::specs::Plain::plain_state))]
+/// an output are found once, however many queries are on it. A table is tried first that the description may do with.
 pub fn reduce(
     alloc: Global,
     bits: u32,
@@ -124,6 +146,11 @@ pub fn reduce(
     ensures exhausted { IsErrOf result ReduceRefusal.Exhausted → 2 ^ bits < query_nodes (description p.now) queries.now }
     ensures terms { IsErrOf result ReduceRefusal.Terms → (query_nodes (description p.now) queries.now ≤ 2 ^ bits) × (limit < answer_terms (description p.now) queries.now) }
 {
-    let mut store = PlainStore::make(alloc, bits, p.inputs, query_plan(p, queries))?;
-    reduce_in(alloc, &mut store, p, queries, limit)
+    let first = first_bits(p, bits, false);
+    match reduce_on(alloc, first, p, queries, limit) {
+        Err(ReduceRefusal::Exhausted) if first < bits => {
+            reduce_on(alloc, bits, p, queries, limit)
+        }
+        answers => answers,
+    }
 }

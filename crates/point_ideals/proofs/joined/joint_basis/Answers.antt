@@ -1,25 +1,18 @@
-use Rattle.std.proofs.lemmas.Result.{err_from_is_err_and}
+use Rattle.std.proofs.Common.{rules}
+use Rattle.std.proofs.Math.Pow.{pow_mono}
 use Rattle.pla_reader.specs.Reading.{description}
-use Rattle.point_ideals.proofs.JointSteps.{found_joint, found_within, not_found, stopped_first}
+use Rattle.point_ideals.proofs.JointSteps.{refused_with_more, within_more}
 use Rattle.point_ideals.proofs.joined.joint_basis.Goals as goal
 
-pub returns-in_err-leads-clause-refused : goal.returns-in_err-leads-clause-refused
-returns-in_err-leads-clause-refused c =
-    let p = err_from_is_err_and c.from_residual.result c.from_residual.ensures.1 in
-    rw (p.1, p.2)
-    (stopped_first c.args.bits c.args.limit (description c.args.p.now) c.args.joining c.in_err-leads.field-0.0 c.in_err-leads.ensures)
+pub returns-in_default-2 : goal.returns-in_default-2
+returns-in_default-2 c = record {
+  basis = tt;
+  within = tt;
+  refused = λ other basis is. refused_with_more c.first_bits-first.result c.args.bits c.args.limit (pow_mono c.first_bits-first.ensures.1)
+      (description c.args.p.now) c.args.joining _ (search rules) basis (c.in_default.ensures.refused other basis is);
+}
 
-pub returns-clause-basis : goal.returns-clause-basis
-returns-clause-basis c =
-    found_joint c.args.bits c.args.limit (description c.args.p.now) c.args.joining _ c.in_ok-leads.ensures c.basis_found.result
-    c.basis_found.ensures
-
-pub returns-clause-within : goal.returns-clause-within
-returns-clause-within c =
-    found_within c.args.bits c.args.limit (description c.args.p.now) c.args.joining _ c.in_ok-leads.ensures c.basis_found.result
-    c.basis_found.ensures
-
-pub returns-clause-refused : goal.returns-clause-refused
-returns-clause-refused c =
-    not_found c.args.bits c.args.limit (description c.args.p.now) c.args.joining _ c.in_ok-leads.ensures c.basis_found.result
-    c.basis_found.ensures
+pub returns-in_default-3-clause-within : goal.returns-in_default-3-clause-within
+returns-in_default-3-clause-within c =
+    within_more c.first_bits-first.result c.args.bits c.args.limit (pow_mono c.first_bits-first.ensures.1) (description c.args.p.now)
+    c.args.joining c.joint_basis_on.result c.joint_basis_on.ensures.within
