@@ -7,7 +7,7 @@ use query_run::{Outcome, nf_run, report};
 use run_parts::words_of;
 use std::process::ExitCode;
 
-/// A store has 2^BITS slots.
+/// A table has 2^BITS slots at most.
 const BITS: u32 = 19;
 
 // Runs on the standard streams.
