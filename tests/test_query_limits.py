@@ -1,0 +1,249 @@
+"""Queries and bases of nfq on files that need many nodes, how long these runs take, and how nfq ends where calls fail.
+
+A run on such a file ends: by its answer, or by the count of nodes or terms that is due, in a time that is told here. On
+random files no mode takes more than twice the processor time that `interp basis` takes for the same points.
+Where memory is refused a run ends with status 7, where a read fails with 8, and where a write fails with 9. The other
+statuses are in test_queries.
+"""
+
+import pathlib
+import random
+import resource
+import tempfile
+
+from bench import make_files
+from tests.harness import ALL, TOP, Ended, Fault, Test, description, faults, program, run
+from tests.test_devices import Trial
+
+NO_MEMORY = Ended(7, "", "nfq: out of memory\n")
+MANY_NODES = "nfq: more than 524288 nodes are needed\n"
+
+# The files that are compared, and what a run may take beside twice the time of interp, in seconds: for its start,
+# and for the terms of its queries, which interp is not asked.
+COMPARED = 20
+BESIDE = 0.05
+
+MODES = ("reduce", "union", "meet")
+
+# An output that is 1 at x1 = 1 and free else, and one that is 1 at x2 = 1 and free else.
+PAIR = description(2, 2, "fr", ["1- 1~", "-1 ~1"])
+
+# The words of each run where calls fail, what it reads, and what it prints.
+RUNS = [
+    ("reduce", f"{PAIR}f1 = x1*x2 + x2\nf2 = x1 + x2\n", "f1 = 0\nf2 = x1 + 1\n"),
+    ("union", PAIR, "0 = x1*x2 + x1 + x2 + 1\n"),
+    ("meet", PAIR, "0 = x2 + 1\n0 = x1 + 1\n"),
+]
+
+
+def polynomial(draws, inputs, count):
+    """The sum of so many random terms, as a query has it."""
+    terms = []
+    for mask in sorted(draws.sample(range(1, 2**inputs), count), reverse=True):
+        terms.append("*".join(f"x{place + 1}" for place in range(inputs) if mask >> (inputs - 1 - place) & 1))
+    return " + ".join(terms)
+
+
+def queries(draws, inputs, outputs, counts):
+    """Queries on the outputs in turn, each of so many random terms."""
+    numbered = enumerate(counts)
+    return "".join(f"f{number % outputs + 1} = {polynomial(draws, inputs, count)}\n" for number, count in numbered)
+
+
+class RandomFile:
+    """A file of cubes of 2 to 6 literals with two outputs, and queries on it. In each third file most rows say nothing
+    new."""
+
+    def __init__(self, seed):
+        draws, places = random.Random(seed), make_files.Draws(seed)
+        self.inputs, fixed = draws.randint(12, 62), draws.randint(2, 6)
+        count = draws.choice([4, 10, 25, 60, 150])
+        self.kind = "f" if seed % 3 == 0 else draws.choice(["f", "fd", "fr"])
+        if seed % 3 == 0:
+            self.text = make_files.redundant(count, self.inputs, 2, min(count, 8), fixed, seed)
+        else:
+            # No row of type fr is of value 0, so none contradicts another.
+            symbols = {"f": "10", "fd": "1~-", "fr": "1~"}[self.kind]
+            cubes = [make_files.cube(places, self.inputs, fixed) for _ in range(count)]
+            self.rows = [(cube, draws.choice(symbols) + draws.choice(symbols)) for cube in cubes]
+            self.text = description(self.inputs, 2, self.kind, self.rows)
+        self.queries = queries(draws, self.inputs, 2, [draws.randint(1, 6) for _ in range(draws.randint(1, 4))])
+
+    def joined(self, mode):
+        """A file of one output whose care points are those that a mode finds the basis of. None: of the file itself."""
+        if self.kind == "f" or mode == "reduce":
+            return None
+        symbol = {"fr": "1", "fd": "-"}[self.kind]
+        first, second = ({cube for cube, side in self.rows if side[output] == symbol} for output in (0, 1))
+        # What the rows say is cared for in type fr, and what they leave open is not in type fd.
+        if (mode == "union") == (self.kind == "fr"):
+            cubes = first | second
+        else:
+            cubes = {common(cube, other) for cube in first for other in second} - {None}
+        return description(self.inputs, 1, self.kind, [(cube, symbol) for cube in sorted(cubes)])
+
+
+def common(cube, other):
+    """The cube of the points of both cubes, or None where there are none."""
+    symbols = []
+    for mine, yours in zip(cube, other):
+        if {mine, yours} == {"0", "1"}:
+            return None
+        symbols.append(mine if yours == "-" else yours)
+    return "".join(symbols)
+
+
+def confined():
+    """What a child does that may have 16 MiB. The zeros of the program's file take 8, and so does a great table."""
+    resource.setrlimit(resource.RLIMIT_AS, (2**24, 2**24))
+
+
+def timed(words, text, **how):
+    """How a run ended, and the processor time that it took, in seconds."""
+    before = resource.getrusage(resource.RUSAGE_CHILDREN)
+    ended = run(words, text, **how)
+    after = resource.getrusage(resource.RUSAGE_CHILDREN)
+    return ended, after.ru_utime + after.ru_stime - before.ru_utime - before.ru_stime
+
+
+class Ends(Test):
+    """Files whose runs once had no end, each with a limit of time that is ten times what was seen."""
+
+    def end(self, mode, text, seconds):
+        return run([program("nfq"), mode], text, timeout=seconds)
+
+    def test_no_rows(self):
+        """The care points are all points, so a polynomial is its own normal form. With 14 terms it needs half of the
+        slots."""
+        draws = random.Random(1)
+        for count, seconds in ((13, 1), (14, 2)):
+            with self.case(f"{count} terms"):
+                query = queries(draws, 62, 1, [count])
+                ended = self.end("reduce", description(62, 1, None, []) + query, seconds)
+                self.assertEqual(ended, Ended(0, query, ""))
+
+    def test_cubes(self):
+        """60 rows of three literals over 40 inputs."""
+        text = make_files.cubes(60, 40, 2, 3, 1)
+        for mode in MODES:
+            with self.case(mode):
+                asked = queries(random.Random(1), 40, 2, [3, 3])
+                self.assertEqual(self.end(mode, text + asked, 25), Ended(5, "", MANY_NODES))
+
+    def test_redundant(self):
+        """16 outputs of 8,192 rows, most of which say nothing new, and a query on each."""
+        text = make_files.redundant(8192, 28, 16, 14, 5, 10)
+        ended = self.end("reduce", text + queries(random.Random(1), 28, 16, 16 * [3]), 10)
+        self.assertEqual((ended.status, ended.out.count("\n"), ended.err), (0, 16, ""))
+
+    def test_shared(self):
+        """The care points of an output are found once: a thousand queries take no more than twice the time of one."""
+        draws = random.Random(1)
+        text = make_files.points(500, 16, 1, 1)
+        asked = queries(draws, 16, 1, [4])
+        (one, first), (all_of_them, last) = (timed([program("nfq"), "reduce"], text + n * asked) for n in (1, 1000))
+        with self.case("1 and 1,000 queries"):
+            self.assertEqual((one.status, all_of_them.out), (0, 1000 * one.out))
+            self.assertLessEqual(last, 2 * first + BESIDE)
+
+
+class Memory(Test):
+    """Runs within an address space that has room for a small table beside the program, and for no great one."""
+
+    def test_small_table(self):
+        cases = [(mode, text, Ended(0, answer, "")) for mode, text, answer in RUNS]
+        cases.append(("reduce", description(62, 1, None, []) + queries(random.Random(1), 62, 1, [14]), NO_MEMORY))
+        for mode, text, wanted in cases:
+            with self.case(f"{mode}, status {wanted.status}"):
+                self.assertEqual(run([program("nfq"), mode], text, preexec_fn=confined), wanted)
+
+
+class Compared(Test):
+    """Random files: what each mode takes and answers, beside interp."""
+
+    def test_times(self):
+        for seed in range(COMPARED):
+            file = RandomFile(seed)
+            _, whole = timed([program("interp"), "basis"], file.text)
+            for mode in MODES:
+                with self.case(f"file {seed}, {mode}"):
+                    self.compare(file, mode, whole)
+
+    def compare(self, file, mode, most):
+        """The time is at most twice what interp takes for the bases of both outputs, or for the one of the joined
+        points, whose elements may be many more. The answer is this one."""
+        ended, seconds = timed([program("nfq"), mode], file.text + file.queries)
+        self.assertIn(ended.status, (0, 5, 6))
+        joined = file.joined(mode)
+        if joined is not None:
+            wanted, other = timed([program("interp"), "basis"], joined)
+            most = max(most, other)
+            if (ended.status, wanted.status) == (0, 0):
+                self.assertEqual(ended.out, wanted.out.partition("\n")[2])
+        self.assertLessEqual(seconds, 2 * most + BESIDE)
+
+
+class Refused(Test):
+    """Each allocation that is refused, alone and with all that come after it."""
+
+    def refuse(self, words, text, whole, number):
+        """Refuses an allocation. Answers whether it was met, and how many of the two runs ended for want of memory."""
+        ends = 0
+        for last in (number, ALL):
+            ended, was_met = faults().run(words, text, Fault("alloc", 0, number, last, "fail"))
+            is_refused = (ended.status, ended.out) == (7, "") and "nfq: out of memory\n".startswith(ended.err)
+            self.assertTrue(ended == whole or was_met and is_refused, f"allocations {number} to {last}: {ended}")
+            ends += ended.status == 7
+        return was_met, ends
+
+    def test_each_allocation(self):
+        for mode, text, answer in RUNS:
+            with self.case(mode):
+                words = [program("nfq"), mode]
+                whole = run(words, text)
+                self.assertEqual(whole, Ended(0, answer, ""))
+                number, ends, was_met = 0, 0, True
+                while was_met:
+                    number += 1
+                    was_met, more = self.refuse(words, text, whole, number)
+                    ends += more
+                self.assertGreater(ends, 0, f"{number - 1} allocations were met")
+
+
+class QueryTrial(Trial):
+    """The same trials of nfq, which writes its text by one call."""
+
+    def is_read_fault(self, _number, ended):
+        return ended == Ended(8, "", "nfq: read fault\n")
+
+    def is_write_fault(self, _number, ended):
+        return ended == Ended(9, "", "nfq: write fault\n")
+
+
+class Devices(Test):
+    """Reads and writes that fail, each in turn."""
+
+    def test_each_call(self):
+        for mode, text, answer in RUNS:
+            with self.case(mode):
+                trial = QueryTrial(mode, [program("nfq"), mode], text)
+                self.assertEqual(trial.whole, Ended(0, answer, ""))
+                self.assertEqual(trial.try_all(), [])
+        with self.case("a message"):
+            trial = QueryTrial("a message", [program("nfq"), "meet"], description(2, 1, "fr", ["11 1"]))
+            self.assertEqual(trial.whole, Ended(3, "", "nfq: two outputs are needed\n"))
+            self.assertEqual(trial.try_all(), [])
+
+
+class ManualPage(Test):
+    """The example of the manual page."""
+
+    def test_example(self):
+        """It works for a file that has a line at its end, and for one that has none."""
+        lines = (TOP / "nfq.1").read_text().splitlines()
+        line = next(line for line in lines if line.endswith("| nfq reduce")).replace("\\e", "\\").replace("\\(aq", "'")
+        for end in (None, ".e", ".end"):
+            with self.case(f"a file that ends with {end}"), tempfile.TemporaryDirectory() as folder:
+                (pathlib.Path(folder) / "f.pla").write_text(description(2, 1, "fr", ["11 1", "00 0"], end=end))
+                words = ["sh", "-c", line.replace("nfq reduce", f"{program('nfq')} reduce")]
+                self.assertEqual(run(words, cwd=folder), Ended(0, "f1 = x2 + 1\n", ""))
