@@ -9,6 +9,3 @@ mod phases;
 
 pub use crate::cares::care_points;
 pub use crate::joined::{BasisRefusal, Joining, joint_basis};
-
-#[cfg(test)]
-mod tests;

@@ -21,6 +21,3 @@ pub use crate::reading::read_queries;
 pub use crate::reduction::reduced;
 pub use crate::solving::{ReduceRefusal, reduce};
 pub use crate::top::{nf_run, report};
-
-#[cfg(test)]
-mod tests;

@@ -1,8 +1,8 @@
 ghost use Rattle.std.specs.Prelude.{◌<◌, ◌≤◌, length};
 
-use crate::{BasisRefusal, Joining, joint_basis};
 use lattice::{Mono, MonoLists};
 use pla_reader::read;
+use point_ideals::{BasisRefusal, Joining, joint_basis};
 use std::alloc::Global;
 use std::test::Fail;
 
