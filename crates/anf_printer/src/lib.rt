@@ -8,6 +8,3 @@ mod polynomial;
 pub use crate::answer::{Shown, answer_text};
 pub use crate::lines::{Left, Line, lines_text};
 pub use crate::polynomial::poly_text;
-
-#[cfg(test)]
-mod tests;

@@ -18,6 +18,3 @@ pub use crate::lines::bare;
 pub use crate::reading::read_answer;
 pub use crate::refusal::{AnswerRefusal, AnswerWhy, CheckRefusal, Fault, Verdict};
 pub use crate::terms::{are_known, monomials_of, place_of};
-
-#[cfg(test)]
-mod tests;

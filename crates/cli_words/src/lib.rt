@@ -5,6 +5,3 @@ mod declared;
 mod job;
 
 pub use crate::job::{Job, WordsRefusal, read_words};
-
-#[cfg(test)]
-mod tests;

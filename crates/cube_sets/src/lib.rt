@@ -5,6 +5,3 @@ mod buckets;
 mod clash;
 
 pub use crate::clash::{Clash, conflict, meets};
-
-#[cfg(test)]
-mod tests;

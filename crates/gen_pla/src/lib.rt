@@ -101,6 +101,3 @@ pub fn generate(alloc: Global, seed: u64) -> Result<Pla, Memory>
         out_names: Names::new(alloc),
     })
 }
-
-#[cfg(test)]
-mod tests;

@@ -25,6 +25,3 @@ pub use crate::op::Op;
 pub use crate::plan::{Plan, Planned, plan_of};
 pub use crate::row::Row;
 pub use crate::words::Words;
-
-#[cfg(test)]
-mod tests;

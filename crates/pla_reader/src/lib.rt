@@ -25,6 +25,3 @@ pub use crate::pla::{Pla, Rows};
 pub use crate::reading::read;
 pub use crate::refusal::{LineRefusal, ReadRefusal, Refusal, Why};
 pub use crate::row::Marks;
-
-#[cfg(test)]
-mod tests;

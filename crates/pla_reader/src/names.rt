@@ -121,38 +121,3 @@ pub fn printed<'a>(in_place: &'a Option<Names>, given: &'a Names) -> &'a [Name]
         None => given.as_slice(),
     }
 }
-
-#[cfg(test)]
-mod tests {
-    use super::*;
-    use std::alloc::{AllocError, Global};
-    use std::test::Fail;
-
-    fn names_of(alloc: Global, texts: &[&[u8]]) -> Result<Names, AllocError> {
-        let mut names = Vec::new(alloc);
-        for text in texts {
-            names.push(Name::from_vec(Vec::from_slice(alloc, text)?))?;
-        }
-        Ok(Names::from_vec(names))
-    }
-
-    #[test]
-    fn plain_or_not(rt: HostRuntime) -> Result<(), Fail> {
-        let longest = b"abcdefghijklmnopqrstuvwxyz012345";
-        let too_long = b"abcdefghijklmnopqrstuvwxyz0123456";
-        let cases: [(&[&[u8]], bool); 8] = [
-            (&[b"a", b"b", b"cin"], true),
-            (&[b"_x[0]", b"y<1>.z"], true),
-            (&[longest], true),
-            (&[too_long], false),
-            (&[b"0", b"1"], false),
-            (&[b"a", b"b-c"], false),
-            (&[b"a", b"b", b"a"], false),
-            (&[], false),
-        ];
-        for (texts, want) in cases {
-            assert_eq!(rt; plain_names(&names_of(rt.alloc(), texts)?), want);
-        }
-        Ok(())
-    }
-}

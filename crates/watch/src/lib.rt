@@ -10,6 +10,3 @@ pub use crate::lines::Lines;
 pub use crate::note::{MOST_NOTES, Note};
 pub use crate::tally::Tally;
 pub use crate::watcher::{Watch, tell};
-
-#[cfg(test)]
-mod tests;

@@ -1,7 +1,0 @@
-use Rattle.std.proofs.Common.{take}
-use Rattle.std.specs.List.{All}
-use Rattle.pla_reader.specs.Description.{FitsSizes}
-use Rattle.cube_sets.proofs.tests.all_fit.Given as goal
-
-abbrev pub invariant-loop-row : goal.invariant-loop-row
-invariant-loop-row l = All (FitsSizes l.inputs l.outputs l.kind) (take l.row-index l.rows)
