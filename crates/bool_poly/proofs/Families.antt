@@ -281,6 +281,7 @@ same_values (suc d) p q pf qf same =
 
 -- ---- products
 
+-- a product of polynomials is a polynomial
 pub IsFamily-product_of : (n : ℕ) (p q : Family) → IsFamily n (product_of n p q)
 unfolding product_of
 IsFamily-product_of n p q = (polynomial_by_values n _).0
@@ -599,6 +600,7 @@ module _ (plan : List Family) (n : ℕ) (any : (f : Family) → IsFamily n f →
   just : (d : ℕ) → d ≤ n → (p q : Family) → Covers plan (working_set n (product_of d p q ∷ []))
   just d le p q = covers_one n plan (product_of d p q) (any _ (IsFamily_wider d n (product_of d p q) (IsFamily-product_of d p q) le))
 
+  -- it has what a product needs
   pub any_product_list : (d : ℕ) → d ≤ n → (p q : Family) → Covers plan (working_set n (product_list d p q))
   unfolding product_list
   any_product_list zero at p q = just 0 at p q

@@ -2,4 +2,3 @@ pub mod OnesLemmas
 mod Families
 mod NodeLemmas
 mod Steps
-mod AnyNeeds

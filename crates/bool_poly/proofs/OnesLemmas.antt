@@ -1,7 +1,9 @@
--- What callers use of the points at which a polynomial is 1. The comment above each lemma says what it gives.
+-- What callers use of the points at which a polynomial is 1, and of products. The comment above each lemma says what it gives.
 -- the list and the points over more variables than the polynomial and the points have
 pub use Rattle.bool_poly.proofs.Families.{ones_list-narrow, ones_of-narrow}
 -- what finding them needs: by the list, under a plan that has every family, and for a single monomial, where they are those that it divides
 pub use Rattle.bool_poly.proofs.Families.{needs_ones, any_ones_set, covers_single, ones_of-single}
 -- the second half in a state that knows as much, the points once there is the sum of both parts, the second half as a whole, and the end
 pub use Rattle.bool_poly.proofs.Steps.{with_later, sum_asks, with_after, ones_finish}
+-- the product is a family, and what it needs under a plan that has every family
+pub use Rattle.bool_poly.proofs.Families.{IsFamily-product_of, any_product_list}

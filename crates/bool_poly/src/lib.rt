@@ -10,6 +10,3 @@ pub use crate::points::{above, begin_ones, finish_ones, ones_of, part_with};
 pub use crate::products::{product, times_var};
 pub use crate::set_ops::{Serial, SetOps};
 pub use crate::values::{lead, sum, value_of};
-
-#[cfg(test)]
-mod tests;

@@ -3,4 +3,3 @@ mod CoverLemmas
 mod CallsUnderway
 mod CareLemmas
 pub mod CareNeeds
-mod StoresForTests

@@ -10,6 +10,3 @@ pub use crate::care::{care_sets, care_sets_from, ones, zeros};
 pub use crate::covers::{PointSet, cover, sets_of};
 pub use crate::cubes::cube;
 pub use crate::rows::{CubesRefusal, row_cubes};
-
-#[cfg(test)]
-mod tests;

@@ -14,6 +14,3 @@ pub use crate::plain::PlainStore;
 pub use crate::store::{Full, Handle, Node, Store};
 pub use crate::walk::{first_var, grow, parts, parts_of};
 pub use crate::word::{pack, unpack};
-
-#[cfg(test)]
-mod tests;

@@ -15,6 +15,3 @@ pub use crate::pairs::{Cofactors, cut};
 pub use crate::points::ValuedPoints;
 pub use crate::pointwise::{Begun, Halved, begin, combine, finish, inter, minus, union, xor};
 pub use crate::single::{contains, one, power};
-
-#[cfg(test)]
-mod tests;

@@ -4,6 +4,3 @@
 mod monomials;
 
 pub use crate::monomials::{leads, standard};
-
-#[cfg(test)]
-mod tests;

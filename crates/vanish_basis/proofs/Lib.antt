@@ -1,3 +1,1 @@
 mod LeadElements
-mod AnyElements
-mod ListedPoints

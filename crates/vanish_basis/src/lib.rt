@@ -4,6 +4,3 @@
 mod elements;
 
 pub use crate::elements::{basis_element, least_by, normal_form_of};
-
-#[cfg(test)]
-mod tests;

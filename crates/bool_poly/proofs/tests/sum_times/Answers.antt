@@ -1,5 +1,0 @@
-use Rattle.bool_poly.proofs.AnyNeeds.{ready_made}
-use Rattle.bool_poly.proofs.tests.sum_times.Goals as goal
-
-pub more-requires-clause-ready : goal.more-requires-clause-ready
-more-requires-clause-ready c = ready_made c.in_ok-store.store _ c.in_ok-store.ensures.state c.any_plan.ensures

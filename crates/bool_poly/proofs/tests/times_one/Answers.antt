@@ -1,8 +1,0 @@
-use Rattle.node_store.specs.Stores.{family}
-use Rattle.bool_poly.proofs.AnyNeeds.{any_times}
-use Rattle.bool_poly.proofs.tests.times_one.Goals as goal
-
-pub times_var-requires-clause-planned : goal.times_var-requires-clause-planned
-times_var-requires-clause-planned g c =
-    let s = g.S.Store.state c.args.store.now in
-    any_times c.args.vars s (family s c.args.a) c.args.var c.requires.ready.any

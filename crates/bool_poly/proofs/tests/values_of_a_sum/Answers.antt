@@ -1,5 +1,0 @@
-use Rattle.bool_poly.proofs.AnyNeeds.{ready_made}
-use Rattle.bool_poly.proofs.tests.values_of_a_sum.Goals as goal
-
-pub more-requires-clause-ready : goal.more-requires-clause-ready
-more-requires-clause-ready g c = ready_made c.in_ok-store.store _ c.in_ok-store.ensures.state c.any_plan.ensures

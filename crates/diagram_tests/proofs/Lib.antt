@@ -1,0 +1,4 @@
+mod StoresForTests
+mod ListedPoints
+mod AnyElements
+mod AnyNeeds

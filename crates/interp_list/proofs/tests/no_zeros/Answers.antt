@@ -1,6 +1,0 @@
-use Rattle.std.proofs.Common.{[], ◌∷◌, refl}
-use Rattle.lattice.proofs.Polynomials.{disjoint_from_test}
-use Rattle.interp_list.proofs.tests.no_zeros.Goals as goal
-
-pub least_list-requires-clause-disjoint : goal.least_list-requires-clause-disjoint
-least_list-requires-clause-disjoint g c = disjoint_from_test ([]) (5 ∷ []) refl

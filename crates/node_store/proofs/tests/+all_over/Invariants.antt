@@ -1,4 +1,0 @@
-use Rattle.node_store.proofs.tests.+all_over.Given as goal
-
-abbrev pub decreases-all_over : goal.decreases-all_over
-decreases-all_over g l = l.count

@@ -1,7 +1,0 @@
-use Rattle.node_store.specs.PlainOf.{state_of}
-use Rattle.node_store.proofs.StoreLaws.{MayHoldAny-made}
-use Rattle.vanish_basis.proofs.tests.element.Goals as goal
-
-pub element_on-requires-clause-any : goal.element_on-requires-clause-any
-element_on-requires-clause-any c =
-    MayHoldAny-made (state_of c.in_ok-store.store) c.args.vars _ _ c.in_ok-store.ensures.state c.any_plan.ensures
