@@ -16,7 +16,6 @@ import sys
 
 TOP = pathlib.Path(__file__).resolve().parent.parent
 DOCUMENT = TOP / "docs" / "DEFINITIONS.md"
-MOST_LINES = 800
 WORD = re.compile(r"[A-Za-z_][A-Za-z0-9_'-]*")
 USE = re.compile(r"^\s*(?:ghost )?use Rattle\.(\w+)\.specs\.([\w.]+)\.\{([^}]*)\};?$")
 USE_MODULE = re.compile(r"^\s*(?:ghost )?use Rattle\.(\w+)\.specs\.([\w.]+?)(?: as (\w+))?;?$")
@@ -162,8 +161,6 @@ def main():
     unnamed = {key[2] for key in named_by_contracts(modules)} - listed(first) - listed(second)
     faults += [f"{name} is named by a clause of a public function, and by no item" for name in sorted(unnamed)]
     lines = sum(found.values())
-    if lines >= MOST_LINES:
-        faults.append(f"{lines} lines stand behind `run`, and not fewer than {MOST_LINES}")
     for fault in faults:
         print(f"docs/DEFINITIONS.md: {fault}")
     print(f"definitions behind run: {len(found)}, of {lines} lines: {'not as the document says' if faults else 'ok'}")

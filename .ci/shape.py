@@ -4,8 +4,8 @@
 usage: shape.py [TOP]
 
 The rules: a crate gives its lemmas to other crates by two modules at most, where each lemma has a comment, as it has where it is
-declared; no statement is proved in two crates; lines are short; each lemma is used; and the proofs as a whole are short. `rt ci`
-proves the repository: this script says nothing about that.
+declared; no statement is proved in two crates; lines are short; each lemma is used; and no crate's proofs are long beside its code
+and specs. `rt ci` proves the repository: this script says nothing about that.
 """
 import collections
 import os
@@ -14,7 +14,18 @@ import sys
 
 COLUMNS = 140
 PUBLIC_MODULES = 2
-PROOF_LINES = 26_000
+# The most lines of proof for each line of code and of specs: in a crate, in one on diagrams, and in the crates that need more yet,
+# with the reason. This last list may shrink and is not to grow.
+RATIO = 2
+DIAGRAM_RATIO = 4
+ON_DIAGRAMS = ("set_algebra", "cube_build", "bool_poly", "std_monomials", "interp_lex", "vanish_basis")
+EXCEPTIONS = {
+    "bool_poly": (4.3, "the laws of products and of values of polynomials, which other crates use, stand here"),
+    "cli_words": (2.6, "what clap finds for each of six arguments is proved argument by argument"),
+    "cube_sets": (2.4, "the search by buckets is shown to find what comparing all pairs finds"),
+    "interp_lex": (5.0, "that what the recursion needs is planned and then held is said call by call"),
+    "std_monomials": (9.4, "two functions, of which this has to be said for three lists each"),
+}
 # Modules whose lemmas nothing need use: examples, and what the words of kept results are made of.
 EXAMPLES = re.compile(r"Examples|Worked|WordParts")
 
@@ -382,11 +393,21 @@ def check_columns(top):
                     yield f"{os.path.relpath(path, top)}:{number + 1}: {len(line)} columns, more than {COLUMNS}"
 
 
-def check_length(top):
-    """The proofs have fewer lines in all than the bound."""
-    lines = sum(len(read_lines(path)) for crate in crates_of(top) for path in proofs_of(top, crate))
-    if lines >= PROOF_LINES:
-        yield f"the proofs have {lines} lines, not fewer than {PROOF_LINES}"
+def count_lines(paths):
+    return sum(len(read_lines(path)) for path in paths)
+
+
+def check_ratios(top):
+    """No crate has more lines of proof for its code and specs than the bound."""
+    for crate in crates_of(top):
+        proofs = count_lines(proofs_of(top, crate))
+        others = count_lines(files_of(top, crate, "src", ".rt") + files_of(top, crate, "specs", ".antt"))
+        bound = DIAGRAM_RATIO if crate in ON_DIAGRAMS else RATIO
+        most = EXCEPTIONS.get(crate, (bound, ""))[0]
+        if proofs > most * others:
+            yield f"{crate}: {proofs} lines of proof for {others} of code and specs, more than {most} for each"
+        elif crate in EXCEPTIONS and proofs <= bound * others:
+            yield f"{crate}: it needs no exception any more"
 
 
 # ---- uses
@@ -472,7 +493,7 @@ def check_uses(top):
                     yield f"{os.path.relpath(path, top)}:{lemma.line}: nothing uses {lemma.name}"
 
 
-CHECKS = (check_public_modules, check_comments, check_statements, check_columns, check_uses, check_length)
+CHECKS = (check_public_modules, check_comments, check_statements, check_columns, check_uses, check_ratios)
 
 
 def main():
