@@ -47,12 +47,12 @@ def program(name):
     script = TOP / name
     if not script.is_file():
         raise unittest.SkipTest(f"there is no program {name}")
-    crate = re.search(rf'/tools/run_proved" {name} (\w+) ', script.read_text())[1]
+    crate, mode = re.search(rf"/tools/run_proved\" {name} (\w+) '(\w+)", script.read_text()).groups()
     path = TOP / "crates" / crate / "out" / crate
     if not path.is_file() and not shutil.which("rt"):
         raise unittest.SkipTest(f"{name} is not built, and there is no toolchain to build it")
-    # Without words each program ends at once, by the status for wrong usage.
-    built = subprocess.run([script], stdin=subprocess.DEVNULL, capture_output=True, text=True, check=False)
+    # With nothing to read each program ends at once, as a description is missing.
+    built = subprocess.run([script, mode], stdin=subprocess.DEVNULL, capture_output=True, text=True, check=False)
     if built.returncode == NOT_BUILT:
         raise RuntimeError(f"{name} could not be built: {built.stderr}")
     return str(path)
