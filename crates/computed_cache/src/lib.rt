@@ -5,6 +5,3 @@ mod pass;
 mod slot;
 
 pub use crate::pass::CachedPass;
-
-#[cfg(test)]
-mod tests;

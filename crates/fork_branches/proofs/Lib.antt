@@ -2,4 +2,3 @@ mod Branches
 mod Halving
 mod Works
 mod Solving
-mod Tested

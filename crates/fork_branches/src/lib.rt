@@ -16,6 +16,3 @@ pub use crate::forked::Forked;
 pub use crate::jobs::Jobs;
 pub use crate::pool::{Drawn, Pool, Solved};
 pub use crate::solve::{SolveRefusal, solve_all};
-
-#[cfg(test)]
-mod tests;

@@ -6,6 +6,3 @@ mod plays;
 mod view;
 
 pub use crate::counter::{ALL_PARTS, Counter, Drawer};
-
-#[cfg(test)]
-mod tests;

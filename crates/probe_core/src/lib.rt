@@ -12,6 +12,3 @@ pub use crate::cache::cache_size;
 pub use crate::event::{Event, Seen};
 pub use crate::machine::{Core, run};
 pub use crate::path::probe_place;
-
-#[cfg(test)]
-mod tests;

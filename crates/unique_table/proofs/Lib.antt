@@ -2,6 +2,5 @@ mod Lists
 mod Fitting
 mod Parts
 mod Steps
-mod TestedStores
 mod Calls
 pub mod PassNeeds

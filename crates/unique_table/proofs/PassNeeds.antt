@@ -5,8 +5,6 @@ use Rattle.unique_table.specs.Views.{known_by, view_state}
 use Rattle.unique_table.specs.PassOf.{pass_state}
 use Rattle.unique_table.specs.declared.pass.Pass.{Pass}
 use Rattle.node_store.proofs.StoreLaws.{some_is}
--- the first store of a table whose plan has every family may be asked for any of them
-pub use Rattle.unique_table.proofs.TestedStores.{any_first}
 
 -- a handle that a pass knows has room in a word, and so has the number after it
 pub small_known : (p : Pass) (h : ℕ) → is_some ((pass_state p).known h) ≡ true → suc h < HANDLE_UNIT

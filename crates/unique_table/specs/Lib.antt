@@ -7,4 +7,3 @@ pub mod Told
 pub mod Passes
 pub mod PassOf
 pub mod PassLaws
-pub mod Tested

@@ -7,6 +7,3 @@ mod view;
 mod zeros;
 
 pub use crate::pass::{Pass, Shared, Token};
-
-#[cfg(test)]
-mod tests;

@@ -1,6 +1,0 @@
-use Rattle.fork_branches.proofs.Tested.{parity_gives}
-use Rattle.fork_branches.proofs.tests.NotedJobs.one.Goals as goal
-
-pub returns-clause-result : goal.returns-clause-result
-returns-clause-result g c =
-    parity_gives (g.S.Store.state c.args.store.now) c.args.self.now.count c.args.number (g.met.S.Store.sound c.args.store.now)

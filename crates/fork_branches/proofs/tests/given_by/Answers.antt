@@ -1,8 +1,0 @@
-use Rattle.std.proofs.Common.{◌∙◌}
-use Rattle.unique_table.proofs.PassNeeds.{any_first}
-use Rattle.computed_cache.specs.Cached.{cached_state}
-use Rattle.fork_branches.proofs.tests.given_by.Goals as goal
-
-pub given-requires-clause-any : goal.given-requires-clause-any
-given-requires-clause-any g c = any_first (cached_state c.new-pass.result) _ 8 3 _
-    (c.new-pass.ensures.state ∙ (c.pass.ensures.state ∙ c.in_ok-table.ensures.state)) c.any_plan.ensures

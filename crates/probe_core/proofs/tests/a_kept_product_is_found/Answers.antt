@@ -1,5 +1,0 @@
-use Rattle.probe_core.proofs.WorkedEvents.{may_keep}
-use Rattle.probe_core.proofs.tests.a_kept_product_is_found.Goals as goal
-
-pub run-requires-clause-events : goal.run-requires-clause-events
-run-requires-clause-events g c = may_keep

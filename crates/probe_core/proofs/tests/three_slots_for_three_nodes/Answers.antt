@@ -1,7 +1,0 @@
-use Rattle.std.proofs.Common.{sym, ◌∙◌, subst}
-use Rattle.probe_core.specs.Events.{start, MayTakeAll}
-use Rattle.probe_core.proofs.tests.three_slots_for_three_nodes.Goals as goal
-
-pub run-requires-clause-events : goal.run-requires-clause-events
-run-requires-clause-events g c =
-    subst (MayTakeAll (start 4 3)) (c.as_slice.ensures.value ∙ sym c.as_slice-2.ensures.value) c.in_ok-core.ensures.may

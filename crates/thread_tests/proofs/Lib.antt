@@ -1,0 +1,3 @@
+mod WorkedEvents
+mod TestedStores
+mod NotedJobs

@@ -1,7 +1,0 @@
-use Rattle.unique_table.specs.Passes.{token_state}
-use Rattle.unique_table.proofs.TestedStores.{any_first}
-use Rattle.unique_table.proofs.tests.four_threads_agree.Goals as goal
-
-pub work_four_times-token-requires-clause-any : goal.work_four_times-token-requires-clause-any
-work_four_times-token-requires-clause-any g c _ = any_first (token_state c.in_ok-table.token) _ 12 4 _ c.in_ok-table.ensures.state
-    c.any_plan.ensures
