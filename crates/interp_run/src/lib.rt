@@ -20,6 +20,3 @@ pub use crate::answer::{Answered, Notes, answer_of};
 pub use crate::outcome::Outcome;
 pub use crate::plan::{first_plan, run_plan};
 pub use crate::top::{report, run};
-
-#[cfg(test)]
-mod tests;

@@ -17,6 +17,3 @@ pub use crate::lines::{LONGEST_LINE, contradiction_line, count_line, fixed_line,
 pub use crate::listed::{lists_of, lists_upto, terms_of};
 pub use crate::tables::{SMALL_BITS, first_bits};
 pub use crate::words::words_of;
-
-#[cfg(test)]
-mod tests;

@@ -7,6 +7,3 @@ mod whole;
 
 pub use crate::listed::{Refusal, least_terms};
 pub use crate::whole::{Ended, run_on};
-
-#[cfg(test)]
-mod tests;

@@ -1,5 +1,5 @@
-use crate::{DescribeRefusal, MOST_BYTES, described};
 use pla_reader::Why;
+use run_parts::{DescribeRefusal, MOST_BYTES, described};
 use std::test::Fail;
 
 // A description, the bytes that it takes, and two causes of a refusal; the third is the number of bytes.

@@ -1,10 +1,11 @@
 ghost use Rattle.std.specs.Prelude.{◌≡◌, [], All, IfOk};
 ghost use Rattle.watch.specs.Notes.{states_by};
 
-use crate::{Outcome, answer_of, run};
 use cli_words::Job;
-use fork_branches::Drawn;
+use fork_branches::{Drawn, Pool, Solved};
+use interp_run::{Outcome, answer_of, run};
 use lattice::{Mode, Words};
+use node_store::Handle;
 use outside::{MemSink, MemSource, Rendezvous};
 use std::alloc::{AllocError, Global};
 use std::process::Abort;
@@ -16,6 +17,9 @@ const NEVER: u64 = 1_000_000;
 
 const ADDER: &str =
     "# full adder\n.i 3\n.o 2\n.ilb a b cin\n.ob s c\n.p 7\n001 10\n010 10\n100 10\n111 11\n011 01\n101 01\n110 01\n.e\n";
+
+// Two outputs, each with a care point of its own and one that both have.
+const PAIR: &str = ".i 2\n.o 2\n.type fr\n11 1-\n00 00\n10 -1\n";
 
 // The answer of the full adder.
 const SUMS: &str = "s = a + b + cin\nc = a*b + a*cin + b*cin\n";
@@ -41,7 +45,7 @@ fn check_at<R: Threads + Abort + Sync>(
 ) -> Result<(), Fail> {
     let words = words_of(alloc, line)?;
     let mut source = MemSource::make(alloc, text.as_bytes(), 4, &[fails.0]).map_err(|_| "memory")?;
-    let mut out = MemSink::make(alloc, 200, 4, &[fails.1]).map_err(|_| "memory")?;
+    let mut out = MemSink::make(alloc, 400, 4, &[fails.1]).map_err(|_| "memory")?;
     let mut err = MemSink::make(alloc, 200, 7, &[]).map_err(|_| "memory")?;
     let status = run(
         rt,
@@ -99,6 +103,12 @@ fn single_outputs(rt: HostRuntime) -> Result<(), Fail> {
         ("fd", "2", "1- 1\n11 -\n", "f1 = x1\n"),
         ("f", "20", "1------------------- 1\n", "f1 = x1\n"),
         (
+            "f",
+            "62",
+            "-------------------------------------------------------------1 1\n",
+            "f1 = x62\n",
+        ),
+        (
             "fr",
             "62",
             "11111111111111111111111111111111111111111111111111111111111111 1\n",
@@ -137,12 +147,11 @@ fn bases(rt: HostRuntime) -> Result<(), Fail> {
         let text = format!(in alloc; ".i {inputs}\n.o 1\n.type {kind}\n{rows}")?;
         answers(&rt, alloc, "interp basis", text.as_str(), answer)?;
     }
-    let pair = ".i 2\n.o 2\n.type fr\n11 1-\n00 00\n10 -1\n";
     answers(
         &rt,
         rt.alloc(),
         "interp basis",
-        pair,
+        PAIR,
         "f1 = x2\n0 = x1 + x2\nf2 = x1\n0 = x2\n",
     )
 }
@@ -155,17 +164,26 @@ fn names_and_many_outputs(rt: HostRuntime) -> Result<(), Fail> {
     for text in [ADDER, carriage_returns] {
         answers(&rt, alloc, "interp anf", text, SUMS)?;
     }
-    let pair = ".i 2\n.o 2\n.type fr\n11 1-\n00 00\n10 -1\n";
-    answers(&rt, alloc, "interp anf", pair, "f1 = x2\nf2 = x1\n")?;
+    answers(&rt, alloc, "interp anf", PAIR, "f1 = x2\nf2 = x1\n")?;
     let numbers = ".i 2\n.o 1\n.ilb 0 1\n10 1\n01 1\n";
     answers(&rt, alloc, "interp anf", numbers, "f1 = x1 + x2\n")?;
     let unknown = ".i 2\n.o 1 # one\n.type fr\n.topology x\n1 1 | 1\n";
     answers(&rt, alloc, "interp anf", unknown, "f1 = 1\n")
 }
 
+// The full adder with its rows 98 times over. So many rows do not fit the small tables, on which a run has two workers at most.
+fn long_adder(alloc: Global) -> Result<String, AllocError> {
+    let mut text = String::from_str(alloc, ".i 3\n.o 2\n.ilb a b cin\n.ob s c\n")?;
+    for _ in 0..98 {
+        text.push_str("001 10\n010 10\n100 10\n111 11\n011 01\n101 01\n110 01\n")?;
+    }
+    Ok(text)
+}
+
 #[test]
 fn any_number_of_workers(rt: HostRuntime) -> Result<(), Fail> {
     let alloc = rt.alloc();
+    let long = long_adder(alloc)?;
     for line in [
         "interp anf --workers 1",
         "interp anf --workers 2",
@@ -173,6 +191,7 @@ fn any_number_of_workers(rt: HostRuntime) -> Result<(), Fail> {
         "interp anf --workers 16",
     ] {
         answers(&rt, alloc, line, ADDER, SUMS)?;
+        answers(&rt, alloc, line, long.as_str(), SUMS)?;
     }
     Ok(())
 }
@@ -210,10 +229,17 @@ fn generated_files(rt: HostRuntime) -> Result<(), Fail> {
 
 // With two workers the branches of an operation are at their starts at one time: each waits at the gate until it has seen the
 // other. A body that runs both branches on one thread, or that drops the workers or the gate, gives the same text and fails here.
+// The first two files have several jobs, whose workers meet before any operation. The last one has one cover and one polynomial,
+// each of which a worker finds alone: there the branches of the polynomial's operations are the first to meet.
 #[test]
 fn branches_meet(rt: HostRuntime) -> Result<(), Fail> {
     let parity = ".i 3\n.o 1\n001 1\n010 1\n100 1\n111 1\n";
-    for (text, answer) in [(ADDER, SUMS), (parity, "f1 = x1 + x2 + x3\n")] {
+    let one_cover = ".i 3\n.o 1\n.type f\n001 1\n010 1\n100 1\n111 1\n";
+    for (text, answer) in [
+        (ADDER, SUMS),
+        (parity, "f1 = x1 + x2 + x3\n"),
+        (one_cover, "f1 = x1 + x2 + x3\n"),
+    ] {
         let gate = Rendezvous::waiting(100_000_000);
         check_at(
             &rt,
@@ -226,6 +252,61 @@ fn branches_meet(rt: HostRuntime) -> Result<(), Fail> {
         )?;
         assert!(rt; gate.met(), "branches of {text}");
     }
+    Ok(())
+}
+
+// A pool that counts the jobs that it answers, and passes on.
+#[derive(Drop)]
+struct Counting {
+    jobs: usize,
+    pool: Drawn,
+}
+
+impl Pool for Counting {
+    ghost done = { λ pool. pool.pool.done };
+
+    fn answered(&mut self, solved: Solved) -> Vec<Handle> {
+        let handles = self.pool.answered(solved);
+        self.jobs = self.jobs.saturating_add(handles.len());
+        handles
+    }
+}
+
+// How many jobs a pool answers in a run of the words on a text.
+fn jobs_of<R: Threads + Abort + Sync>(
+    rt: &R,
+    alloc: Global,
+    line: &str,
+    text: &str,
+) -> Result<usize, Fail> {
+    let words = words_of(alloc, line)?;
+    let mut source = MemSource::make(alloc, text.as_bytes(), 4, &[]).map_err(|_| "memory")?;
+    let mut out = MemSink::make(alloc, 200, 4, &[]).map_err(|_| "memory")?;
+    let mut err = MemSink::make(alloc, 200, 7, &[]).map_err(|_| "memory")?;
+    let mut pool = Counting {
+        jobs: 0,
+        pool: Drawn::new(),
+    };
+    let status = run(
+        rt,
+        alloc,
+        &words,
+        &mut source,
+        &mut out,
+        &mut err,
+        &mut pool,
+        &Rendezvous::open(),
+        &mut Vec::new(alloc),
+    );
+    assert_eq!(rt; status, 0, "{line} at {text}");
+    Ok(pool.jobs)
+}
+
+// A job for each polynomial, and in mode basis one for the leads of each output and one for each element besides.
+#[test]
+fn jobs_are_answered_by_the_pool(rt: HostRuntime) -> Result<(), Fail> {
+    assert!(rt; jobs_of(&rt, rt.alloc(), "interp anf", ADDER)? >= 2);
+    assert!(rt; jobs_of(&rt, rt.alloc(), "interp basis", PAIR)? >= 6);
     Ok(())
 }
 
@@ -467,6 +548,7 @@ fn limits(rt: HostRuntime) -> Result<(), Fail> {
     let seventeen = ".i 17\n.o 1\n.type fd\n";
     let union = ".i 2\n.o 1\n.type fd\n1- 1\n-1 1\n";
     let graph = ".i 3\n.o 1\n.type fr\n101 1\n";
+    let sum = ".i 2\n.o 1\n.type fd\n10 1\n01 1\n";
     for (line, text, status, answer, message) in [
         ("interp anf --nodes 4", sixteen, 0, "f1 = 0\n", ""),
         ("interp basis --nodes 4", sixteen, 0, "f1 = 0\n", ""),
@@ -477,6 +559,7 @@ fn limits(rt: HostRuntime) -> Result<(), Fail> {
             "",
             "interp: more than 16 nodes are needed\n",
         ),
+        ("interp anf --nodes 23", sum, 0, "f1 = x1 + x2\n", ""),
         (
             "interp anf --terms 3",
             union,
@@ -605,6 +688,55 @@ fn limits_of_each_phase(rt: HostRuntime) -> Result<(), Fail> {
         ),
     ] {
         check_workers(&rt, alloc, words, point, (status, answer, message))?;
+    }
+    Ok(())
+}
+
+// All points that begin with these ones and have nine more inputs, in ascending order: each of four outputs is 1 there.
+fn ascending_points(alloc: Global, inputs: u32, ones: &str) -> Result<String, Fail> {
+    let mut text = format!(in alloc; ".i {inputs}\n.o 4\n.type fr\n")?;
+    for rest in 0..512u32 {
+        let row = format!(in alloc; "{ones}{rest:09b} 1111\n")?;
+        text.push_str(row.as_str())?;
+    }
+    Ok(text)
+}
+
+// The same on tables of 2^13 slots and more, where a run has all its workers. Behind seven ones phase 1 has 8,183 nodes in mode
+// anf: of the numbers over nine inputs 511 but 0 stand alone, and as many with all those below them, and there are seven nodes
+// more for each of 512 cubes and of 511 covers. Behind eight ones it has 9,206. In mode basis it has 8,189 behind seven ones,
+// and phase 2 has 8,202, as another program counts; the counts of terms are 32 and 60.
+#[test]
+fn limits_with_many_workers(rt: HostRuntime) -> Result<(), Fail> {
+    let alloc = rt.alloc();
+    let seven = ascending_points(alloc, 16, "1111111")?;
+    let eight = ascending_points(alloc, 17, "11111111")?;
+    let elements =
+        "0 = x7 + 1\n0 = x6 + 1\n0 = x5 + 1\n0 = x4 + 1\n0 = x3 + 1\n0 = x2 + 1\n0 = x1 + 1\n";
+    let bases = format!(in alloc;
+        "f1 = 1\n{elements}f2 = 1\n{elements}f3 = 1\n{elements}f4 = 1\n{elements}"
+    )?;
+    let full = "interp: more than 8192 nodes are needed\n";
+    let ones = "f1 = 1\nf2 = 1\nf3 = 1\nf4 = 1\n";
+    check_workers(&rt, alloc, "anf --nodes 13", eight.as_str(), (5, "", full))?;
+    for (words, status, answer, message) in [
+        ("anf --nodes 13", 0, ones, ""),
+        ("basis --nodes 13", 5, "", full),
+        (
+            "basis --nodes 13 --terms 31",
+            6,
+            "",
+            "interp: more than 31 terms\n",
+        ),
+        ("basis --nodes 14", 0, bases.as_str(), ""),
+        (
+            "basis --nodes 14 --terms 59",
+            6,
+            "",
+            "interp: more than 59 terms\n",
+        ),
+    ] {
+        check_workers(&rt, alloc, words, seven.as_str(), (status, answer, message))?;
     }
     Ok(())
 }
