@@ -403,3 +403,17 @@ pub without_jobs : {job : Job} {bytes : List ℕ} {o : Outcome} → is_gen job.m
     → (o ≡ ends.Done) ⊎ (o ≡ ends.WriteFault) → (due : Due) → IsDue job bytes due → least_jobs job.mode due.notes ≡ 0
 without_jobs other (due_without o is) ended due so = rw (same_due so is, other) (grind arith)
 without_jobs other no_memory ended due so = grind arith
+
+-- ==== the number of workers
+
+solving_free : (job : Job) (workers : ℕ) (d : Description) (due : Due) → IsDueSolving job d due
+    → IsDueSolving (record job { workers = workers }) d due
+solving_free job workers d _ (contradiction c least) = contradiction c least
+solving_free job workers d _ (has_answers answers are) = has_answers answers are
+
+-- what is due is so for each number of workers
+pub free_of_workers : (job : Job) (workers : ℕ) (bytes : List ℕ) (due : Due) → IsDue job bytes due
+    → IsDue (record job { workers = workers }) bytes due
+free_of_workers job workers bytes _ (no_file o file) = no_file o file
+free_of_workers job workers bytes _ (solving d due file mode is) = solving d due file mode (solving_free job workers d due is)
+free_of_workers job workers bytes _ (checking d due file mode is) = checking d due file mode is

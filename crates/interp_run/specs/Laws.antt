@@ -1,8 +1,8 @@
 -- Laws of what is due. The functions of src/laws.rt have them as their contracts.
-use Rattle.std.specs.Prelude.{◌≡◌, ◌↔◌, List, [], ◌∷◌, ◌++◌, ℕ, None, Some, Ok, codes}
+use Rattle.std.specs.Prelude.{◌≡◌, ◌≤◌, ◌↔◌, List, [], ◌∷◌, ◌++◌, ℕ, None, Some, Ok, codes}
 use Rattle.lattice.specs.declared.kind.Mode.{Mode}
 use Rattle.lattice.specs.declared.kind.Mode.TheVariants.{Anf, Basis, Check}
-use Rattle.pla_reader.specs.Reading.{description}
+use Rattle.pla_reader.specs.Reading.{Description, description}
 use Rattle.pla_reader.specs.declared.pla.Pla.{Pla}
 use Rattle.cert_check.specs.Faults.{verdict_on}
 use Rattle.cert_check.specs.Reading.{answer_reading}
@@ -10,6 +10,7 @@ use Rattle.cert_check.specs.Right.{IsRight}
 use Rattle.cert_check.specs.declared.answer.GivenOutput.{GivenOutput}
 use Rattle.cert_check.specs.declared.refusal.Verdict.TheVariants.{Yes}
 use Rattle.cli_words.specs.declared.job.Job.{Job}
+use Rattle.interp_run.specs.Answers.{first_nodes, last_nodes}
 use Rattle.interp_run.specs.Due.{Due, IsDue, file_of, judged, silent}
 use Rattle.interp_run.specs.declared.outcome.Outcome.TheVariants as ends
 
@@ -20,6 +21,14 @@ OneIsDue = (job : Job) (bytes : List ℕ) (a b : Due) → IsDue job bytes a → 
 -- and no less, where the file of the bytes is this one
 abbrev pub SomeIsDue : Pla → Type 0
 SomeIsDue p = (job : Job) (bytes : List ℕ) → file_of job bytes ≡ Ok (description p) → (due : Due) × IsDue job bytes due
+
+-- what is due does not depend on the number of workers
+abbrev pub WorkersAreFree : Type 0
+WorkersAreFree = (job : Job) (workers : ℕ) (bytes : List ℕ) (due : Due) → IsDue job bytes due → IsDue (record job { workers = workers }) bytes due
+
+-- phase 1 needs no more nodes than the last phase, so a run whose whole working set fits the slots is not refused for its first phase
+abbrev pub FirstWithinLast : Type 0
+FirstWithinLast = (d : Description) (mode : Mode) → first_nodes d mode ≤ last_nodes d mode
 
 -- the verdict on an answer that was read is yes exactly where the answer is right
 abbrev pub YesIsRight : Type 0

@@ -1,5 +1,5 @@
 //! Functions that do nothing. Their contracts are the laws of `specs/Laws.antt`, so a check proves these.
-ghost use Rattle.interp_run.specs.Laws.{DueForTwoPoints, OneIsDue, SomeIsDue, YesIsRight};
+ghost use Rattle.interp_run.specs.Laws.{DueForTwoPoints, FirstWithinLast, OneIsDue, SomeIsDue, WorkersAreFree, YesIsRight};
 
 use cube_sets::conflict;
 use pla_reader::Pla;
@@ -15,6 +15,16 @@ pub fn some_is_due(pla: &Pla)
 {
     let _ = conflict(pla);
 }
+
+/// What is due does not depend on the number of workers.
+pub fn workers_are_free()
+    ensures { WorkersAreFree }
+{}
+
+/// Phase 1 needs no more nodes than the last phase: where the whole working set of a run fits the slots, so does that of phase 1.
+pub fn first_within_last()
+    ensures { FirstWithinLast }
+{}
 
 /// The verdict on an answer is yes exactly where the answer is right.
 pub fn yes_is_right()
