@@ -252,8 +252,7 @@ module _ (p : Pass) (y : TableId) (m : Sat) (place at w : ℕ) (same : y ≡ p.s
   unfolding pass_state pass_steps bits_of view_state
   looked_told told =
       let here : at ≡ 2 ^ (p.seat.me.0).terms.bits + place = grind (arith, p.sizes) in
-      let kept = told.word (name_of p.seat.table_id) place here in
-      (
+      let kept = told.word (name_of p.seat.table_id) place here in (
         goes_reads _ _ _ _ same _ told.goes refl,
         grind (arith, p.sizes, kept),
         told.goes.history ∙ append-nil _,
