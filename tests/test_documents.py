@@ -1,4 +1,4 @@
-"""The lines of docs/USES.md and of README.md print what stands there, and docs/LIBRARY.md shows callers as they are."""
+"""The lines of README.md, docs/EXAMPLES.md and docs/USES.md print what stands there, and docs/LIBRARY.md shows callers as they are."""
 
 import pathlib
 import re
@@ -28,17 +28,25 @@ NO_LINES = ("prime =", "mkdir")
 # The programs of the system that the lines need.
 PROGRAMS = ("yosys", "berkeley-abc", "Singular", "M2")
 
-# Lines that stand in README.md, where what they print stands too.
-README_LINES = (
-    "./interp anf < examples/two_points.pla",
-    "./interp anf < examples/seven_segments.pla",
-    "./interp basis < examples/half_adder.pla",
-    "{ cat examples/half_adder.pla; ./interp basis < examples/half_adder.pla; } | ./interp check",
-    "./interp gen",
-    "./interp anf --order $(cat examples/decoder.order) < examples/decoder.pla",
-    "./nfq reduce < examples/relations.pla",
-    "./nfq union < examples/two_ideals.pla",
-)
+# Lines that stand in a document, where what they print stands too.
+SHOWN = {
+    "README.md": (
+        "./interp anf < examples/two_points.pla",
+        "./interp anf < examples/seven_segments.pla",
+        "./interp basis < examples/half_adder.pla",
+        "{ cat examples/half_adder.pla; ./interp basis < examples/half_adder.pla; } | ./interp check",
+        "./nfq reduce < examples/relations.pla",
+    ),
+    "docs/EXAMPLES.md": (
+        "./interp anf < examples/seven_segments.pla",
+        "./interp basis < examples/half_adder.pla",
+        "{ cat examples/half_adder.pla; ./interp basis < examples/half_adder.pla; } | ./interp check",
+        "./interp gen",
+        "./interp anf --order $(cat examples/decoder.order) < examples/decoder.pla",
+        "./nfq reduce < examples/relations.pla",
+        "./nfq union < examples/two_ideals.pla",
+    ),
+}
 
 
 def blocks(text):
@@ -94,17 +102,18 @@ class Lines(Test):
         self.assertEqual(ended.status, 0, ended)
         self.assertIn(prints, ended.out, ended)
 
-    def test_readme(self):
+    def test_shown(self):
         """What a line prints stands in a block of its own or, if it is a word, in the text."""
-        readme = (TOP / "README.md").read_text()
-        for line in README_LINES:
-            with self.case(line):
-                self.assertTrue(line in readme, "not in README.md")
-                ended = self.shell(line)
-                self.assertEqual(ended.status, 0, ended)
-                printed = ended.out.splitlines()
-                stands = "".join(f"    {row}\n" for row in printed) in readme
-                self.assertTrue(stands or len(printed) == 1 and f"`{printed[0]}`" in readme, ended)
+        for name, lines in SHOWN.items():
+            document = (TOP / name).read_text()
+            for line in lines:
+                with self.case(f"{name}: {line}"):
+                    self.assertIn(line, document)
+                    ended = self.shell(line)
+                    self.assertEqual(ended.status, 0, ended)
+                    printed = ended.out.splitlines()
+                    stands = "".join(f"    {row}\n" for row in printed) in document
+                    self.assertTrue(stands or len(printed) == 1 and f"`{printed[0]}`" in document, ended)
 
 
 class Library(Test):
