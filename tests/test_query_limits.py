@@ -12,7 +12,8 @@ import resource
 import tempfile
 
 from bench import make_files
-from tests.harness import ALL, TOP, Ended, Fault, Test, description, faults, program, run
+from tests import test_refused
+from tests.harness import TOP, Ended, Test, description, program, run
 from tests.test_devices import Trial
 
 NO_MEMORY = Ended(7, "", "nfq: out of memory\n")
@@ -183,31 +184,11 @@ class Compared(Test):
         self.assertLessEqual(seconds, 2 * most + BESIDE)
 
 
-class Refused(Test):
+class Refused(test_refused.Refused):
     """Each allocation that is refused, alone and with all that come after it."""
 
-    def refuse(self, words, text, whole, number):
-        """Refuses an allocation. Answers whether it was met, and how many of the two runs ended for want of memory."""
-        ends = 0
-        for last in (number, ALL):
-            ended, was_met = faults().run(words, text, Fault("alloc", 0, number, last, "fail"))
-            is_refused = (ended.status, ended.out) == (7, "") and "nfq: out of memory\n".startswith(ended.err)
-            self.assertTrue(ended == whole or was_met and is_refused, f"allocations {number} to {last}: {ended}")
-            ends += ended.status == 7
-        return was_met, ends
-
-    def test_each_allocation(self):
-        for mode, text, answer in RUNS:
-            with self.case(mode):
-                words = [program("nfq"), mode]
-                whole = run(words, text)
-                self.assertEqual(whole, Ended(0, answer, ""))
-                number, ends, was_met = 0, 0, True
-                while was_met:
-                    number += 1
-                    was_met, more = self.refuse(words, text, whole, number)
-                    ends += more
-                self.assertGreater(ends, 0, f"{number - 1} allocations were met")
+    name = "nfq"
+    runs = RUNS
 
 
 class QueryTrial(Trial):

@@ -22,16 +22,16 @@ RUNS = [
     ("gen --workers 2", "", "points 256\nf1 8\nf2 7\n"),
 ]
 
-MESSAGE = "interp: out of memory\n"
-
-
-def is_refused(ended):
-    """Whether this is the end for want of memory."""
-    return (ended.status, ended.out) == (7, "") and MESSAGE.startswith(ended.err)
-
 
 class Refused(Test):
-    """Allocations that are refused."""
+    """Allocations that are refused to a program of this name in these runs."""
+
+    name = "interp"
+    runs = RUNS
+
+    def is_refused(self, ended):
+        """Whether this is the end for want of memory."""
+        return (ended.status, ended.out) == (7, "") and f"{self.name}: out of memory\n".startswith(ended.err)
 
     def refuse(self, words, text, whole, number):
         """Refuses an allocation, alone and with all that come after it.
@@ -42,14 +42,14 @@ class Refused(Test):
         for last in (number, ALL):
             ended, was_met = faults().run(words, text, Fault("alloc", 0, number, last, "fail"))
             if ended != whole:
-                self.assertTrue(was_met and is_refused(ended), f"allocations {number} to {last} refused: {ended}")
+                self.assertTrue(was_met and self.is_refused(ended), f"allocations {number} to {last} refused: {ended}")
             ends += ended.status == 7
         return was_met, ends
 
     def test_each_allocation(self):
-        for line, text, answer in RUNS:
+        for line, text, answer in self.runs:
             with self.case(line):
-                words = [program("interp"), *line.split()]
+                words = [program(self.name), *line.split()]
                 whole = run(words, text)
                 self.assertEqual((whole.status, whole.out), (0, answer))
                 number, ends, was_met = 0, 0, True
