@@ -1,0 +1,54 @@
+#!/usr/bin/env python3
+"""Checks that what is said of the crates agrees, and fails with a message for each place where it does not.
+
+The comment above a crate's line in crates.txt is the documentation that its root file begins with, and each crate has a row in
+the tables of docs/ARCHITECTURE.md and docs/PROVED.md.
+"""
+
+import pathlib
+import re
+import sys
+
+TOP = pathlib.Path(__file__).resolve().parent.parent
+# Crates of tests alone have no contracts, so the page on what is proved names them together.
+OF_TESTS = re.compile(r"\w+_tests$")
+
+
+def crates():
+    """Each crate of crates.txt, with the comment above its line."""
+    comment = ""
+    for line in (TOP / "crates.txt").read_text().splitlines():
+        if line.startswith("# "):
+            comment = line[2:]
+        elif ":" in line:
+            yield line.partition(":")[0], comment
+
+
+def promise(crate):
+    """The documentation that a crate's root file begins with, in one line."""
+    source = next(path for path in (crate / "src/lib.rt", crate / "src/main.rt") if path.is_file())
+    lines = re.match(r"(?://![^\n]*\n)*", source.read_text()).group(0).splitlines()
+    return " ".join(line[3:].strip() for line in lines)
+
+
+def faults():
+    tables = {name: (TOP / "docs" / name).read_text() for name in ("ARCHITECTURE.md", "PROVED.md")}
+    for name, comment in crates():
+        crate = TOP / "crates" / name
+        if comment != promise(crate):
+            yield f"crates.txt: {name} is not said to be what its documentation says: {promise(crate)}"
+        for page, table in tables.items():
+            if f"| `{name}` |" not in table and not (page == "PROVED.md" and OF_TESTS.match(name)):
+                yield f"docs/{page}: {name} has no row"
+
+
+def main():
+    found = list(faults())
+    for fault in found:
+        print(fault)
+    print(f"what is said of the crates: {'not as it should be' if found else 'ok'}")
+    return 1 if found else 0
+
+
+if __name__ == "__main__":
+    sys.exit(main())
