@@ -1,0 +1,105 @@
+"""The commands: each module has a `main`, which takes the words of a command line and gives the status."""
+
+import functools
+import os
+import signal
+import sys
+
+from ..descriptions import DescriptionError
+from ..programs import ProgramMissing
+
+# The statuses that the commands have and the programs have not: no program, and 128 and the number of a signal.
+WORDS, WRITE_FAULT, MISSING = 2, 9, 69
+INTERRUPTED, TERMINATED, CLOSED = 128 + signal.SIGINT, 128 + signal.SIGTERM, 128 + signal.SIGPIPE
+
+
+class Stopped(BaseException):
+    """A signal asked for the end of the run."""
+
+    def __init__(self, status):
+        super().__init__(status)
+        self.status = status
+
+
+def say(name, text):
+    """Writes a message of a command to standard error. Where this cannot be written, it is lost."""
+    try:
+        print(f"{name}: {text}", file=sys.stderr, flush=True)
+    except OSError:
+        pass
+
+
+def command(name):
+    """Makes a `main` of a function of words: no end of a run is a traceback."""
+
+    def guard(body):
+        @functools.wraps(body)
+        def main(words=None):
+            _set_streams()
+            _set_signals()
+            try:
+                status = body(sys.argv[1:] if words is None else words)
+                sys.stdout.flush()
+                return status
+            except DescriptionError as error:
+                say(name, str(error))
+                return error.status
+            except ProgramMissing as error:
+                say(name, str(error))
+                return MISSING
+            except BrokenPipeError:
+                _drop_output()
+                return CLOSED
+            except OSError as error:
+                _drop_output()
+                say(name, f"the answer cannot be written: {error.strerror or error}")
+                return WRITE_FAULT
+            except Stopped as stopped:
+                _drop_output()
+                return stopped.status
+            except MemoryError:
+                say(name, "out of memory")
+                return 7
+
+        return main
+
+    return guard
+
+
+def _set_streams():
+    """Texts are UTF-8, and what is no UTF-8 of a path is written with backslashes. A stream that is closed has nothing
+    to read, and what is written to standard output then fails."""
+    for descriptor, name in enumerate(("stdin", "stdout", "stderr")):
+        stream = getattr(sys, name)
+        if stream is None:
+            # The lowest descriptor that is free is this one.
+            os.open(os.devnull, os.O_WRONLY if name == "stderr" else os.O_RDONLY)
+            stream = open(descriptor, "r" if name == "stdin" else "w", encoding="utf-8", closefd=False)
+            setattr(sys, name, stream)
+        if name != "stdin" and hasattr(stream, "reconfigure"):
+            stream.reconfigure(encoding="utf-8", errors="backslashreplace")
+
+
+def _set_signals():
+    """The first signal that asks for the end raises Stopped, so that the programs that run are ended too."""
+
+    def stop(number, _):
+        for other in (signal.SIGINT, signal.SIGTERM):
+            signal.signal(other, signal.SIG_IGN)
+        raise Stopped(128 + number)
+
+    try:
+        for number in (signal.SIGINT, signal.SIGTERM):
+            if signal.getsignal(number) is not signal.SIG_IGN:
+                signal.signal(number, stop)
+    except ValueError:
+        # Signals belong to the first thread: a caller in another one has its own ways.
+        pass
+
+
+def _drop_output():
+    """Leaves nothing that would be written at the end of the process."""
+    try:
+        os.dup2(os.open(os.devnull, os.O_WRONLY), sys.stdout.fileno())
+    except (OSError, ValueError):
+        pass

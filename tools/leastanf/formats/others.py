@@ -1,0 +1,210 @@
+"""Answers for solvers, programs, documents and pictures: CNF, Python, JSON, LaTeX and DOT."""
+
+import json
+import keyword
+import re
+
+from ..factors import input_of, is_complement
+from . import naming
+from .diagrams import Diagram
+from .functions import functions
+from .steps import Language, Steps
+
+# How many terms stand on a line of a document.
+TERMS_ON_A_LINE = 8
+
+
+def cnf(answer):
+    """Clauses, and exclusive-or lines as cryptominisat reads them. The models are the points at which each line of the
+    answer holds: each output has its polynomial's value, and each element is 0."""
+    names = [*answer.inputs, *(output.name for output in answer)]
+    clauses = Clauses(answer, len(names))
+    for place, output in enumerate(answer, len(answer.inputs) + 1):
+        clauses.equal(place, clauses.root(output.polynomial))
+        for element in output.basis:
+            clauses.zero(clauses.root(element))
+    for element in answer.ideal or ():
+        clauses.zero(clauses.root(element))
+    for number, name in enumerate(names, 1):
+        yield f"c {number} is {name}"
+    yield f"p cnf {clauses.last} {len(clauses.lines)}"
+    yield from clauses.lines
+
+
+class Clauses:
+    """Clauses for polynomials, in variables of which the last of an answer's own is given. A literal is a variable or,
+    with a minus, its complement."""
+
+    def __init__(self, answer, last):
+        self.inputs = {name: number for number, name in enumerate(answer.inputs, 1)}
+        self.diagram = Diagram(answer.factors())
+        self.literals = {}
+        self.last = last
+        self.lines = []
+
+    def root(self, polynomial):
+        """The node of a polynomial, whose clauses are made."""
+        root = self.diagram.add(polynomial)
+        for number in self.diagram.order([root]):
+            if number not in self.literals:
+                self.literals[number] = self.literal(number)
+        return root
+
+    def literal(self, number):
+        """The literal of a node `low + factor*high`. A new one for the product is 1 where both are, and one for the sum
+        fits an exclusive-or."""
+        factor = self.diagram.factor(number)
+        product = -self.inputs[input_of(factor)] if is_complement(factor) else self.inputs[factor]
+        high, low = self.diagram.high(number), self.diagram.low(number)
+        if high != 1:
+            parts = product, self.literals[high]
+            product = self.new()
+            self.lines += [f"{-product} {part} 0" for part in parts]
+            self.lines.append(f"{product} {-parts[0]} {-parts[1]} 0")
+        if low == 1:
+            return -product
+        if low:
+            parts = product, self.literals[low]
+            product = self.new()
+            self.exclusive_or(-product, *parts)
+        return product
+
+    def new(self):
+        self.last += 1
+        return self.last
+
+    def exclusive_or(self, *literals):
+        """An odd number of the literals are 1."""
+        self.lines.append(f"x{' '.join(map(str, literals))} 0")
+
+    def equal(self, variable, root):
+        if root < 2:
+            self.lines.append(f"{variable if root else -variable} 0")
+        else:
+            self.exclusive_or(-variable, self.literals[root])
+
+    def zero(self, root):
+        if root == 1:
+            self.lines += ["1 0", "-1 0"]
+        elif root:
+            self.lines.append(f"{-self.literals[root]} 0")
+
+
+def python(answer):
+    """A function of the inputs. Its values are whole numbers whose bits are points: 0 and 1 are one point."""
+    named = functions(answer)
+    names = naming.distinct(answer.inputs, is_python, naming.mended(is_python), {"one"})
+    texts = dict(zip(answer.inputs, names))
+    texts = {
+        factor: f"(one ^ {texts[input_of(factor)]})" if is_complement(factor) else texts[factor]
+        for factor in answer.factors()
+    }
+    steps = Steps(Language(" ^ ", " & ", ("0", "one"), brackets=True), texts, naming.prefix("n", names))
+    for _, polynomial in named:
+        steps.add(polynomial)
+    nodes, roots = steps.write()
+    yield f"INPUTS = {list(answer.inputs)!r}"
+    yield ""
+    yield ""
+    yield f"def evaluate({', '.join(names)}, one=1):"
+    yield '    """The value of each output at a point. Each bit of an argument is a point, as far as `one` has it."""'
+    for name, text in nodes:
+        yield f"    {name} = {text}"
+    yield "    return {"
+    for (name, _), text in zip(named, roots):
+        yield f"        {name!r}: {text},"
+    yield "    }"
+
+
+def is_python(name):
+    return naming.is_word(name) and not keyword.iskeyword(name)
+
+
+def as_json(answer):
+    """The names of the inputs, and of each output its name, its polynomial and the elements of its basis; or the
+    elements of the ideal. A polynomial is a list of monomials, each a list of factors."""
+    yield f'{{"inputs": {json.dumps(answer.inputs)},'
+    if answer.ideal is None:
+        yield '"outputs": ['
+        last = len(answer.outputs) - 1
+        for place, output in enumerate(answer):
+            yield f'{{"name": {json.dumps(output.name)},'
+            yield f'"polynomial": {json_monomials(output.polynomial)},'
+            yield f'"basis": {json_list(output.basis)}}}{"," if place < last else ""}'
+        yield "]}"
+    else:
+        yield f'"ideal": {json_list(answer.ideal)}}}'
+
+
+def json_list(elements):
+    return f"[{', '.join(map(json_monomials, elements))}]"
+
+
+def json_monomials(polynomial):
+    """The monomials of a polynomial, made from its text, since of a long one that takes a small part of the time."""
+    text = json.dumps(str(polynomial))[1:-1]
+    if text == "0":
+        return "[]"
+    return f'[["{text}"]]'.replace(" + ", '"], ["').replace("*", '", "').replace('["1"]', "[]")
+
+
+def latex(answer):
+    """Lines of an environment align, one for each line of the answer."""
+    texts = {}
+    for factor in answer.factors():
+        text = latex_name(input_of(factor))
+        texts[factor] = f"\\overline{{{text}}}" if is_complement(factor) else text
+    lines = []
+    for output in answer:
+        lines += latex_lines(latex_name(output.name), output.polynomial, texts)
+        for element in output.basis:
+            lines += latex_lines("0", element, texts)
+    for element in answer.ideal or ():
+        lines += latex_lines("0", element, texts)
+    yield r"\begin{align*}"
+    yield " \\\\\n".join(lines)
+    yield r"\end{align*}"
+
+
+def latex_name(name):
+    """A letter with a number as an index, and any other name in italics as it stands."""
+    indexed = re.fullmatch("([A-Za-z])([0-9]+)", name)
+    if indexed:
+        return f"{indexed[1]}_{{{indexed[2]}}}"
+    if len(name) == 1 and name.isalpha():
+        return name
+    special = {"\\": r"\backslash{}", "^": r"\text{\^{}}", "<": "{<}", ">": "{>}"}
+    return "\\mathit{" + "".join(special.get(c, "\\" + c if c in "#$%&_{}" else c) for c in name) + "}"
+
+
+def latex_lines(left, polynomial, texts):
+    """The lines of an equation, with a few terms on each."""
+    terms = [r"\,".join([texts[factor] for factor in monomial]) or "1" for monomial in polynomial.monomials] or ["0"]
+    parts = [" + ".join(terms[start : start + TERMS_ON_A_LINE]) for start in range(0, len(terms), TERMS_ON_A_LINE)]
+    return [f"{left} &= {parts[0]}", *(f"&\\quad + {part}" for part in parts[1:])]
+
+
+def dot(answer):
+    """The diagram as a picture of Graphviz. A node is `low + factor*high`: the full line goes to high and the dashed
+    one to low, where low is not 0. So each path to 1 is a monomial, of the factors that it leaves by full lines."""
+    named = functions(answer)
+    diagram = Diagram(answer.factors())
+    roots = [diagram.add(polynomial) for _, polynomial in named]
+    yield "digraph anf {"
+    yield "  1 [shape=box];"
+    if 0 in roots:
+        yield "  0 [shape=box];"
+    for number in diagram.order(roots):
+        yield f"  {number} [label={quoted(diagram.factor(number))}];"
+        yield f"  {number} -> {diagram.high(number)};"
+        if diagram.low(number):
+            yield f"  {number} -> {diagram.low(number)} [style=dashed];"
+    for place, ((name, _), root) in enumerate(zip(named, roots)):
+        yield f"  output{place} [label={quoted(name)}, shape=plaintext];"
+        yield f"  output{place} -> {root};"
+    yield "}"
+
+
+def quoted(name):
+    escaped = name.replace("\\", "\\\\").replace('"', '\\"')
+    return f'"{escaped}"'

@@ -1,0 +1,143 @@
+"""Answers as other programs write them: Singular, Macaulay2, and people.
+
+A line gives a polynomial to an output, by its name or as `poly f2 = ..` of output 2, or it gives elements of a basis:
+`0 = ..`, `ideal I2 = .., ..` of output 2, `G[3]=..`, or polynomials alone, as `print` writes them, of the output that
+was named last. Of a list of elements the brackets and the word before them are left out, and so are the marks o1, o2 of
+Macaulay2. Elements with a power that are 0 where x^2 is x are the polynomials of the field and are left out too.
+"""
+
+import re
+
+from . import queries
+
+_SKIPPED = re.compile(r"(//|--|#|o\d+ :|i\d+ :|ring |R = |short ?= ?0|ideal F ?=)")
+_LEFT = re.compile(r"(?:(?:poly|ideal) )?\s*([^=\s]+)\s*=\s*(.*)", re.DOTALL)
+# What stands beside the equations: the mark of a result of Macaulay2, and the polynomials of the field.
+_BESIDE = re.compile(r"^o\d+ = | \+ ideal apply\(gens R, v -> v\^2 \+ v\)")
+_WRAPPED = re.compile(r"(?:ideal|matrix)?\s*(\(.*\)|\{.*\}|\[.*\])\Z", re.DOTALL)
+_OPEN = re.compile(r"[-+*^&|(\[{,=]\s*\Z")
+_POWER = re.compile(r"\^|\*\*")
+
+
+class TranscriptError(Exception):
+    """Why a text is no answer, with the number of a line."""
+
+    status = 3
+
+    def __init__(self, line, text):
+        super().__init__(text if line is None else f"answer line {line}: {text}")
+
+
+class Claim:
+    """What an answer says of an output: its polynomial, or None, and the elements of its basis; with the numbers of
+    their lines."""
+
+    def __init__(self):
+        self.polynomial = self.line = None
+        self.elements = []
+        self.element_lines = []
+
+
+def parse(text, description, names):
+    """What a text says of each output of a description, a list of Claims, or a TranscriptError."""
+    claims = [Claim() for _ in range(description.outputs)]
+    lefts = {f"{letter}{place + 1}": (place, letter == "f") for letter in "If" for place in range(description.outputs)}
+    for given in (description.output_names, description.shown_output_names):
+        lefts.update((name, (place, True)) for place, name in enumerate(given))
+    current = 0 if description.outputs == 1 else None
+    for line, part in logical_lines(text):
+        found = _LEFT.match(part)
+        left, right = (found[1], found[2]) if found else (None, part)
+        place, is_polynomial = lefts.get(left, (current, False))
+        if place is None:
+            raise TranscriptError(line, f"{left or right[:20]!r} is no output of the file, and none was named before")
+        if found and left not in lefts and not _is_label(left, lefts):
+            raise TranscriptError(line, f"{left!r} is no output of the file")
+        current = place
+        polynomials = [_parse(line, piece, names) for piece in pieces(right)]
+        if is_polynomial:
+            _set_polynomial(claims[place], line, polynomials)
+        else:
+            _add_elements(claims[place], line, zip(pieces(right), polynomials))
+    return claims
+
+
+def _is_label(left, lefts):
+    """Whether a left side is 0, or the place of an element in a list that has no output's name."""
+    found = re.fullmatch(r"(\w+)\[\d+\]", left)
+    return left == "0" or found is not None and not any(name.startswith(f"{found[1]}[") for name in lefts)
+
+
+def _set_polynomial(claim, line, polynomials):
+    if len(polynomials) != 1:
+        raise TranscriptError(line, "one polynomial is wanted")
+    if claim.polynomial is not None:
+        raise TranscriptError(line, "the output has a polynomial already")
+    claim.polynomial, claim.line = polynomials[0], line
+
+
+def _add_elements(claim, line, elements):
+    for text, element in elements:
+        if re.fullmatch(r"\s*[0-9]+\s*", text) and text.strip() not in ("0", "1"):
+            raise TranscriptError(line, "a number alone: write powers on the line, as toString does in Macaulay2")
+        if element or not _POWER.search(text):
+            claim.elements.append(element)
+            claim.element_lines.append(line)
+
+
+def _parse(line, text, names):
+    try:
+        return queries.parse(text, names)
+    except queries.QueryError as error:
+        raise TranscriptError(line, str(error)) from None
+
+
+def logical_lines(text):
+    """The lines that say something, with the number of the first one of each: one goes on where it ends with a sign or
+    in a bracket."""
+    first, parts, depth = 0, [], 0
+    for number, line in enumerate(text.splitlines(), 1):
+        line = _BESIDE.sub("", line.strip().rstrip(";"))
+        if not parts and (not line or _SKIPPED.match(line)):
+            continue
+        first = first if parts else number
+        parts.append(line)
+        depth += sum(map(line.count, "([{")) - sum(map(line.count, ")]}"))
+        if depth <= 0 and not _OPEN.search(line):
+            yield first, " ".join(parts)
+            parts, depth = [], 0
+    if parts:
+        raise TranscriptError(first, "the line goes on, and the text ends")
+
+
+def pieces(text):
+    """The polynomials of a list, without what stands around it."""
+    text = text.strip()
+    found = _WRAPPED.fullmatch(text)
+    while found and _is_one_bracket(found[1]) and (found[1][0] != "(" or text.startswith("ideal") or "," in text):
+        text = found[1][1:-1].strip()
+        found = _WRAPPED.fullmatch(text)
+    return _split(text) if text else []
+
+
+def _is_one_bracket(text):
+    """Whether the first bracket of a text is closed by its last sign."""
+    depth = 0
+    for place, sign in enumerate(text):
+        depth += (sign in "([{") - (sign in ")]}")
+        if depth == 0:
+            return place == len(text) - 1
+    return False
+
+
+def _split(text):
+    """The parts of a text between the commas that are in no bracket."""
+    if not set("([{") & set(text):
+        return [part for part in text.split(",") if part.strip()]
+    parts, start, depth = [], 0, 0
+    for place, sign in enumerate(text):
+        depth += (sign in "([{") - (sign in ")]}")
+        if sign == "," and depth == 0:
+            parts.append(text[start:place])
+            start = place + 1
+    return [part for part in [*parts, text[start:]] if part.strip()]
