@@ -1,5 +1,6 @@
 """The lines of README.md, docs/EXAMPLES.md and docs/USES.md print what stands there, and docs/LIBRARY.md shows callers as they are."""
 
+import os
 import pathlib
 import re
 import shutil
@@ -11,22 +12,42 @@ from tests.harness import TOP, Test, program, run
 # What the blocks of lines in docs/USES.md print, in order: a part of the block, and a part of what it prints.
 PRINTS = [
     ("read_verilog examples/adder.v", "Networks are equivalent"),
+    ("read_blif", "Networks are equivalent"),
+    ("made/even.v", "e = d[0] + 1\n"),
     ("cmp <(", "same\n"),
     ("&exorcism", "-01- 1\n-1-1 1\n"),
+    (
+        "scattered_f",
+        "scattered_f.esop:686\nmade/scattered_f_less.esop:29\nmade/scattered.esop:104\nmade/scattered_less.esop:22\n",
+    ),
+    ("describe esop", "prime = d4*d2 + d4*d1 + d2\n"),
+    ("made/present.txt", "y0 = x3 + x2*x1 + x2 + x0\n"),
     ("examples/present.pla", "0 = y0 + x3 + x2*x1 + x2 + x0\n"),
-    ("bench/make_files.py", "0\n132\n133\n145\n136\n131\n114\n112\n110\n"),
+    ("examples/present_graph.pla --relations", "21\n"),
+    ("bench/make_files.py", "39\n"),
+    ("made/bench/aes.pla", "0\n132\n133\n145\n136\n131\n114\n112\n110\n"),
+    ("cryptominisat5", "v -1 2 -3 4 -5 -6 -7 -8 "),
     ("examples/johnson.pla", "0 = q4*q3 + q4*q0 + q3*q0 + q3\n"),
+    ("tools/ask --holds", "reachable: yes\nreachable: no\nthe status is 1\n"),
     ("./nfq reduce", "reachable = 0\n"),
-    ("Singular -q", "4\n"),
+    ("describe points", "f1 = 1\n0 = x3 + 1\n0 = x1 + x2 + 1\n"),
+    ("print(vdim(G))", "4\n"),
     ("M2 --script", "4\n"),
+    ("tools/ask meet", "ideal I1 = x1*x2 + x2;\n0 = d8*d2\n0 = d8*d4\n"),
     ("./interp check", "yes\n"),
+    ("tools/judge examples/seven_segments.pla", "a: yes\nb: yes\nc: yes\nd: yes\ne: yes\nf: yes\ng: yes\n"),
+    ("tools/judge examples/half_adder.pla", "graph: yes\n"),
+    ("tools/agrees examples/digits.pla", "prime: no, it is 1 at 0110, where 0 is given\nprime: yes\n"),
+    ("tools/solve -o", "s = a + b + cin\nc = a*b + a*cin + b*cin\n"),
+    ("answer_as python", "{'s': 0, 'c': 1} {'s': 6, 'c': 8}\n"),
+    ("answer_as dot", 'label="cin"'),
 ]
 
 # Blocks of these documents that are no lines to run begin so.
 NO_LINES = ("prime =", "mkdir")
 
 # The programs of the system that the lines need.
-PROGRAMS = ("yosys", "berkeley-abc", "Singular", "M2")
+PROGRAMS = ("yosys", "berkeley-abc", "Singular", "M2", "cryptominisat5")
 
 # Lines that stand in a document, where what they print stands too.
 SHOWN = {
@@ -81,7 +102,8 @@ class Lines(Test):
             link = self.folder / name
             if not link.is_symlink():
                 link.symlink_to(program(name))
-        return run(["bash", "-c", text], cwd=self.folder)
+        given = {name.upper(): program(name) for name in ("interp", "nfq")}
+        return run(["bash", "-c", text], cwd=self.folder, env={**os.environ, **given})
 
     def test_uses(self):
         found = blocks((TOP / "docs/USES.md").read_text())
