@@ -456,7 +456,15 @@ class Transcripts(Test):
         one, other = self.claims(text, EXAMPLES / "full_adder.pla")
         self.assertEqual(one.polynomial, {4, 2, 1})
         self.assertEqual(other.polynomial, {6, 5, 3})
-        self.assertEqual((one.elements, other.elements), ([{4}], [set()]))
+        self.assertEqual((one.elements, other.elements), ([{4}], []))
+
+    def test_no_elements(self):
+        """A 0 in a list of another program is no element, and one on a line of its own is."""
+        for text in ("ideal I1 = 0;\n", "I1 = ideal(0_R)\n", "G[1]=0\n", "0\n", "{0}\n"):
+            with self.case(text):
+                claim = self.claims(text)[0]
+                self.assertEqual((claim.elements, claim.has_list), ([], True))
+        self.assertEqual(self.claims("0 = 0\n")[0].elements, [set()])
 
     def test_refused(self):
         for text in ("grahp = a", "graph = a, b", "  2\na + a", "0 = (a", "0 = a)", "graph = ", "a b", "0 = a +"):
@@ -483,6 +491,21 @@ class Transcripts(Test):
         for name in ("singular", "macaulay2"):
             with self.case(name):
                 self.judged(self.scripted(name))
+
+    def test_scripts_without_bases(self):
+        """In scripts of mode anf outputs are told by their numbers, whatever they are called, and no basis is judged."""
+        file = self.here / "f.pla"
+        rows = [("11-", "100"), ("-11", "010"), ("1-1", "001")]
+        for kind, results in (("fd", ["f2", "f1", "f3"]), ("f", ["f0", "I1", "f1"])):
+            file.write_text(description(3, 3, kind, rows, results=results))
+            least = run([program("interp"), "anf"], file.read_text()).out
+            for name in ("singular", "macaulay2"):
+                script = run([sys.executable, TOP / "tools/answer_as", name, file], least).out
+                with self.case((kind, name)):
+                    ended = run([*JUDGE, file], script)
+                    self.assertEqual((ended.status, ended.out), (0, "".join(f"{word}: yes\n" for word in results)))
+                    wrong = run([*JUDGE, file], script.replace("f1 = ", "f1 = x3 + "))
+                    self.assertEqual((wrong.status, wrong.out.count(": no, ")), (1, 1))
 
     def test_singular(self):
         """What Singular computes of the equations in another order."""

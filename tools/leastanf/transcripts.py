@@ -2,8 +2,10 @@
 
 A line gives a polynomial to an output, by its name or as `poly f2 = ..` of output 2, or it gives elements of a basis:
 `0 = ..`, `ideal I2 = .., ..` of output 2, `G[3]=..`, or polynomials alone, as `print` writes them, of the output that
-was named last. Of a list of elements the brackets and the word before them are left out, and so are the marks o1, o2 of
-Macaulay2. Elements with a power that are 0 where x^2 is x are the polynomials of the field and are left out too.
+was named last. In a script, which makes a ring, f2 is output 2 too, whatever the outputs are called. Of a list of
+elements the brackets and the word before them are left out, and so are the marks o1, o2 of Macaulay2. Elements with a
+power that are 0 where x^2 is x are the polynomials of the field and are left out too. A 0 that is not on a line `0 = 0`
+says that a list has no elements, as these programs have no other way to say it.
 """
 
 import re
@@ -11,7 +13,9 @@ import re
 from . import queries
 
 _SKIPPED = re.compile(r"(//|--|#|o\d+ :|i\d+ :|ring |R = |short ?= ?0|ideal F ?=)")
-_LEFT = re.compile(r"(?:(?:poly|ideal) )?\s*([^=\s]+)\s*=\s*(.*)", re.DOTALL)
+_LEFT = re.compile(r"(poly |ideal )?\s*([^=\s]+)\s*=\s*(.*)", re.DOTALL)
+_RING = re.compile(r"^\s*(ring r = 2,|R = ZZ/2\[)", re.MULTILINE)
+_NONE = re.compile(r"\s*0(_R)?\s*")
 # What stands beside the equations: the mark of a result of Macaulay2, and the polynomials of the field.
 _BESIDE = re.compile(r"^o\d+ = | \+ ideal apply\(gens R, v -> v\^2 \+ v\)")
 _WRAPPED = re.compile(r"(?:ideal|matrix)?\s*(\(.*\)|\{.*\}|\[.*\])\Z", re.DOTALL)
@@ -30,10 +34,11 @@ class TranscriptError(Exception):
 
 class Claim:
     """What an answer says of an output: its polynomial, or None, and the elements of its basis; with the numbers of
-    their lines."""
+    their lines; and whether there is a list of elements, which may be empty."""
 
     def __init__(self):
         self.polynomial = self.line = None
+        self.has_list = False
         self.elements = []
         self.element_lines = []
 
@@ -41,13 +46,17 @@ class Claim:
 def parse(text, description, names):
     """What a text says of each output of a description, a list of Claims, or a TranscriptError."""
     claims = [Claim() for _ in range(description.outputs)]
-    lefts = {f"{letter}{place + 1}": (place, letter == "f") for letter in "If" for place in range(description.outputs)}
+    numbers = {f"{letter}{place + 1}": (place, letter == "f") for letter in "If" for place in range(description.outputs)}
+    names_of_outputs = {}
     for given in (description.output_names, description.shown_output_names):
-        lefts.update((name, (place, True)) for place, name in enumerate(given))
+        names_of_outputs.update((name, (place, True)) for place, name in enumerate(given))
+    by_name, by_number = {**numbers, **names_of_outputs}, {**names_of_outputs, **numbers}
+    is_script = _RING.search(text) is not None
     current = 0 if description.outputs == 1 else None
     for line, part in logical_lines(text):
         found = _LEFT.match(part)
-        left, right = (found[1], found[2]) if found else (None, part)
+        left, right = (found[2], found[3]) if found else (None, part)
+        lefts = by_number if is_script or found and found[1] else by_name
         place, is_polynomial = lefts.get(left, (current, False))
         if place is None:
             raise TranscriptError(line, f"{left or right[:20]!r} is no output of the file, and none was named before")
@@ -58,7 +67,8 @@ def parse(text, description, names):
         if is_polynomial:
             _set_polynomial(claims[place], line, polynomials)
         else:
-            _add_elements(claims[place], line, zip(pieces(right), polynomials))
+            parts = [entry for entry in zip(pieces(right), polynomials) if left == "0" or not _NONE.fullmatch(entry[0])]
+            _add_elements(claims[place], line, parts)
     return claims
 
 
@@ -77,6 +87,7 @@ def _set_polynomial(claim, line, polynomials):
 
 
 def _add_elements(claim, line, elements):
+    claim.has_list = True
     for text, element in elements:
         if re.fullmatch(r"\s*[0-9]+\s*", text) and text.strip() not in ("0", "1"):
             raise TranscriptError(line, "a number alone: write powers on the line, as toString does in Macaulay2")

@@ -86,9 +86,11 @@ def told(claim, verdict):
 def read_claims(description, options, names):
     """What the answer on standard input says of each output, and whether bases are judged."""
     claims = transcripts.parse(descriptions.read_bytes("-").decode("utf-8", "replace"), description, names)
-    with_bases = options.basis or any(claim.elements for claim in claims)
+    with_bases = options.basis or any(
+        claim.elements or claim.has_list and claim.polynomial is None for claim in claims
+    )
     for name, claim in zip(description.shown_output_names, claims):
-        if claim.polynomial is None and not claim.elements:
+        if claim.polynomial is None and not claim.has_list:
             raise transcripts.TranscriptError(None, f"the answer has nothing of output {name}")
         if claim.polynomial is None and not with_bases:
             raise transcripts.TranscriptError(None, f"the answer has no polynomial of output {name}")
