@@ -159,7 +159,15 @@ class Forms(Test):
         self.assertEqual(queries.parse("x3", names), {4})
         self.assertEqual(queries.parse("x_1", names), {2})
         self.assertEqual(queries.parse("x1", names), {1})
-        self.assertEqual(queries.parse("x2", names), {2})
+        with self.assertRaises(queries.QueryError):
+            queries.parse("x2", names)
+        for given in (["x0", "x1", "x2"], ["x[2]", "x[1]", "x[0]"]):
+            text = description(3, 1, "f", [("111", "1")], names=given)
+            names = queries.Names(descriptions.parse(text.encode(), "f.pla"))
+            self.assertEqual(queries.parse(given[0], names), {4})
+            for other in ("x3", "x_3", "x(3)", "x[3]"):
+                with self.case((given, other)), self.assertRaises(queries.QueryError):
+                    queries.parse(other, names)
         text = description(3, 1, "f", [("111", "1")], names=["a", "b", "x-1"])
         names = queries.Names(descriptions.parse(text.encode(), "f.pla"))
         with self.assertRaises(queries.QueryError):

@@ -418,7 +418,7 @@ class OnRequest(Solving):
 
     def repeated(self, ended):
         """What the lines print that repeat the run by the program alone."""
-        lines = re.findall(r"the same by the program alone: (.*)", ended.stderr)
+        lines = re.findall(r"the same[^:]* by the program alone: (.*)", ended.stderr)
         self.assertTrue(lines, ended.stderr)
         names = self.here / "bin"
         names.mkdir(exist_ok=True)
@@ -484,6 +484,23 @@ class OnRequest(Solving):
         ended = self.solve(SMALL, "basis", "--polarity", "c", "--order", "c,b,a")
         self.assertEqual(ended.returncode, 0, ended.stderr)
         self.assertEqual(self.repeated(ended), ended.stdout.replace("~", ""))
+
+    def test_line_of_a_large_file(self):
+        """The line that repeats the run names the inputs that the smaller text has, and says what it prints otherwise."""
+        draws = random.Random(2)
+        rows = []
+        for point in draws.sample(range(1 << 12), 60):
+            values = f"{point:012b}"
+            a, b, c = map(int, values[:3])
+            rows.append(f"{'-' * 30}{values}{'-' * 28} {a ^ b & c}")
+        for name, other in (("a", "the same by"), ("a-", "the same, with numbered names, by")):
+            names = " ".join(f"{name}{place}" for place in range(1, 71))
+            with self.case(name):
+                ended = self.solve("\n".join([".i 70", ".o 1", f".ilb {names}", ".type fr", *rows, ""]), "--order", "auto")
+                self.assertEqual(ended.returncode, 0, ended.stderr)
+                self.assertIn(other, ended.stderr)
+                self.assertIn("--order", ended.stderr)
+                self.assertEqual(self.repeated(ended), ended.stdout.replace(name, "x" if "-" in name else name))
 
     def test_both(self):
         ended = self.solve((TOP / "examples/seven_segments.pla").read_text(), "--order", "each", "--polarity", "each")

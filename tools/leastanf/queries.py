@@ -20,6 +20,8 @@ ONE = frozenset((0,))
 _TOKEN = re.compile(r"\s*(\*\*|1'b[01]|[01]_R\b|[0-9]+|[-+^*&|~!()]|\S)")
 # Where the text has none of these signs, it is a sum of products of factors.
 _SIGNS = re.compile(r"[-^&|!()']|~\s|\*\s*\*")
+# A name that has the form in which inputs are called by their numbers.
+_NUMBERED = re.compile(r"x[\[(_<]?([0-9]+)[\])>]?")
 
 
 class QueryError(Exception):
@@ -32,8 +34,8 @@ class Names:
     """What the names in a text stand for: polynomials of the inputs in an order.
 
     The names are those of the inputs, as an answer shows them and as the program prints them; those that `answer_as`
-    gives them in Singular, Macaulay2 and Sage; and x(3), x_3 and x[3] for the third input of the file. A name that
-    could be two inputs is none.
+    gives them in Singular, Macaulay2 and Sage; and x(3), x_3 and x[3] for the third input of the file, where no name of
+    the file is x with the number of another place. A name that could be two inputs is none.
     """
 
     def __init__(self, description, order=None, flips=()):
@@ -47,8 +49,9 @@ class Names:
         other = Aliases()
         for names_of in rings.NAMES:
             other.add(enumerate(names_of(description.shown_input_names, description.outputs)))
-        for form in ("x({})", "x_{}", "x[{}]", "x{}"):
-            other.add((place, form.format(place + 1)) for place in range(self.width))
+        if not any(has_other_number(place, name) for place, name in enumerate(description.shown_input_names)):
+            for form in ("x({})", "x_{}", "x[{}]", "x{}"):
+                other.add((place, form.format(place + 1)) for place in range(self.width))
         self._add(other.places())
         longest_first = sorted(self.places, key=len, reverse=True)
         self.pattern = re.compile(r"\s*(" + "|".join(map(re.escape, longest_first)) + r")(?![A-Za-z0-9_'\[])")
@@ -67,6 +70,12 @@ class Names:
         return {
             COMPLEMENT + name if place in self.flips else name: self.bits[place] for name, place in self.places.items()
         }
+
+
+def has_other_number(place, name):
+    """Whether the name of an input is x with a number that is not that of its place, as x0 is of the first one."""
+    found = _NUMBERED.fullmatch(name)
+    return found is not None and found[1] != str(place + 1)
 
 
 class Aliases:
@@ -147,7 +156,7 @@ class _Parser:
             self.fail("it ends where a name, a number or a bracket is wanted")
         word = re.match(r"[A-Za-z_][\w.\[\]<>()']*", self.text[self.place - len(told) :])
         if self.sign and word:
-            self.fail(f"{word[0]!r} is no input of the file")
+            raise QueryError(f"{word[0]!r} is no input of the file")
         self.fail(f"{told!r} stands where it cannot")
 
     def any_of(self):

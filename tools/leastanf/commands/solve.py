@@ -233,16 +233,20 @@ def text_of(description):
     """The description as the program takes it."""
     if solving.fits(description):
         return descriptions.text(description)
-    found = remedies.without_unused_inputs(
-        remedies.with_fewer_rows(remedies.problem(description, range(description.outputs)))
-    )
+    found = smaller(description)
     if not found.fits():
         raise solving.Refused("all outputs together are too large", "choose some by --outputs")
     small = descriptions.parse(found.text(), description.path)
-    names = description.shown_input_names
-    small.given_input_names = [names[place] for place in found.inputs]
-    small.given_output_names = description.shown_output_names
+    # With the names that the program prints, so that those of the inputs that are left do not depend on the others.
+    small.given_input_names = [description.input_names[place] for place in found.inputs]
+    small.given_output_names = description.output_names
     return descriptions.text(small)
+
+
+def smaller(description):
+    """What a description says, in fewer rows and without the inputs that none of them fixes."""
+    whole = remedies.problem(description, range(description.outputs))
+    return remedies.without_unused_inputs(remedies.with_fewer_rows(whole))
 
 
 def tell_of_file(description):
@@ -279,15 +283,27 @@ def tell_of_choice(path, part, options, choice):
     if options.polarity is not None:
         flips = ",".join(f"~{names[place]}" for place in choice.flips) or "of no input"
         say(NAME, f"{head}: polarity {flips}{literals}")
-    say(NAME, f"{head}: the same by the program alone: {repeating(path, part, options, choice)}")
+    say(NAME, f"{head}: {same(chosen, choice)} by the program alone: {repeating(path, part, options, choice)}")
+
+
+def same(chosen, choice):
+    """What the program alone prints, in words: it has no factors ~NAME, and numbered names where one is not plain."""
+    named = (chosen.shown_input_names, chosen.shown_output_names)
+    differ = ["with NAME for ~NAME"] if choice.flips else []
+    if named != (chosen.input_names, chosen.output_names):
+        differ.append("with numbered names")
+    return ", ".join(["the same", *differ]) + ("," if differ else "")
 
 
 def repeating(path, part, options, choice):
     """A command line that has the answer by the program alone. Where the file has a form that the program refuses, or
     inputs are complemented, or outputs are left out, the description is written by --text first."""
     words = ["interp", options.mode]
-    if choice.order != list(range(part.inputs)):
-        words += ["--order", ",".join(part.input_names[place] for place in choice.order)]
+    order = choice.order
+    if order != sorted(order):
+        chosen = solving.chosen(part, choice.outputs)
+        kept = set(order if solving.fits(chosen) else smaller(chosen).inputs)
+        words += ["--order", ",".join(part.input_names[place] for place in order if place in kept)]
     for option in ("nodes", "terms", "workers"):
         if getattr(options, option) is not None:
             words += [f"--{option}", str(getattr(options, option))]
