@@ -201,6 +201,8 @@ class Messages(Solving):
         with self.case(9), open("/dev/full", "w", encoding="ascii") as full:
             ended = self.solve(XOR, capture_output=False, stdout=full, stderr=subprocess.PIPE)
             self.assertEqual(ended.returncode, 9)
+        with self.case("9, a folder that is a file"):
+            self.expect(self.solve(XOR, "-o", "f.pla"), 9, "", "f.pla: the answer cannot be written: File exists")
         with self.case(12):
             for order in ("a", "a,b,a", "a, b", "", "a,c"):
                 self.expect(self.solve(XOR, "--order", order), 12, "", "a,b")
@@ -634,7 +636,7 @@ class Hostile(Solving):
 
     def test_signals(self):
         """An interrupted run ends with what it started."""
-        for number, status in ((signal.SIGINT, 130), (signal.SIGTERM, 143)):
+        for number, status in ((signal.SIGINT, 130), (signal.SIGTERM, 143), (signal.SIGHUP, 129)):
             with self.case(number):
                 path = self.here / "program"
                 path.write_text("#!/bin/sh\necho $$ > started\nexec sleep 60\n")

@@ -5,12 +5,14 @@ import os
 import signal
 import sys
 
-from ..descriptions import DescriptionError
+from ..descriptions import DescriptionError, shown_path
 from ..programs import ProgramMissing
 
 # The statuses that the commands have and the programs have not: no program, and 128 and the number of a signal.
 WORDS, WRITE_FAULT, MISSING = 2, 9, 69
-INTERRUPTED, TERMINATED, CLOSED = 128 + signal.SIGINT, 128 + signal.SIGTERM, 128 + signal.SIGPIPE
+CLOSED = 128 + signal.SIGPIPE
+# The signals that ask for the end of a run: of a user, of another program, and of a terminal that is closed.
+ENDING = (signal.SIGINT, signal.SIGTERM, signal.SIGHUP)
 
 
 class Stopped(BaseException):
@@ -52,7 +54,8 @@ def command(name):
                 return CLOSED
             except OSError as error:
                 _drop_output()
-                say(name, f"the answer cannot be written: {error.strerror or error}")
+                where = "" if error.filename is None else f"{shown_path(error.filename)}: "
+                say(name, f"{where}the answer cannot be written: {error.strerror or error}")
                 return WRITE_FAULT
             except Stopped as stopped:
                 _drop_output()
@@ -84,12 +87,12 @@ def _set_signals():
     """The first signal that asks for the end raises Stopped, so that the programs that run are ended too."""
 
     def stop(number, _):
-        for other in (signal.SIGINT, signal.SIGTERM):
+        for other in ENDING:
             signal.signal(other, signal.SIG_IGN)
         raise Stopped(128 + number)
 
     try:
-        for number in (signal.SIGINT, signal.SIGTERM):
+        for number in ENDING:
             if signal.getsignal(number) is not signal.SIG_IGN:
                 signal.signal(number, stop)
     except ValueError:

@@ -70,8 +70,10 @@ STATUSES = {
     9: "the answer, or a file of it, cannot be written",
     10: "there are more bytes than the program takes",
     69: "there is no program interp: put it on PATH, or name it by the environment variable INTERP",
+    129: "the terminal was closed",
     130: "the run was interrupted",
     141: "the reader of the answer went away",
+    143: "the run was ended by another program",
     **{kind.status: f"{kind.__doc__} {kind.remedy}" for kind in solving.CLASSES if kind.status != 3},
 }
 # Of messages of the program, a part and what --why explains.
