@@ -413,6 +413,10 @@ class Tables(Folder):
     def test_numbers(self):
         text = "static const int box[4] = // four\n{0x63, 0b11, 7 /* seven */, x};\n# end"
         self.assertEqual(tables.numbers(text.split("= ")[1]), [0x63, 3, 7, None])
+        self.assertEqual(tables.numbers("00 07 0"), [0, 7, 0])
+        for text in ("010", "1 08", "0777"):
+            with self.case(text), self.assertRaises(tables.TableError):
+                tables.numbers(text)
         self.assertEqual(tables.numbers("1 2,3\n-"), [1, 2, 3, None])
         for bad in ("1 2 y", "0x", "1.5", "-1"):
             with self.case(bad), self.assertRaises(tables.TableError):
@@ -482,6 +486,11 @@ class Tables(Folder):
             tables.table([0, 1], inputs=["a", "b"])
         with self.assertRaises(tables.TableError):
             tables.table([0, 1], inputs=["a b"])
+        with self.assertRaises(tables.TableError):
+            tables.table([0, 1], 1025)
+        with self.assertRaises(tables.TableError):
+            tables.points(["1" * 1025])
+        self.assertEqual((tables.table([0, 1], 1024).outputs, tables.points(["1" * 1024]).inputs), (1024, 1024))
 
     def test_yosys(self):
         """A circuit with x, by what yosys prints of it."""

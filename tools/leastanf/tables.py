@@ -6,7 +6,7 @@ Each function here gives a Description, which `leastanf.solve` takes and `descri
 import re
 
 from . import descriptions
-from .descriptions import Description, DescriptionError, Row
+from .descriptions import MOST_OF_ANY, Description, DescriptionError, Row
 
 # A table may have so many values, and a cover so many disjoint rows.
 MOST_VALUES, MOST_ROWS = 1 << 20, 1 << 16
@@ -79,13 +79,16 @@ def point_text(point, width):
 
 def numbers(text):
     """The values of a text of whole numbers, in digits or as 0x63 or 0b101, with blanks, commas or brackets between
-    them, as programs have them; x, - and ? are free. Comments of C and those behind # are left out."""
+    them, as programs have them; x, - and ? are free. Comments of C and those behind # are left out. A number such as
+    010 is refused, as it is 8 in C and 10 elsewhere."""
     plain = re.sub(r"/\*.*?\*/|//[^\n]*|#[^\n]*", " ", text, flags=re.DOTALL)
     found = []
     for word in re.split(r"[\s,;{}()\[\]]+", plain):
         if word in FREE:
             found.append(None)
         elif re.fullmatch("0[xX][0-9a-fA-F]+|0[bB][01]+|[0-9]{1,1000}", word):
+            if re.fullmatch("0[0-9]+", word) and int(word) > 7:
+                raise TableError(f"{word[:40]!r} is another number in C than elsewhere: write it without a 0 before it")
             found.append(int(word, 0 if word[:2].lower() in ("0x", "0b") else 10))
         elif word:
             raise TableError(f"{word[:40]!r} is no number")
@@ -124,6 +127,8 @@ def checked_bits(values, bits):
 
 def described(inputs, outputs, input_names=None, output_names=None, kind="fr"):
     """A description without rows."""
+    if max(inputs, outputs) > MOST_OF_ANY:
+        raise TableError(f"more than {MOST_OF_ANY} inputs or outputs")
     found = Description("a table", inputs, outputs, kind)
     found.typed = True
     return renamed(found, input_names, output_names)

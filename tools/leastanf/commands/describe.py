@@ -68,7 +68,7 @@ def of_points(data, options):
 
 
 def of_cover(data, options):
-    found = tables.exclusive_or(data, descriptions.shown_path(options.file))
+    found = tables.exclusive_or(data, called(options.file))
     return tables.renamed(found, options.inputs, options.outputs)
 
 
@@ -84,6 +84,11 @@ FORMS = {
     "esop": of_cover,
     "yosys": of_yosys,
 }
+
+
+def called(path):
+    """How messages call a file."""
+    return "standard input" if path == "-" else descriptions.shown_path(path)
 
 
 def text_of(data):
@@ -118,7 +123,7 @@ def main(words):
     try:
         found = FORMS[options.form](descriptions.read_bytes(options.file), options)
     except tables.TableError as error:
-        say(NAME, f"{descriptions.shown_path(options.file)}: {error}")
+        say(NAME, f"{called(options.file)}: {error}")
         return error.status
     sys.stdout.write(descriptions.text(found))
     return 0
