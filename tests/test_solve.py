@@ -683,6 +683,8 @@ class Interface(Test):
         self.assertEqual(polynomial.monomials, (("a", "b"), ("a", "cin"), ("b", "cin")))
         self.assertEqual((polynomial.terms, polynomial.degree), (3, 2))
         self.assertEqual([polynomial({"a": 1, "b": b, "cin": 0}) for b in (0, 1)], [0, 1])
+        with self.assertRaises(KeyError):
+            polynomial({"a": 1, "B": 1, "cin": 0})
         self.assertIn("assign", answer.text("verilog"))
         basis = leastanf.solve((TOP / "examples/half_adder.pla").read_bytes(), mode="basis")
         self.assertEqual([str(element) for element in basis["graph"].basis], ["carry + a*b", "sum + a + b"])
@@ -706,6 +708,10 @@ class Interface(Test):
             leastanf.solve("no such file")
         with self.assertRaises(ValueError):
             leastanf.solve(XOR.encode(), mode="check")
+        for limit, (least, most) in solving.LIMITS.items():
+            for value in (least - 1, most + 1):
+                with self.case((limit, value)), self.assertRaises(ValueError):
+                    leastanf.solve(XOR.encode(), **{limit: value})
         text = ".i 20\n.o 2\n.type f\n" + "0" * 20 + " 10\n" + "1" * 20 + " 01\n.e\n"
         with self.assertRaises(leastanf.SomeMissing) as caught:
             leastanf.solve(text.encode())

@@ -69,7 +69,7 @@ def solve(source, mode="anf", order=None, polarity=None, **limits):
     polarity    a list of names of inputs that are complemented, or "all", "auto" or "each", as `solve --polarity`
     limits      nodes, terms, workers, seconds and processors, as the options of `solve`
 
-    Raises a DescriptionError where the source is refused, an Unsolved (a class for each status, in `solving`) where
+    Raises a ValueError where a mode or a limit is none of these, a DescriptionError where the source is refused, an Unsolved (a class for each status, in `solving`) where
     there is no answer, SomeMissing, whose `answer` has the others, where some outputs have none, and ProgramMissing.
     """
     if mode not in ("anf", "basis"):

@@ -3,7 +3,7 @@
 import itertools
 
 from . import formats
-from .factors import COMPLEMENT, factors_of, is_complement
+from .factors import COMPLEMENT, factors_of, input_of, is_complement
 
 
 class AnswerError(Exception):
@@ -39,7 +39,11 @@ class Polynomial:
         return max(map(len, self.monomials), default=-1)
 
     def __call__(self, point):
-        """The value, 0 or 1, at a point: a mapping of the names of inputs to 0 and 1."""
+        """The value, 0 or 1, at a point: a mapping of the names of inputs to 0 and 1. A KeyError names an input of a
+        monomial that has no value."""
+        missing = set(map(input_of, set().union(*self.monomials))) - set(point)
+        if missing:
+            raise KeyError(min(missing))
         ones = {name if value else COMPLEMENT + name for name, value in point.items()}
         return sum(map(ones.issuperset, self.monomials)) % 2
 

@@ -15,6 +15,14 @@ from . import answers, descriptions, orders, points, programs, remedies
 from .descriptions import MOST_BYTES
 
 DEFAULT_SLOTS, MOST_SLOTS = 19, 23
+# Of each limit that a caller may give, the least and the greatest.
+LIMITS = {
+    "nodes": (4, MOST_SLOTS),
+    "terms": (1, 1_000_000),
+    "workers": (1, 16),
+    "seconds": (1, 10**6),
+    "processors": (1, 1024),
+}
 # How many seconds the remedies may take together, where the caller does not say, and which part of it an output in parts.
 SECONDS = 300
 _FOR_PARTS = 0.4
@@ -150,9 +158,14 @@ REMEDIES = {
 class Settings:
     """How to solve: the mode; the places of the inputs in the order that is asked for, or None; the limits that were
     given; how many seconds the run on the file may take (None is no limit) and the remedies together; and how many runs
-    go side by side."""
+    go side by side. A ValueError names a limit that is out of its range."""
 
     def __init__(self, mode="anf", order=None, nodes=None, terms=None, workers=None, seconds=None, processors=None):
+        given = {"nodes": nodes, "terms": terms, "workers": workers, "seconds": seconds, "processors": processors}
+        for name, value in given.items():
+            least, most = LIMITS[name]
+            if value is not None and not least <= value <= most:
+                raise ValueError(f"{name} is a number from {least} to {most}, and not {value!r}")
         self.mode, self.order, self.nodes, self.terms, self.workers = mode, order, nodes, terms, workers
         self.given_seconds = seconds
         self.seconds = SECONDS if seconds is None else seconds

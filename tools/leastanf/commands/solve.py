@@ -90,7 +90,8 @@ MESSAGES = (
     (r"usage:", 2),
     (r"could not be proved and built", 70),
 )
-NUMBERS = {"nodes": (4, 23), "terms": (1, 1_000_000), "workers": (1, 16), "seconds": (1, 10**6), "jobs": (1, 1024)}
+# The options that take numbers, and the limits of the package that they are.
+NUMBERS = {"nodes": "nodes", "terms": "terms", "workers": "workers", "seconds": "seconds", "jobs": "processors"}
 
 
 class Once(argparse.Action):
@@ -178,7 +179,7 @@ def read_words(words):
 
 
 def number(parser, option, text):
-    least, most = NUMBERS[option]
+    least, most = solving.LIMITS[NUMBERS[option]]
     digits = text[1:] if text.startswith("+") else text
     if not re.fullmatch("[0-9]{1,20}", digits) or not least <= int(digits) <= most:
         parser.error(f"--{option} takes a number from {least} to {most}")
