@@ -71,6 +71,8 @@ REFUSED = [
     (".i 2\n.o 1\n.ilb a b \\\n11 1\n", 3, "NameCount"),
     (".i 1\n.o 1\n.ilb a \\\n", 3, "NameCount"),
     (".i 3\n.o 1\n.ilb a \\\n.ob f\n", 3, "NameCount"),
+    (".i 1\n.o 1\n.ob\n\\\n", 3, "NameCount"),
+    (".i 3\n.o 1\n.ilb a\nb \\\n111 1\n", 3, "NameCount"),
     (".i 2\n.o 1\n.type dr\n", 3, "Unsupported"),
     (".i 2\n.o 1\n.phase 0\n", 3, "Unsupported"),
     (".i 2\n.o 1\n.phase 11\n", 3, "Unsupported"),

@@ -479,10 +479,11 @@ class _Names:
         return goes_on
 
     def add(self, words):
-        """Takes the names on a line. A last word \\ says that the list goes on; with as many words as are wanted it may
-        be a name too, which the program takes it for."""
+        """Takes the names on a line. A last word \\ says that the list goes on; on the line of the command it may, with
+        as many words as are wanted, be a name too, which the program takes it for."""
         self.must_go_on = words[-1:] == ["\\"]
-        self.whole = self.given + words if self.must_go_on and len(self.given) + len(words) == self.wanted else None
+        is_whole = self.must_go_on and self.reader.number == self.line and len(words) == self.wanted
+        self.whole = words if is_whole else None
         if self.must_go_on:
             words = words[:-1]
         elif words and words[-1].endswith("\\") and len(self.given) + len(words) < self.wanted:
