@@ -493,7 +493,7 @@ class Transcripts(Test):
                 self.judged(self.scripted(name))
 
     def test_scripts_without_bases(self):
-        """In scripts of mode anf outputs are told by their numbers, whatever they are called, and no basis is judged."""
+        """In scripts of mode anf outputs are told by their numbers, whatever their names, and no basis is judged."""
         file = self.here / "f.pla"
         rows = [("11-", "100"), ("-11", "010"), ("1-1", "001")]
         for kind, results in (("fd", ["f2", "f1", "f3"]), ("f", ["f0", "I1", "f1"])):

@@ -488,7 +488,7 @@ class OnRequest(Solving):
         self.assertEqual(self.repeated(ended), ended.stdout.replace("~", ""))
 
     def test_line_of_a_large_file(self):
-        """The line that repeats the run names the inputs that the smaller text has, and says what it prints otherwise."""
+        """The line that repeats the run names the inputs of the smaller text, and says what it prints otherwise."""
         draws = random.Random(2)
         rows = []
         for point in draws.sample(range(1 << 12), 60):
@@ -498,7 +498,8 @@ class OnRequest(Solving):
         for name, other in (("a", "the same by"), ("a-", "the same, with numbered names, by")):
             names = " ".join(f"{name}{place}" for place in range(1, 71))
             with self.case(name):
-                ended = self.solve("\n".join([".i 70", ".o 1", f".ilb {names}", ".type fr", *rows, ""]), "--order", "auto")
+                text = "\n".join([".i 70", ".o 1", f".ilb {names}", ".type fr", *rows, ""])
+                ended = self.solve(text, "--order", "auto")
                 self.assertEqual(ended.returncode, 0, ended.stderr)
                 self.assertIn(other, ended.stderr)
                 self.assertIn("--order", ended.stderr)

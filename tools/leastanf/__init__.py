@@ -69,8 +69,9 @@ def solve(source, mode="anf", order=None, polarity=None, **limits):
     polarity    a list of names of inputs that are complemented, or "all", "auto" or "each", as `solve --polarity`
     limits      nodes, terms, workers, seconds and processors, as the options of `solve`
 
-    Raises a ValueError where a mode or a limit is none of these, a DescriptionError where the source is refused, an Unsolved (a class for each status, in `solving`) where
-    there is no answer, SomeMissing, whose `answer` has the others, where some outputs have none, and ProgramMissing.
+    Raises a ValueError where the mode or a limit is out of its range, a DescriptionError where the source is refused,
+    an Unsolved (a class for each status, in `solving`) where there is no answer, SomeMissing, whose `answer` has the
+    others, where some outputs have none, and ProgramMissing.
     """
     if mode not in ("anf", "basis"):
         raise ValueError(f"the modes are anf and basis, and not {mode!r}")
