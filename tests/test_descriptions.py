@@ -13,7 +13,7 @@ sys.path.insert(0, str(TOP / "tools"))
 from leastanf import descriptions, solving
 
 # How many random files there are; the environment may ask for more. Each seed makes other ones.
-COUNT = int(os.environ.get("RANDOM_DESCRIPTIONS", "3000"))
+COUNT = int(os.environ.get("RANDOM_DESCRIPTIONS", "20000"))
 SEED = int(os.environ.get("RANDOM_SEED", "1"))
 
 # Files that the reader brings into shape: a name, the file, and the description that it is.
