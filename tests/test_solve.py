@@ -8,6 +8,7 @@ import pathlib
 import random
 import re
 import shlex
+import shutil
 import signal
 import subprocess
 import sys
@@ -664,6 +665,27 @@ class Hostile(Solving):
                 self.assertEqual((process.returncode, out, errors), (status, b"", b""))
                 self.assertTrue(ends_soon(started))
                 (self.here / "started").unlink()
+
+    def test_first_run(self):
+        """Where the program is not built yet, what its script says of this is shown, once."""
+        shutil.copytree(TOP / "tools", self.here / "tools")
+        script = self.here / "interp"
+        script.write_text(
+            "#!/bin/sh\n"
+            "# exec \"$top/tools/run_proved\" interp interp_main 'anf' FILE\n"
+            f"cd {shlex.quote(str(self.here))}\n"
+            "[ -f crates/interp_main/out/interp_main ] || echo 'interp: 1 of 24 crates' >&2\n"
+            "mkdir -p crates/interp_main/out && touch crates/interp_main/out/interp_main\n"
+            f'exec {shlex.quote(self.environment["INTERP"])} "$@"\n'
+        )
+        script.chmod(0o755)
+        (self.here / "f.pla").write_text(XOR)
+        environment = {name: value for name, value in os.environ.items() if name not in ("INTERP", "NFQ")}
+        for said in ("interp: 1 of 24 crates\n", ""):
+            with self.case(said or "built"):
+                words = [sys.executable, self.here / "tools/solve", self.here / "f.pla"]
+                ended = subprocess.run(words, capture_output=True, text=True, check=False, env=environment)
+                self.assertEqual((ended.returncode, ended.stdout, ended.stderr), (0, "f1 = a + b\n", said))
 
     def test_garbage(self):
         for data in GARBAGE:

@@ -2,6 +2,7 @@
 
 import os
 import pathlib
+import re
 import shutil
 import signal
 import subprocess
@@ -10,6 +11,8 @@ import time
 
 # The environment variable that names each program.
 VARIABLES = {"interp": "INTERP", "nfq": "NFQ"}
+# A run of each program that ends well and says nothing on standard error: its word, and what it reads.
+TRIALS = {"interp": ("check", b".i 1\n.o 1\n.type fr\n.e\nf1 = 0\n0 = 1\n"), "nfq": ("reduce", b".i 1\n.o 1\n.e\n")}
 # What a run has in place of a status where its time was up, or its group was stopped.
 TIMED_OUT = None
 
@@ -88,11 +91,24 @@ def find(name):
             raise ProgramMissing(f"there is no program {named}, which the environment variable {variable} names")
         return found
     tools = pathlib.Path(__file__).resolve().parent.parent
-    found = shutil.which(str(tools.parent / name)) if tools.name == "tools" else None
-    found = found or shutil.which(name)
+    script = shutil.which(str(tools.parent / name)) if tools.name == "tools" else None
+    if script is not None:
+        build(name, pathlib.Path(script))
+    found = script or shutil.which(name)
     if found is None:
         raise ProgramMissing(f"there is no program {name}: put it on PATH, or name it by the variable {variable}")
     return found
+
+
+def build(name, script):
+    """Has the script of a program prove and build it where this was not done yet. It says on standard error how far it
+    is, which takes minutes."""
+    crate = re.search(rf'/run_proved" {name} (\w+) ', script.read_text())
+    if crate is None or (script.parent / "crates" / crate[1] / "out" / crate[1]).is_file():
+        return
+    word, data = TRIALS[name]
+    if subprocess.run([script, word], input=data, stdout=subprocess.DEVNULL, check=False).returncode:
+        raise ProgramMissing(f"{script} gave no program: what it said stands above")
 
 
 def run(name, words, data=b"", seconds=None, group=None):
