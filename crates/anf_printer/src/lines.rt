@@ -2,7 +2,8 @@
 ghost use Rattle.std.specs.Prelude.{◌≡◌, ◌++◌, IfOk, OnOk, All, length, map, reverse};
 ghost use Rattle.lattice.specs.Family.{IsFamily};
 ghost use Rattle.pla_reader.specs.PrintedNames.{input_names, output_names};
-ghost use Rattle.anf_printer.specs.Text.{IsLeftOf, IsLineOver, left_text, line, lines_text, shown_line};
+ghost use Rattle.anf_printer.specs.Text.{IsLeftOf, IsLineOver, left_text, line, lines_text};
+ghost use Rattle.anf_printer.specs.Text.{shown_line};
 
 use crate::polynomial::push_polynomial;
 use lattice::{Memory, Mono, Name, Text};
@@ -16,7 +17,8 @@ pub enum Left {
     Output(u32),
 }
 
-/// A line: what stands on its left, and a polynomial, whose terms are given from the greatest to the least.
+/// A line: what stands on its left, and a polynomial, whose terms are given from the greatest to
+/// the least.
 #[derive(Clone, Copy)]
 pub struct Line<'a> {
     pub left: Left,
@@ -32,7 +34,8 @@ pub(crate) fn push_line(
     terms: &[Mono],
 ) -> Result<(), AllocError>
     requires { IsFamily (length names.now) (reverse terms.now) }
-    ensures { OnOk result (text.new.items ≡ text.old.items ++ line names.now left.now (reverse terms.now)) }
+    ensures { OnOk result (text.new.items
+        ≡ text.old.items ++ line names.now left.now (reverse terms.now)) }
 {
     text.extend_from_slice(left)?;
     text.extend_from_slice(b" = ")?;
@@ -59,8 +62,10 @@ fn lines_with(
     outputs: &[Name],
     lines: &[Line],
 ) -> Result<Text, Memory>
-    requires { All (λ l. IsLineOver (length names.now) (length outputs.now) (shown_line l)) lines.now }
-    ensures { IfOk result (λ text. text ≡ lines_text names.now outputs.now (map shown_line lines.now)) }
+    requires { All (λ l. IsLineOver (length names.now) (length outputs.now) (shown_line l))
+        lines.now }
+    ensures { IfOk result (λ text. text
+        ≡ lines_text names.now outputs.now (map shown_line lines.now)) }
 {
     let mut text = Vec::new(alloc);
     for line in lines {
@@ -73,7 +78,8 @@ fn lines_with(
 #[tactic(auto, using(pla_reader::proofs::ArrangedInputs::count_printed))]
 pub fn lines_text(alloc: Global, p: &Pla, lines: &[Line]) -> Result<Text, Memory>
     requires { All (λ l. IsLineOver p.now.inputs p.now.outputs (shown_line l)) lines.now }
-    ensures { IfOk result (λ text. text ≡ lines_text (input_names p.now) (output_names p.now) (map shown_line lines.now)) }
+    ensures { IfOk result (λ text. text ≡ lines_text (input_names p.now) (output_names p.now)
+        (map shown_line lines.now)) }
 {
     let for_inputs = names_in_place(alloc, "x", p.inputs, &p.in_names)?;
     let inputs = printed(&for_inputs, &p.in_names);

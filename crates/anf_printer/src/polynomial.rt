@@ -1,5 +1,6 @@
 //! The text of a polynomial.
-ghost use Rattle.std.specs.Prelude.{◌≡◌, ◌≢◌, ◌++◌, ◌∷◌, ◌^◌, ◌<◌, IfOk, OnOk, All, length, reverse, codes};
+ghost use Rattle.std.specs.Prelude.{◌≡◌, ◌≢◌, ◌++◌, ◌∷◌, ◌^◌, ◌<◌, IfOk, OnOk, All, length};
+ghost use Rattle.std.specs.Prelude.{reverse, codes};
 ghost use Rattle.std.specs.List.{flat_map};
 ghost use Rattle.lattice.specs.Family.{IsFamily};
 ghost use Rattle.pla_reader.specs.PrintedNames.{input_names};
@@ -45,7 +46,8 @@ fn push_monomial(text: &mut Vec<u8>, names: &[Name], m: Mono) -> Result<(), Allo
 /// Puts the other terms of a polynomial behind its first one.
 fn push_others(text: &mut Vec<u8>, names: &[Name], terms: &[Mono]) -> Result<(), AllocError>
     requires { All (λ m. m < 2 ^ length names.now) terms.now }
-    ensures { OnOk result (text.new.items ≡ text.old.items ++ flat_map (λ m. codes " + " ++ monomial_text names.now m) terms.now) }
+    ensures { OnOk result (text.new.items
+        ≡ text.old.items ++ flat_map (λ m. codes " + " ++ monomial_text names.now m) terms.now) }
 {
     for term in terms {
         text.extend_from_slice(b" + ")?;
@@ -54,14 +56,16 @@ fn push_others(text: &mut Vec<u8>, names: &[Name], terms: &[Mono]) -> Result<(),
     Ok(())
 }
 
-/// Puts the polynomial, whose terms are given from the greatest to the least, at the end of the text.
+/// Puts the polynomial, whose terms are given from the greatest to the least, at the end of the
+/// text.
 pub(crate) fn push_polynomial(
     text: &mut Vec<u8>,
     names: &[Name],
     terms: &[Mono],
 ) -> Result<(), AllocError>
     requires { IsFamily (length names.now) (reverse terms.now) }
-    ensures { OnOk result (text.new.items ≡ text.old.items ++ polynomial_text names.now (reverse terms.now)) }
+    ensures { OnOk result (text.new.items
+        ≡ text.old.items ++ polynomial_text names.now (reverse terms.now)) }
 {
     match terms {
         [] => text.push(b'0')?,
@@ -73,8 +77,8 @@ pub(crate) fn push_polynomial(
     Ok(())
 }
 
-/// The text of a polynomial, with the names of the inputs of `p` that are printed. The terms are given from the greatest to
-/// the least, and lie below 2^inputs.
+/// The text of a polynomial, with the names of the inputs of `p` that are printed. The terms are
+/// given from the greatest to the least, and lie below 2^inputs.
 pub fn poly_text(alloc: Global, p: &Pla, terms: &[Mono]) -> Result<Text, Memory>
     requires { IsFamily p.now.inputs (reverse terms.now) }
     ensures { IfOk result (λ text. text ≡ polynomial_text (input_names p.now) (reverse terms.now)) }

@@ -17,7 +17,8 @@ use set_algebra::{Begun, Halved, cut, xor};
 fn above_rest<S: Store>(store: &mut S, m: u64, set: Handle) -> Result<Handle, Full>
     requires known { Knows (S.state store.old) set }
     requires planned { let s = S.state store.old in IsPlanned s (ones_at s.vars m (family s set)) }
-    ensures { let s = S.state store.old in Builds s (S.state store.new) result (ones_at s.vars m (family s set)) }
+    ensures { let s = S.state store.old in
+        Builds s (S.state store.new) result (ones_at s.vars m (family s set)) }
 {
     if m == 0 {
         return Ok(set);
@@ -48,13 +49,14 @@ pub fn above<S: Store>(store: &mut S, m: Mono, set: Handle) -> Result<Handle, Fu
     requires below { m < 2 ^ (S.state store.old).vars }
     requires known { Knows (S.state store.old) set }
     requires planned { let s = S.state store.old in IsPlanned s (ones_at s.vars m (family s set)) }
-    ensures { let s = S.state store.old in Builds s (S.state store.new) result (ones_at s.vars m (family s set)) }
+    ensures { let s = S.state store.old in
+        Builds s (S.state store.new) result (ones_at s.vars m (family s set)) }
 {
     above_rest(store, m.0, set)
 }
 
-/// What is evaluated at the points with a variable, of a polynomial that is `low` without it and `high` with it: their sum,
-/// and 0 where there are no such points.
+/// What is evaluated at the points with a variable, of a polynomial that is `low` without it and
+/// `high` with it: their sum, and 0 where there are no such points.
 pub fn part_with<S: Store>(
     store: &mut S,
     low: Handle,
@@ -64,8 +66,11 @@ pub fn part_with<S: Store>(
     requires low { Knows (S.state store.old) low }
     requires high { Knows (S.state store.old) high }
     requires points { Knows (S.state store.old) points }
-    requires planned { let s = S.state store.old in IsPlanned s (part_with s.vars (family s low) (family s high) (family s points)) }
-    ensures { let s = S.state store.old in Builds s (S.state store.new) result (part_with s.vars (family s low) (family s high) (family s points)) }
+    requires planned { let s = S.state store.old in
+        IsPlanned s (part_with s.vars (family s low) (family s high) (family s points)) }
+    ensures { let s = S.state store.old in
+        Builds s (S.state store.new) result
+        (part_with s.vars (family s low) (family s high) (family s points)) }
 {
     if points.0 == 0 {
         return Ok(Handle(0));
@@ -73,19 +78,25 @@ pub fn part_with<S: Store>(
     xor(store, low, high)
 }
 
-/// What there is before the halves of `ones_of`: the result, where a look at the handles is enough or it is kept, and else `h`
-/// and `set`, cut at their first variable. The low half is that of both low parts, and the high half that of `part_with`.
+/// What there is before the halves of `ones_of`: the result, where a look at the handles is enough
+/// or it is kept, and else `h` and `set`, cut at their first variable. The low half is that of both
+/// low parts, and the high half that of `part_with`.
 pub fn begin_ones<S: Store>(store: &mut S, h: Handle, set: Handle) -> Begun
     requires { AsksOnes (S.state store.old) h set }
     ensures reads { Reads (S.state store.old) (S.state store.new) }
     ensures done { let s = S.state store.old in
-        IfDone result (λ r. Gives s (S.state store.new) (Ok r) (ones_of s.vars (family s h) (family s set)) (needs_of s Ones h set.0)) }
+        IfDone result (λ r. Gives s (S.state store.new) (Ok r)
+        (ones_of s.vars (family s h) (family s set)) (needs_of s Ones h set.0)) }
     ensures operands { IfHalves result (λ b. (b.x ≡ h) × (b.y ≡ set)) }
     ensures varies { IfHalves result (λ b. 2 ≤ b.x.0) }
     ensures filled { IfHalves result (λ b. 1 ≤ b.y.0) }
-    ensures cofactors { IfHalves result (λ b. AreCofactors (S.state store.old) (S.state store.new) b.x b.y b.cofactors) }
-    ensures low { IfHalves result (λ b. AsksOnes (S.state store.new) b.cofactors.a_low b.cofactors.b_low) }
-    ensures high { IfHalves result (λ b. AsksWith (S.state store.new) b.cofactors.a_low b.cofactors.a_high b.cofactors.b_high) }
+    ensures cofactors { IfHalves result
+        (λ b. AreCofactors (S.state store.old) (S.state store.new) b.x b.y b.cofactors) }
+    ensures low { IfHalves result
+        (λ b. AsksOnes (S.state store.new) b.cofactors.a_low b.cofactors.b_low) }
+    ensures high { IfHalves result
+        (λ b. AsksWith (S.state store.new) b.cofactors.a_low b.cofactors.a_high
+        b.cofactors.b_high) }
 {
     if h.0 == 0 {
         return Begun::Done(Handle(0));
@@ -107,8 +118,8 @@ pub fn begin_ones<S: Store>(store: &mut S, h: Handle, set: Handle) -> Begun
     })
 }
 
-/// What there is after the halves of `ones_of`, `lo` of the points without the variable of the cut and `hi` of those with it: the
-/// points over both, which are kept.
+/// What there is after the halves of `ones_of`, `lo` of the points without the variable of the cut
+/// and `hi` of those with it: the points over both, which are kept.
 pub fn finish_ones<S: Store>(
     store: &mut S,
     halved: Halved,
@@ -121,7 +132,8 @@ pub fn finish_ones<S: Store>(
     requires cut { IsCutAt (S.state store.old) halved.x halved.y halved.cofactors.var }
     requires halves { AreOnes (S.state store.old) halved.x halved.y halved.cofactors lo hi }
     ensures { let s = S.state store.old in
-        Gives s (S.state store.new) result (ones_of s.vars (family s halved.x) (family s halved.y)) (needs_of s Ones halved.x halved.y.0) }
+        Gives s (S.state store.new) result (ones_of s.vars (family s halved.x) (family s halved.y))
+        (needs_of s Ones halved.x halved.y.0) }
 {
     let r = grow(store, halved.cofactors.var, lo, hi)?;
     store.keep(Op::Ones, halved.x, halved.y.0, r);
@@ -133,7 +145,9 @@ pub fn ones_of<S: Store>(store: &mut S, h: Handle, set: Handle) -> Result<Handle
     requires h { Knows (S.state store.old) h }
     requires set { Knows (S.state store.old) set }
     requires planned { let s = S.state store.old in Covers s.plan (needs_of s Ones h set.0) }
-    ensures { let s = S.state store.old in Gives s (S.state store.new) result (ones_of s.vars (family s h) (family s set)) (needs_of s Ones h set.0) }
+    ensures { let s = S.state store.old in
+        Gives s (S.state store.new) result (ones_of s.vars (family s h) (family s set))
+        (needs_of s Ones h set.0) }
 {
     match begin_ones(store, h, set) {
         Begun::Done(r) => Ok(r),

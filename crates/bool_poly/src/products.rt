@@ -20,14 +20,16 @@ fn raised<S: Store>(store: &mut S, a: Handle, var: u32) -> Result<Handle, Full>
     requires planned { let s = S.state store.old in
         IsPlanned s (product_of s.vars (family s a) (variable s.vars var ∷ [])) }
     ensures { let s = S.state store.old in
-        Builds s (S.state store.new) result (product_of s.vars (family s a) (variable s.vars var ∷ [])) }
+        Builds s (S.state store.new) result
+        (product_of s.vars (family s a) (variable s.vars var ∷ [])) }
 {
     let (low, high) = parts(store, a, var);
     let with = sum(store, low, high)?;
     grow(store, var, Handle(0), with)
 }
 
-/// The product with a variable, from 1 to vars: its value is that of `a` where the point has the variable, and else 0.
+/// The product with a variable, from 1 to vars: its value is that of `a` where the point has the
+/// variable, and else 0.
 pub fn times_var<S: Store>(store: &mut S, a: Handle, var: u32) -> Result<Handle, Full>
     requires known { Knows (S.state store.old) a }
     requires first { 1 ≤ var }
@@ -35,10 +37,12 @@ pub fn times_var<S: Store>(store: &mut S, a: Handle, var: u32) -> Result<Handle,
     requires planned { let s = S.state store.old in
         IsPlanned s (product_of s.vars (family s a) (variable s.vars var ∷ [])) }
     ensures result { let s = S.state store.old in
-        Builds s (S.state store.new) result (product_of s.vars (family s a) (variable s.vars var ∷ [])) }
+        Builds s (S.state store.new) result
+        (product_of s.vars (family s a) (variable s.vars var ∷ [])) }
     ensures value { let s = S.state store.old in
         IfOk result (λ h. (p : ℕ) → p < 2 ^ s.vars
-        → value (family (S.state store.new) h) p ≡ cond (divides (variable s.vars var) p) (value (family s a) p) 0) }
+        → value (family (S.state store.new) h) p
+        ≡ cond (divides (variable s.vars var) p) (value (family s a) p) 0) }
 {
     let Some(n) = store.node(a) else {
         return raised(store, a, var);
@@ -62,7 +66,8 @@ pub fn product<S: Store>(store: &mut S, a: Handle, b: Handle) -> Result<Handle, 
     requires b { Knows (S.state store.old) b }
     requires planned { let s = S.state store.old in Covers s.plan (needs_of s Product a b.0) }
     ensures result { let s = S.state store.old in
-        Gives s (S.state store.new) result (product_of s.vars (family s a) (family s b)) (needs_of s Product a b.0) }
+        Gives s (S.state store.new) result (product_of s.vars (family s a) (family s b))
+        (needs_of s Product a b.0) }
     ensures value { let s = S.state store.old in
         IfOk result (λ h. (p : ℕ) → p < 2 ^ s.vars
         → value (family (S.state store.new) h) p ≡ value (family s a) p * value (family s b) p) }

@@ -2,8 +2,8 @@
 use crate::points;
 use node_store::{Full, Handle, Store};
 
-/// A way to do the set operations, each with the result of the plain call of its name. A caller goes on with the state that
-/// is ready for the next operation.
+/// A way to do the set operations, each with the result of the plain call of its name. A caller
+/// goes on with the state that is ready for the next operation.
 pub trait SetOps<S: Store> {
     ghost use Rattle.lattice.specs.Family.{Covers, union_of, inter_of, minus_of, sum_of};
     ghost use Rattle.lattice.specs.Polynomial.{ones_of};
@@ -17,36 +17,44 @@ pub trait SetOps<S: Store> {
         requires ready { ready self.old }
         requires a { Knows (S.state store.old) a }
         requires b { Knows (S.state store.old) b }
-        requires planned { let s = S.state store.old in IsPlanned s (union_of s.vars (family s a) (family s b)) }
+        requires planned { let s = S.state store.old in
+            IsPlanned s (union_of s.vars (family s a) (family s b)) }
         ensures ready { ready self.new }
-        ensures result { let s = S.state store.old in Builds s (S.state store.new) result (union_of s.vars (family s a) (family s b)) };
+        ensures result { let s = S.state store.old in
+            Builds s (S.state store.new) result (union_of s.vars (family s a) (family s b)) };
 
     /// The members of `a` and `b`.
     fn inter(&mut self, store: &mut S, a: Handle, b: Handle) -> Result<Handle, Full>
         requires ready { ready self.old }
         requires a { Knows (S.state store.old) a }
         requires b { Knows (S.state store.old) b }
-        requires planned { let s = S.state store.old in IsPlanned s (inter_of s.vars (family s a) (family s b)) }
+        requires planned { let s = S.state store.old in
+            IsPlanned s (inter_of s.vars (family s a) (family s b)) }
         ensures ready { ready self.new }
-        ensures result { let s = S.state store.old in Builds s (S.state store.new) result (inter_of s.vars (family s a) (family s b)) };
+        ensures result { let s = S.state store.old in
+            Builds s (S.state store.new) result (inter_of s.vars (family s a) (family s b)) };
 
     /// The members of `a` that are not in `b`.
     fn minus(&mut self, store: &mut S, a: Handle, b: Handle) -> Result<Handle, Full>
         requires ready { ready self.old }
         requires a { Knows (S.state store.old) a }
         requires b { Knows (S.state store.old) b }
-        requires planned { let s = S.state store.old in IsPlanned s (minus_of s.vars (family s a) (family s b)) }
+        requires planned { let s = S.state store.old in
+            IsPlanned s (minus_of s.vars (family s a) (family s b)) }
         ensures ready { ready self.new }
-        ensures result { let s = S.state store.old in Builds s (S.state store.new) result (minus_of s.vars (family s a) (family s b)) };
+        ensures result { let s = S.state store.old in
+            Builds s (S.state store.new) result (minus_of s.vars (family s a) (family s b)) };
 
     /// The members of exactly one of `a` and `b`.
     fn xor(&mut self, store: &mut S, a: Handle, b: Handle) -> Result<Handle, Full>
         requires ready { ready self.old }
         requires a { Knows (S.state store.old) a }
         requires b { Knows (S.state store.old) b }
-        requires planned { let s = S.state store.old in IsPlanned s (sum_of s.vars (family s a) (family s b)) }
+        requires planned { let s = S.state store.old in
+            IsPlanned s (sum_of s.vars (family s a) (family s b)) }
         ensures ready { ready self.new }
-        ensures result { let s = S.state store.old in Builds s (S.state store.new) result (sum_of s.vars (family s a) (family s b)) };
+        ensures result { let s = S.state store.old in
+            Builds s (S.state store.new) result (sum_of s.vars (family s a) (family s b)) };
 
     /// The members of `b` at which the polynomial `a` is 1.
     fn ones_of(&mut self, store: &mut S, a: Handle, b: Handle) -> Result<Handle, Full>
@@ -55,7 +63,9 @@ pub trait SetOps<S: Store> {
         requires b { Knows (S.state store.old) b }
         requires planned { let s = S.state store.old in Covers s.plan (needs_of s Ones a b.0) }
         ensures ready { ready self.new }
-        ensures result { let s = S.state store.old in Gives s (S.state store.new) result (ones_of s.vars (family s a) (family s b)) (needs_of s Ones a b.0) };
+        ensures result { let s = S.state store.old in
+            Gives s (S.state store.new) result (ones_of s.vars (family s a) (family s b))
+            (needs_of s Ones a b.0) };
 }
 
 /// The operations one after the other, by the plain calls.

@@ -12,8 +12,10 @@ use set_algebra::xor;
 pub fn sum<S: Store>(store: &mut S, a: Handle, b: Handle) -> Result<Handle, Full>
     requires a { Knows (S.state store.old) a }
     requires b { Knows (S.state store.old) b }
-    requires planned { let s = S.state store.old in IsPlanned s (sum_of s.vars (family s a) (family s b)) }
-    ensures { let s = S.state store.old in Builds s (S.state store.new) result (sum_of s.vars (family s a) (family s b)) }
+    requires planned { let s = S.state store.old in
+        IsPlanned s (sum_of s.vars (family s a) (family s b)) }
+    ensures { let s = S.state store.old in
+        Builds s (S.state store.new) result (sum_of s.vars (family s a) (family s b)) }
 {
     xor(store, a, b)
 }
@@ -47,7 +49,8 @@ pub fn lead<S: Store>(store: &mut S, a: Handle) -> Option<Mono>
     Some(Mono(greatest(store, a)))
 }
 
-/// Whether the value at a point below 2^vars is 1. The number of steps grows with that of the monomials that divide the point.
+/// Whether the value at a point below 2^vars is 1. The number of steps grows with that of the
+/// monomials that divide the point.
 pub fn value_of<S: Store>(store: &mut S, a: Handle, point: u64) -> bool
     requires known { Knows (S.state store.old) a }
     requires below { point < 2 ^ (S.state store.old).vars }

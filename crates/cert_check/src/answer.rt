@@ -4,7 +4,8 @@ ghost use Rattle.std.specs.Prelude.{◌≡◌};
 use crate::refusal::{Fault, Stop};
 use lattice::{Monos, Seq};
 
-/// A polynomial, from its greatest monomial to its least, and the line of the answer that it stands on, counted from 1.
+/// A polynomial, from its greatest monomial to its least, and the line of the answer that it stands
+/// on, counted from 1.
 #[derive(Drop)]
 pub struct Given {
     pub terms: Monos,

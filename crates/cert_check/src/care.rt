@@ -9,7 +9,8 @@ use lattice::{Kind, Mono, Row};
 use pla_reader::Marks;
 use std::alloc::{AllocError, Global};
 
-/// Whether a point is a care point of value 0, and of value 1. Where rows contradict each other it may be both.
+/// Whether a point is a care point of value 0, and of value 1. Where rows contradict each other it
+/// may be both.
 #[derive(Clone, Copy)]
 pub(crate) struct Care {
     pub zero: bool,
@@ -92,7 +93,8 @@ pub(crate) fn care_of(
 ) -> Result<Vec<Care>, AllocError>
     requires first { 1 ≤ output }
     requires last { output ≤ 64 }
-    ensures { IfOk result (λ care. (n : ℕ) (rows : List Row) → MarksAll n rows marks.now → MarksCare n (care_zeros n kind rows output) (care_ones n kind rows output) care.items) }
+    ensures { IfOk result (λ care. (n : ℕ) (rows : List Row) → MarksAll n rows marks.now
+        → MarksCare n (care_zeros n kind rows output) (care_ones n kind rows output) care.items) }
 {
     marks
         .iter()

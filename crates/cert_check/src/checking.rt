@@ -1,5 +1,6 @@
 //! Judging an answer.
-ghost use Rattle.std.specs.Prelude.{not, ◌||◌, ◌∷◌, ◌≡◌, ◌+◌, ◌^◌, ◌<◌, ◌≤◌, ◌↔◌, ◌++◌, [], List, ℕ, length, map, take, drop, MatchResult, IfOk, OnOk};
+ghost use Rattle.std.specs.Prelude.{not, ◌||◌, ◌∷◌, ◌≡◌, ◌+◌, ◌^◌, ◌<◌, ◌≤◌, ◌↔◌, ◌++◌, [], List};
+ghost use Rattle.std.specs.Prelude.{ℕ, length, map, take, drop, MatchResult, IfOk, OnOk};
 ghost use Rattle.std.specs.List.{All, list_any};
 ghost use Rattle.lattice.specs.Family.{Family, IsFamily, divides, family_where, has, union_of};
 ghost use Rattle.lattice.specs.declared.row.Row.{Row};
@@ -8,7 +9,10 @@ ghost use Rattle.lattice.specs.WorkingLists.{care_set};
 ghost use Rattle.pla_reader.specs.Reading.{description};
 ghost use Rattle.cert_check.specs.Marks.{MarksAll, MarksCare, CountsDivisors};
 ghost use Rattle.cert_check.specs.Right.{polynomial, IsOutputOver, IsAnswerFor, IsRight};
-ghost use Rattle.cert_check.specs.Faults.{first_verdict, misses, is_one_in, greatest_of, is_comparable, is_below_last, is_divided, miscounts, element_checks, basis_checks, reduced_checks, output_checks, checks_from, verdict_on};
+ghost use Rattle.cert_check.specs.Faults.{first_verdict, misses, is_one_in, greatest_of};
+ghost use Rattle.cert_check.specs.Faults.{is_comparable, is_below_last, is_divided, miscounts};
+ghost use Rattle.cert_check.specs.Faults.{element_checks, basis_checks, reduced_checks};
+ghost use Rattle.cert_check.specs.Faults.{output_checks, checks_from, verdict_on};
 ghost use Rattle.cert_check.specs.Parts.{Judges};
 
 use crate::answer::{Given, GivenAnswer, GivenOutput};
@@ -22,9 +26,11 @@ use std::alloc::Global;
 /// An answer is judged for so many inputs.
 pub const MOST_INPUTS: u32 = 14;
 
-/// Whether a polynomial with these counts is not 0 at a care point of value 0, or not 1 at one of value 1.
+/// Whether a polynomial with these counts is not 0 at a care point of value 0, or not 1 at one of
+/// value 1.
 fn misses(care: &[Care], counts: &[u16]) -> bool
-    ensures { (n : ℕ) (zeros ones terms : Family) → MarksCare n zeros ones care.now → CountsDivisors n terms counts.now → result ≡ misses zeros ones terms }
+    ensures { (n : ℕ) (zeros ones terms : Family) → MarksCare n zeros ones care.now
+        → CountsDivisors n terms counts.now → result ≡ misses zeros ones terms }
 {
     care.iter().zip(counts).any(|(point, count)| {
         if *count % 2 == 1 {
@@ -37,21 +43,24 @@ fn misses(care: &[Care], counts: &[u16]) -> bool
 
 /// Whether a polynomial with these counts is 1 at a care point.
 fn is_one_in(care: &[Care], counts: &[u16]) -> bool
-    ensures { (n : ℕ) (zeros ones terms : Family) → MarksCare n zeros ones care.now → CountsDivisors n terms counts.now → result ≡ is_one_in (union_of n zeros ones) terms }
+    ensures { (n : ℕ) (zeros ones terms : Family) → MarksCare n zeros ones care.now
+        → CountsDivisors n terms counts.now → result ≡ is_one_in (union_of n zeros ones) terms }
 {
     care.iter().zip(counts).any(|(point, count)| *count % 2 == 1 && (point.zero || point.one))
 }
 
 /// The number of care points.
 fn count_care(care: &[Care]) -> usize
-    ensures { (n : ℕ) (zeros ones : Family) → MarksCare n zeros ones care.now → result ≡ length (union_of n zeros ones) }
+    ensures { (n : ℕ) (zeros ones : Family) → MarksCare n zeros ones care.now
+        → result ≡ length (union_of n zeros ones) }
 {
     care.iter().filter(|point| point.zero || point.one).count()
 }
 
 /// The number of points that nothing divides.
 fn count_free(counts: &[u16]) -> usize
-    ensures { (n : ℕ) (tops : List ℕ) → CountsDivisors n (family_where n (has tops)) counts.now → result ≡ length (family_where n (λ m. not (is_divided tops m))) }
+    ensures { (n : ℕ) (tops : List ℕ) → CountsDivisors n (family_where n (has tops)) counts.now
+        → result ≡ length (family_where n (λ m. not (is_divided tops m))) }
 {
     counts.iter().filter(|count| **count == 0).count()
 }
@@ -59,7 +68,9 @@ fn count_free(counts: &[u16]) -> usize
 /// Whether the number of points that nothing divides differs from that of the care points.
 #[tactic(auto, unfolding(crate::specs::Faults::miscounts))]
 fn miscounts(care: &[Care], counts: &[u16]) -> bool
-    ensures { (n : ℕ) (zeros ones : Family) (tops : List ℕ) → MarksCare n zeros ones care.now → CountsDivisors n (family_where n (has tops)) counts.now → result ≡ miscounts n (union_of n zeros ones) tops }
+    ensures { (n : ℕ) (zeros ones : Family) (tops : List ℕ) → MarksCare n zeros ones care.now
+        → CountsDivisors n (family_where n (has tops)) counts.now
+        → result ≡ miscounts n (union_of n zeros ones) tops }
 {
     count_free(counts) != count_care(care)
 }
@@ -67,7 +78,8 @@ fn miscounts(care: &[Care], counts: &[u16]) -> bool
 /// Whether one of the terms is divided, by the counts of what divides each.
 fn is_reducible(counts: &[u16], terms: &[Mono]) -> bool
     requires { All (λ m. m < length counts.now) terms.now }
-    ensures { (n : ℕ) (tops : List ℕ) → CountsDivisors n (family_where n (has tops)) counts.now → result ≡ list_any (is_divided tops) terms.now }
+    ensures { (n : ℕ) (tops : List ℕ) → CountsDivisors n (family_where n (has tops)) counts.now
+        → result ≡ list_any (is_divided tops) terms.now }
 {
     terms.iter().any(|m| counts[m.0 as usize] != 0)
 }
@@ -103,7 +115,9 @@ fn judge_element(
     requires few { inputs ≤ 14 }
     requires family { IsFamily inputs (polynomial element.now) }
     ensures top { IfOk result (λ top. take 1 element.now.terms ≡ top ∷ []) }
-    ensures checks { (zeros ones : Family) → MarksCare inputs zeros ones care.now → Judges result (first_verdict (element_checks (union_of inputs zeros ones) earlier.now element.now)) }
+    ensures checks { (zeros ones : Family) → MarksCare inputs zeros ones care.now
+        → Judges result (first_verdict
+        (element_checks (union_of inputs zeros ones) earlier.now element.now)) }
 {
     let terms = element.terms.as_slice();
     let counts = counts_of(alloc, inputs, terms)?;
@@ -132,7 +146,9 @@ fn judge_elements(
     requires few { inputs ≤ 14 }
     requires families { All (λ element. IsFamily inputs (polynomial element)) elements.now }
     ensures tops { IfOk result (λ tops. tops.items ≡ greatest_of elements.now) }
-    ensures checks { (zeros ones : Family) → MarksCare inputs zeros ones care.now → Judges result (first_verdict (basis_checks (union_of inputs zeros ones) [] elements.now)) }
+    ensures checks { (zeros ones : Family) → MarksCare inputs zeros ones care.now
+        → Judges result (first_verdict
+        (basis_checks (union_of inputs zeros ones) [] elements.now)) }
 {
     let mut tops = Vec::new(alloc);
     for element in elements {
@@ -152,12 +168,15 @@ fn tail_of(terms: &[Mono]) -> &[Mono]
     }
 }
 
-/// Judges that no monomial is divided by a greatest one, but the greatest of each element by itself.
+/// Judges that no monomial is divided by a greatest one, but the greatest of each element by
+/// itself.
 #[tactic(auto, using(crate::proofs::RightAnswers::tail_below, crate::proofs::RightAnswers::tail_here, crate::proofs::RightAnswers::tails_fine), unfolding(crate::specs::Faults::first_verdict, crate::specs::Faults::reduced_checks))]
 fn judge_reduced(counts: &[u16], given: &GivenOutput) -> Result<(), Stop>
     requires poly { All (λ m. m < length counts.now) given.now.poly.terms }
-    requires basis { All (λ element. All (λ m. m < length counts.now) element.terms) given.now.basis }
-    ensures { (n : ℕ) (tops : List ℕ) → CountsDivisors n (family_where n (has tops)) counts.now → Judges result (first_verdict (reduced_checks tops given.now)) }
+    requires basis { All (λ element. All (λ m. m < length counts.now) element.terms)
+        given.now.basis }
+    ensures { (n : ℕ) (tops : List ℕ) → CountsDivisors n (family_where n (has tops)) counts.now
+        → Judges result (first_verdict (reduced_checks tops given.now)) }
 {
     if is_reducible(counts, given.poly.terms.as_slice()) {
         return Err(given.poly.fault(Fault::Reducible));
@@ -174,7 +193,9 @@ fn judge_reduced(counts: &[u16], given: &GivenOutput) -> Result<(), Stop>
 fn judge_output(alloc: Global, inputs: u32, care: &[Care], given: &GivenOutput) -> Result<(), Stop>
     requires few { inputs ≤ 14 }
     requires over { IsOutputOver inputs given.now }
-    ensures { (zeros ones : Family) → MarksCare inputs zeros ones care.now → Judges result (first_verdict (output_checks inputs zeros ones (union_of inputs zeros ones) given.now)) }
+    ensures { (zeros ones : Family) → MarksCare inputs zeros ones care.now
+        → Judges result (first_verdict
+        (output_checks inputs zeros ones (union_of inputs zeros ones) given.now)) }
 {
     let values = counts_of(alloc, inputs, given.poly.terms.as_slice())?;
     if misses(care, &values) {
@@ -204,16 +225,18 @@ fn judge(alloc: Global, p: &Pla, answer: &[GivenOutput]) -> Result<(), Stop>
     Ok(())
 }
 
-/// Judges an answer: `Yes` where the polynomial of each output is least and its list is the reduced basis of the care points,
-/// and else `No` with the first fault.
+/// Judges an answer: `Yes` where the polynomial of each output is least and its list is the reduced
+/// basis of the care points, and else `No` with the first fault.
 ///
-/// The outputs are looked at in order. For each of them these are the faults, in their order: a value of the polynomial; of
-/// each element in turn a value, its greatest monomial beside those of the earlier ones, and its order; the number of
-/// monomials that no greatest monomial divides; a monomial of the polynomial, and then of each element, that can be reduced.
-/// `TooWide` comes where there are more than 14 inputs.
+/// The outputs are looked at in order. For each of them these are the faults, in their order: a
+/// value of the polynomial; of each element in turn a value, its greatest monomial beside those of
+/// the earlier ones, and its order; the number of monomials that no greatest monomial divides; a
+/// monomial of the polynomial, and then of each element, that can be reduced. `TooWide` comes where
+/// there are more than 14 inputs.
 pub fn check(alloc: Global, p: &Pla, a: &GivenAnswer) -> Result<Verdict, CheckRefusal>
     requires { IsAnswerFor (description p.now) a.now }
-    ensures right { IfOk result (λ verdict. (verdict ≡ Verdict.Yes) ↔ IsRight (description p.now) a.now) }
+    ensures right { IfOk result (λ verdict. (verdict ≡ Verdict.Yes)
+        ↔ IsRight (description p.now) a.now) }
     ensures first { IfOk result (λ verdict. verdict ≡ verdict_on (description p.now) a.now) }
     ensures wide { (result ≡ Err CheckRefusal.TooWide) ↔ (14 < p.now.inputs) }
 {

@@ -1,5 +1,6 @@
 //! How many of given monomials divide each point, for all points at once.
-ghost use Rattle.std.specs.Prelude.{◌≡◌, ◌+◌, ◌-◌, ◌^◌, ◌<◌, ◌≤◌, List, ℕ, length, slice_index, IfOk, All};
+ghost use Rattle.std.specs.Prelude.{◌≡◌, ◌+◌, ◌-◌, ◌^◌, ◌<◌, ◌≤◌, List, ℕ, length, slice_index};
+ghost use Rattle.std.specs.Prelude.{IfOk, All};
 ghost use Rattle.lattice.specs.Family.{family_where, has};
 ghost use Rattle.cert_check.specs.Marks.{marked, CountsDivisors};
 
@@ -9,15 +10,18 @@ use std::alloc::{AllocError, Global};
 /// Adds to each number the other one of the same place.
 fn add_each(numbers: &mut [u16], others: &[u16])
     requires size { length others.now ≡ length numbers.old }
-    requires fits { (k : ℕ) → k < length others.now → slice_index numbers.old k + slice_index others.now k < 2 ^ 16 }
-    ensures { (k : ℕ) → k < length others.now → slice_index numbers.new k ≡ slice_index numbers.old k + slice_index others.now k }
+    requires fits { (k : ℕ) → k < length others.now
+        → slice_index numbers.old k + slice_index others.now k < 2 ^ 16 }
+    ensures { (k : ℕ) → k < length others.now
+        → slice_index numbers.new k ≡ slice_index numbers.old k + slice_index others.now k }
 {
     for i in 0..others.len() {
         numbers[i] += others[i];
     }
 }
 
-/// Puts in place of the mark of each monomial, which is 0 or 1, the number of the marked monomials that divide it as a point.
+/// Puts in place of the mark of each monomial, which is 0 or 1, the number of the marked monomials
+/// that divide it as a point.
 fn count_divisors(table: &mut [u16], variables: u32)
     requires few { variables ≤ 14 }
     requires size { length table.old ≡ 2 ^ variables }
@@ -41,7 +45,8 @@ fn marks_of(alloc: Global, inputs: u32, monomials: &[Mono]) -> Result<Vec<u16>, 
     requires below { All (λ m. m < 2 ^ inputs) monomials.now }
     ensures size { IfOk result (λ table. length table.items ≡ 2 ^ inputs) }
     ensures marks { IfOk result (λ table. All (λ mark. mark ≤ 1) table.items) }
-    ensures marked { IfOk result (λ table. marked inputs table.items ≡ family_where inputs (has monomials.now)) }
+    ensures marked { IfOk result (λ table. marked inputs table.items
+        ≡ family_where inputs (has monomials.now)) }
 {
     let mut table = vec![in alloc; 0u16; 1usize << inputs]?;
     for m in monomials {
@@ -58,7 +63,8 @@ pub(crate) fn counts_of(
 ) -> Result<Vec<u16>, AllocError>
     requires few { inputs ≤ 14 }
     requires below { All (λ m. m < 2 ^ inputs) monomials.now }
-    ensures { IfOk result (λ counts. CountsDivisors inputs (family_where inputs (has monomials.now)) counts.items) }
+    ensures { IfOk result (λ counts. CountsDivisors inputs (family_where inputs (has monomials.now))
+        counts.items) }
 {
     let mut table = marks_of(alloc, inputs, monomials)?;
     count_divisors(&mut table, inputs);

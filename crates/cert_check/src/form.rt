@@ -2,7 +2,8 @@
 ghost use Rattle.std.specs.Prelude.{◌≡◌, ◌∷◌, true, false, codes, MatchOption};
 ghost use Rattle.std.specs.List.{list_all};
 ghost use Rattle.pla_reader.specs.PlainNames.{is_plain};
-ghost use Rattle.cert_check.specs.Reading.{parts, words, is_term, is_sum, is_right, is_element, is_left, is_line};
+ghost use Rattle.cert_check.specs.Reading.{parts, words, is_term, is_sum, is_right, is_element};
+ghost use Rattle.cert_check.specs.Reading.{is_left, is_line};
 
 use crate::lines::split_first;
 use pla_reader::{is_plain, is_word};
@@ -72,7 +73,8 @@ fn is_left(left: &[u8]) -> bool
 #[tactic(auto, unfolding(crate::specs::Reading::is_line))]
 pub fn sides(line: &[u8]) -> Option<(&[u8], &[u8])>
     ensures { MatchOption result (is_line (words line.now) ≡ false)
-        (λ r. (is_line (words line.now) ≡ true) × (words line.now ≡ r.0.now ∷ codes "=" ∷ words r.1.now)) }
+        (λ r. (is_line (words line.now) ≡ true)
+        × (words line.now ≡ r.0.now ∷ codes "=" ∷ words r.1.now)) }
 {
     let (left, rest) = split_first(line, b' ');
     let (equals, right) = split_first(rest?, b' ');

@@ -1,7 +1,8 @@
 //! Reading an answer from bytes.
 ghost use Rattle.std.specs.Prelude.{◌≡◌, ◌<◌, ◌≤◌, ◌^◌, [], length, IfOk, MatchResult, Some, None};
 ghost use Rattle.pla_reader.specs.Reading.{description};
-ghost use Rattle.cert_check.specs.Reading.{words, is_next, left_fault, line_fault, with_element, with_line, read_on, answer_reading, GivesAnswer};
+ghost use Rattle.cert_check.specs.Reading.{words, is_next, left_fault, line_fault, with_element};
+ghost use Rattle.cert_check.specs.Reading.{with_line, read_on, answer_reading, GivesAnswer};
 ghost use Rattle.pla_reader.specs.Lines.{lines_of};
 ghost use Rattle.cert_check.specs.Right.{IsAnswerFor};
 ghost use Rattle.pla_reader.specs.Parts.{Stops};
@@ -29,7 +30,8 @@ fn is_next(outs: &[Name], before: usize, name: &[u8]) -> bool
 /// Checks the left side of a line that follows those of so many outputs.
 #[tactic(auto, unfolding(crate::specs::Reading::left_fault))]
 fn check_left(outs: &[Name], before: usize, left: &[u8]) -> Result<(), AnswerWhy>
-    ensures { MatchResult result (λ _. left_fault outs.now before left.now ≡ None) (λ why. left_fault outs.now before left.now ≡ Some why) }
+    ensures { MatchResult result (λ _. left_fault outs.now before left.now ≡ None)
+        (λ why. left_fault outs.now before left.now ≡ Some why) }
 {
     if is_element(left) {
         if before == 0 {
@@ -68,7 +70,8 @@ fn add_line(
 ) -> Result<(), LineRefusal<AnswerWhy>>
     requires { length ins.now ≤ MAX_VARS }
     ensures { MatchResult result
-        (λ _. (line_fault ins.now outs.now (length outputs.old.items) (words line.now) ≡ None) × (outputs.new.items ≡ with_line ins.now outputs.old.items number (words line.now)))
+        (λ _. (line_fault ins.now outs.now (length outputs.old.items) (words line.now) ≡ None)
+        × (outputs.new.items ≡ with_line ins.now outputs.old.items number (words line.now)))
         (λ e. Stops e (line_fault ins.now outs.now (length outputs.old.items) (words line.now))) }
 {
     let Some((left, right)) = sides(line) else {
@@ -125,12 +128,14 @@ fn read_lines(
     Ok(GivenAnswer::from_vec(outputs))
 }
 
-/// Reads an answer for the description: for each output in order its line, and behind it the lines of its basis elements.
+/// Reads an answer for the description: for each output in order its line, and behind it the lines
+/// of its basis elements.
 ///
-/// A line is `L = R`, with one space on each side of the first `=`. L is the printed name of the output, or `0` for an
-/// element. R is `0`, or terms joined by ` + `, from the greatest to the least. A term is `1`, or printed names of inputs
-/// joined by `*`, in the order of the inputs. Empty lines are skipped and counted. `Bad` has the first bad line and the first
-/// check that it fails.
+/// A line is `L = R`, with one space on each side of the first `=`. L is the printed name of the
+/// output, or `0` for an element. R is `0`, or terms joined by ` + `, from the greatest to the
+/// least. A term is `1`, or printed names of inputs joined by `*`, in the order of the inputs.
+/// Empty lines are skipped and counted. `Bad` has the first bad line and the first check that it
+/// fails.
 pub fn read_answer(alloc: Global, p: &Pla, text: &[u8]) -> Result<GivenAnswer, AnswerRefusal>
     requires { length text.now < 2 ^ 32 }
     ensures reading { GivesAnswer result (answer_reading (description p.now) text.now) }

@@ -10,14 +10,15 @@ use thiserror::Error;
 /// What is wrong with a line of an answer, or with the answer as a whole.
 #[derive(Clone, Copy, Debug, PartialEq, Eq)]
 pub enum AnswerWhy {
-    /// The line is not of the form `L = R`, where L is `0` or a plain name, R is `0` or terms joined by ` + `, and a term is
-    /// `1` or plain names joined by `*`.
+    /// The line is not of the form `L = R`, where L is `0` or a plain name, R is `0` or terms
+    /// joined by ` + `, and a term is `1` or plain names joined by `*`.
     BadLine,
     /// A name on the left is no output, or one on the right no input.
     UnknownName,
     /// The variables of a term do not ascend strictly, or the terms do not descend strictly.
     TermOrder,
-    /// An element comes before the first output, an output comes out of order, or the answer ends before the last one.
+    /// An element comes before the first output, an output comes out of order, or the answer ends
+    /// before the last one.
     MissingOutput,
 }
 
@@ -35,7 +36,8 @@ impl AnswerWhy {
     }
 }
 
-/// Why an answer was not read: its first bad line, counted from 1, and the first check that it fails; or there was no memory.
+/// Why an answer was not read: its first bad line, counted from 1, and the first check that it
+/// fails; or there was no memory.
 ///
 /// For an answer that ends before the last output it is the number of lines.
 #[derive(Clone, Copy, Debug, PartialEq, Eq)]
@@ -85,11 +87,13 @@ pub enum Fault {
     Value,
     /// An element is 1 at a care point.
     NotZero,
-    /// An element is zero, or its greatest monomial divides that of an earlier element or is divided by it.
+    /// An element is zero, or its greatest monomial divides that of an earlier element or is
+    /// divided by it.
     Leads,
     /// The number of monomials that no greatest monomial divides is not that of the care points.
     Count,
-    /// A monomial of the polynomial, or one of an element other than its greatest, is divided by a greatest monomial.
+    /// A monomial of the polynomial, or one of an element other than its greatest, is divided by a
+    /// greatest monomial.
     Reducible,
     /// The greatest monomial of an element is less than that of the element before it.
     Order,
@@ -111,7 +115,8 @@ impl Fault {
     }
 }
 
-/// Whether an answer is right: it is, or it has this as its first fault, on this line, counted from 1.
+/// Whether an answer is right: it is, or it has this as its first fault, on this line, counted from
+/// 1.
 #[derive(Clone, Copy, Debug, PartialEq, Eq)]
 pub enum Verdict {
     Yes,

@@ -1,8 +1,11 @@
 //! The terms on the right side of a line, as monomials.
-ghost use Rattle.std.specs.Prelude.{◌≡◌, ◌+◌, ◌-◌, ◌^◌, ◌<◌, ◌≤◌, true, false, length, MatchOption, MatchResult, Some, None, if◌then◌else◌};
+ghost use Rattle.std.specs.Prelude.{◌≡◌, ◌+◌, ◌-◌, ◌^◌, ◌<◌, ◌≤◌, true, false, length, MatchOption};
+ghost use Rattle.std.specs.Prelude.{MatchResult, Some, None, if◌then◌else◌};
 ghost use Rattle.std.specs.List.{list_all};
 ghost use Rattle.lattice.specs.Family.{includes};
-ghost use Rattle.cert_check.specs.Reading.{parts, words, terms_in, factors_of, place_of, factors_product, monomial_of, monomials_of, are_known, ascends_from, are_ordered, right_fault};
+ghost use Rattle.cert_check.specs.Reading.{parts, words, terms_in, factors_of, place_of};
+ghost use Rattle.cert_check.specs.Reading.{factors_product, monomial_of, monomials_of, are_known};
+ghost use Rattle.cert_check.specs.Reading.{ascends_from, are_ordered, right_fault};
 ghost use Rattle.pla_reader.specs.Parts.{Stops};
 ghost use Rattle.lattice.specs.declared.limits.TheConstants.{MAX_VARS};
 
@@ -47,7 +50,9 @@ pub fn are_known(names: &[Name], right: &[u8]) -> bool
 fn product_of(names: &[Name], factors: &[u8]) -> Option<u64>
     requires few { length names.now ≤ MAX_VARS }
     requires known { list_all (includes names.now) (parts 42 factors.now) ≡ true }
-    ensures { MatchOption result (ascends_from names.now 0 (parts 42 factors.now) ≡ false) (λ m. (ascends_from names.now 0 (parts 42 factors.now) ≡ true) × (m ≡ factors_product names.now (parts 42 factors.now))) }
+    ensures { MatchOption result (ascends_from names.now 0 (parts 42 factors.now) ≡ false)
+        (λ m. (ascends_from names.now 0 (parts 42 factors.now) ≡ true)
+        × (m ≡ factors_product names.now (parts 42 factors.now))) }
 {
     let mut product = 0;
     let mut least = 0;
@@ -70,7 +75,9 @@ fn product_of(names: &[Name], factors: &[u8]) -> Option<u64>
 fn monomial_of(names: &[Name], term: &[u8]) -> Option<u64>
     requires few { length names.now ≤ MAX_VARS }
     requires known { list_all (includes names.now) (factors_of term.now) ≡ true }
-    ensures { MatchOption result (ascends_from names.now 0 (factors_of term.now) ≡ false) (λ m. (ascends_from names.now 0 (factors_of term.now) ≡ true) × (m ≡ monomial_of names.now term.now)) }
+    ensures { MatchOption result (ascends_from names.now 0 (factors_of term.now) ≡ false)
+        (λ m. (ascends_from names.now 0 (factors_of term.now) ≡ true)
+        × (m ≡ monomial_of names.now term.now)) }
 {
     if is_word(term, "1") {
         Some(0)
@@ -88,8 +95,10 @@ pub fn monomials_of(
     requires few { length names.now ≤ MAX_VARS }
     requires known { are_known names.now (terms_in (words right.now)) ≡ true }
     ensures { MatchResult result
-        (λ monos. (are_ordered names.now (2 ^ length names.now) (terms_in (words right.now)) ≡ true) × (monos ≡ monomials_of names.now (words right.now)))
-        (λ e. Stops e (if are_ordered names.now (2 ^ length names.now) (terms_in (words right.now)) then None else Some AnswerWhy.TermOrder)) }
+        (λ monos. (are_ordered names.now (2 ^ length names.now) (terms_in (words right.now)) ≡ true)
+        × (monos ≡ monomials_of names.now (words right.now)))
+        (λ e. Stops e (if are_ordered names.now (2 ^ length names.now) (terms_in (words right.now))
+        then None else Some AnswerWhy.TermOrder)) }
 {
     let mut monos = Monos::new(alloc);
     let mut limit = 1u64 << names.len();
@@ -120,7 +129,8 @@ pub(crate) fn read_right(
 ) -> Result<Monos, LineRefusal<AnswerWhy>>
     requires { length names.now ≤ MAX_VARS }
     ensures { MatchResult result
-        (λ monos. (right_fault names.now (words right.now) ≡ None) × (monos ≡ monomials_of names.now (words right.now)))
+        (λ monos. (right_fault names.now (words right.now) ≡ None)
+        × (monos ≡ monomials_of names.now (words right.now)))
         (λ e. Stops e (right_fault names.now (words right.now))) }
 {
     if !are_known(names, right) {

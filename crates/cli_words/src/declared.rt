@@ -3,7 +3,8 @@ ghost use Rattle.std.specs.Prelude.{◌≡◌, ◌∷◌, [], IfOk, None, Some, 
 ghost use Rattle.clap.specs.Words.{app_of, rule_of};
 ghost use Rattle.clap.specs.declared.builder.value_parser.ValueParser.TheVariants as parser;
 ghost use Rattle.lattice.specs.declared.limits.TheConstants.{MIN_BITS, MAX_BITS};
-ghost use Rattle.cli_words.specs.CommandLine.{IsModeNames, NameList, interp_command_at, mode_rule, option_rule};
+ghost use Rattle.cli_words.specs.CommandLine.{IsModeNames, NameList, interp_command_at, mode_rule};
+ghost use Rattle.cli_words.specs.CommandLine.{option_rule};
 
 use clap::builder::ValueParser;
 use clap::{Arg, ArgAction, Command, value_parser};
@@ -25,7 +26,8 @@ fn mode<'a>(alloc: Global) -> Arg<'a>
 
 // An option with one value and a default.
 fn option<'a>(alloc: Global, name: &'a str, parser: ValueParser<'a>, default: &'a str) -> Arg<'a>
-    ensures rule { rule_of result ≡ option_rule name.entry.now (Some parser.entry) (default.entry.now ∷ []) }
+    ensures rule { rule_of result
+        ≡ option_rule name.entry.now (Some parser.entry) (default.entry.now ∷ []) }
     ensures local { result.global ≡ false }
 {
     Arg::new(alloc, name)
@@ -36,7 +38,8 @@ fn option<'a>(alloc: Global, name: &'a str, parser: ValueParser<'a>, default: &'
 }
 
 fn workers<'a>(alloc: Global) -> Arg<'a>
-    ensures rule { rule_of result ≡ option_rule (codes "workers") (Some (parser.Unsigned 1 16)) (codes "1" ∷ []) }
+    ensures rule { rule_of result ≡ option_rule (codes "workers") (Some (parser.Unsigned 1 16))
+        (codes "1" ∷ []) }
     ensures local { result.global ≡ false }
 {
     let parser = value_parser!(u64).range(1..=16);
@@ -44,7 +47,8 @@ fn workers<'a>(alloc: Global) -> Arg<'a>
 }
 
 fn nodes<'a>(alloc: Global) -> Arg<'a>
-    ensures rule { rule_of result ≡ option_rule (codes "nodes") (Some (parser.Unsigned MIN_BITS MAX_BITS)) (codes "19" ∷ []) }
+    ensures rule { rule_of result
+        ≡ option_rule (codes "nodes") (Some (parser.Unsigned MIN_BITS MAX_BITS)) (codes "19" ∷ []) }
     ensures local { result.global ≡ false }
 {
     let parser = value_parser!(u64).range(MIN_BITS as i64..=MAX_BITS as i64);
@@ -52,7 +56,8 @@ fn nodes<'a>(alloc: Global) -> Arg<'a>
 }
 
 fn terms<'a>(alloc: Global) -> Arg<'a>
-    ensures rule { rule_of result ≡ option_rule (codes "terms") (Some (parser.Unsigned 1 1000000)) (codes "1000000" ∷ []) }
+    ensures rule { rule_of result ≡ option_rule (codes "terms") (Some (parser.Unsigned 1 1000000))
+        (codes "1000000" ∷ []) }
     ensures local { result.global ≡ false }
 {
     let parser = value_parser!(u64).range(1..=1_000_000);
@@ -60,7 +65,9 @@ fn terms<'a>(alloc: Global) -> Arg<'a>
 }
 
 fn seed<'a>(alloc: Global) -> Arg<'a>
-    ensures rule { rule_of result ≡ option_rule (codes "seed") (Some (parser.Unsigned 0 18446744073709551615)) (codes "0" ∷ []) }
+    ensures rule { rule_of result
+        ≡ option_rule (codes "seed") (Some (parser.Unsigned 0 18446744073709551615))
+        (codes "0" ∷ []) }
     ensures local { result.global ≡ false }
 {
     option(alloc, "seed", value_parser!(u64), "0")
@@ -77,7 +84,8 @@ fn order<'a>(alloc: Global) -> Arg<'a>
 
 /// `interp MODE [--workers N] [--nodes B] [--terms T] [--seed S] [--order NAMES]`
 pub(crate) fn command<'a>(alloc: Global) -> Result<Command<'a>, AllocError>
-    ensures app { IfOk result (λ c. (list : NameList) × IsModeNames list × (app_of c ≡ interp_command_at list)) }
+    ensures app { IfOk result (λ c. (list : NameList) × IsModeNames list
+        × (app_of c ≡ interp_command_at list)) }
 {
     Command::new(alloc, "interp")
         .arg(mode(alloc))?

@@ -1,7 +1,8 @@
 // What the words ask for.
 ghost use Rattle.std.specs.Prelude.{◌≡◌, ◌≢◌, [], IfOk, IsErrOf, OnOk, Some, codes};
 ghost use Rattle.clap.specs.Words.{fault_of, first_of, found_of, matches_of, rows_of};
-ghost use Rattle.cli_words.specs.CommandLine.{HasEach, HasMode, HasNumber, IsJob, IsWithin, interp_command, mode_name, number_of};
+ghost use Rattle.cli_words.specs.CommandLine.{HasEach, HasMode, HasNumber, IsJob, IsWithin};
+ghost use Rattle.cli_words.specs.CommandLine.{interp_command, mode_name, number_of};
 ghost use Rattle.cli_words.specs.declared.job.WordsRefusal.TheVariants.{Memory};
 
 use crate::declared::command;
@@ -98,9 +99,9 @@ fn job_of(alloc: Global, matches: &ArgMatches<'_>) -> Result<Job, AllocError>
     })
 }
 
-/// Reads the words, the program's name first, by the declared command
-/// `interp MODE [--workers N] [--nodes B] [--terms T] [--seed S] [--order NAMES]`, where MODE is `anf`, `basis`, `check` or `gen`.
-/// Which words it takes, and with which values, is the rule of `clap` for a simple command.
+/// Reads the words, the program's name first, by the declared command `interp MODE [--workers N]
+/// [--nodes B] [--terms T] [--seed S] [--order NAMES]`, where MODE is `anf`, `basis`, `check` or
+/// `gen`. Which words it takes, and with which values, is the rule of `clap` for a simple command.
 pub fn read_words(alloc: Global, words: &Words) -> Result<Job, WordsRefusal>
     ensures usage { IsErrOf result WordsRefusal.Usage → fault_of interp_command words.now ≢ [] }
     ensures taken { OnOk result (fault_of interp_command words.now ≡ []) }

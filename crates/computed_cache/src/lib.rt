@@ -1,4 +1,5 @@
-//! The computed table: kept results in the cache words of a shared table, where each pass finds what others kept.
+//! The computed table: kept results in the cache words of a shared table, where each pass finds
+//! what others kept.
 #![tactic(auto)]
 
 mod pass;

@@ -5,7 +5,8 @@ ghost use Rattle.lattice.specs.Rows.{care_zeros, care_ones};
 ghost use Rattle.lattice.specs.WorkingLists.{working_set};
 ghost use Rattle.node_store.specs.Stores.{Knows, family, Gives};
 ghost use Rattle.cube_build.specs.UsedCubes.{AreCubes};
-ghost use Rattle.cube_build.specs.GivenCareSets.{care_needs, fd_list, fdr_list, outside_list, GivesCareSets, GivesCareSetsFrom, MayGiveCareSets};
+ghost use Rattle.cube_build.specs.GivenCareSets.{care_needs, fd_list, fdr_list, outside_list};
+ghost use Rattle.cube_build.specs.GivenCareSets.{GivesCareSets, GivesCareSetsFrom, MayGiveCareSets};
 ghost use Rattle.set_algebra.specs.GivenPoints.{GivesPoints};
 
 use crate::covers::{cover, sets_of};
@@ -17,8 +18,11 @@ use set_algebra::{ValuedPoints, minus, power, union};
 /// All points that are not in `a`.
 fn outside<S: Store>(store: &mut S, a: Handle) -> Result<Handle, Full>
     requires known { Knows (S.state store.old) a }
-    requires planned { let s = S.state store.old in Covers s.plan (working_set s.vars (outside_list s.vars (family s a))) }
-    ensures { let s = S.state store.old in Gives s (S.state store.new) result (minus_of s.vars (power s.vars) (family s a)) (working_set s.vars (outside_list s.vars (family s a))) }
+    requires planned { let s = S.state store.old in
+        Covers s.plan (working_set s.vars (outside_list s.vars (family s a))) }
+    ensures { let s = S.state store.old in
+        Gives s (S.state store.new) result (minus_of s.vars (power s.vars) (family s a))
+        (working_set s.vars (outside_list s.vars (family s a))) }
 {
     let all = power(store)?;
     minus(store, all, a)
@@ -27,20 +31,28 @@ fn outside<S: Store>(store: &mut S, a: Handle) -> Result<Handle, Full>
 /// In a description of type f the points that its rows do not list have value 0.
 fn sets_of_f<S: Store>(store: &mut S, on: Handle) -> Result<ValuedPoints, Full>
     requires on { Knows (S.state store.old) on }
-    requires planned { let s = S.state store.old in Covers s.plan (working_set s.vars (outside_list s.vars (family s on))) }
-    ensures { let s = S.state store.old in let n = s.vars in GivesPoints s (S.state store.new) result (minus_of n (power n) (family s on)) (family s on) (working_set n (outside_list n (family s on))) }
+    requires planned { let s = S.state store.old in
+        Covers s.plan (working_set s.vars (outside_list s.vars (family s on))) }
+    ensures { let s = S.state store.old in let n = s.vars in
+        GivesPoints s (S.state store.new) result (minus_of n (power n) (family s on)) (family s on)
+        (working_set n (outside_list n (family s on))) }
 {
     let zeros = outside(store, on)?;
     Ok(ValuedPoints { zeros, ones: on })
 }
 
-/// In a description of type fd the points that its rows do not list have value 0, and those that they leave open are no care
-/// points.
+/// In a description of type fd the points that its rows do not list have value 0, and those that
+/// they leave open are no care points.
 fn sets_of_fd<S: Store>(store: &mut S, on: Handle, dc: Handle) -> Result<ValuedPoints, Full>
     requires on { Knows (S.state store.old) on }
     requires dc { Knows (S.state store.old) dc }
-    requires planned { let s = S.state store.old in Covers s.plan (working_set s.vars (fd_list s.vars (family s on) (family s dc))) }
-    ensures { let s = S.state store.old in let n = s.vars in GivesPoints s (S.state store.new) result (minus_of n (power n) (union_of n (family s on) (family s dc))) (minus_of n (family s on) (family s dc)) (working_set n (fd_list n (family s on) (family s dc))) }
+    requires planned { let s = S.state store.old in
+        Covers s.plan (working_set s.vars (fd_list s.vars (family s on) (family s dc))) }
+    ensures { let s = S.state store.old in let n = s.vars in
+        GivesPoints s (S.state store.new) result
+        (minus_of n (power n) (union_of n (family s on) (family s dc)))
+        (minus_of n (family s on) (family s dc))
+        (working_set n (fd_list n (family s on) (family s dc))) }
 {
     let ones = minus(store, on, dc)?;
     let listed = union(store, on, dc)?;
@@ -48,7 +60,8 @@ fn sets_of_fd<S: Store>(store: &mut S, on: Handle, dc: Handle) -> Result<ValuedP
     Ok(ValuedPoints { zeros, ones })
 }
 
-/// In a description of type fdr the points that its rows do not list or leave open are no care points.
+/// In a description of type fdr the points that its rows do not list or leave open are no care
+/// points.
 fn sets_of_fdr<S: Store>(
     store: &mut S,
     on: Handle,
@@ -58,16 +71,21 @@ fn sets_of_fdr<S: Store>(
     requires on { Knows (S.state store.old) on }
     requires off { Knows (S.state store.old) off }
     requires dc { Knows (S.state store.old) dc }
-    requires planned { let s = S.state store.old in Covers s.plan (working_set s.vars (fdr_list s.vars (family s on) (family s off) (family s dc))) }
-    ensures { let s = S.state store.old in let n = s.vars in GivesPoints s (S.state store.new) result (minus_of n (family s off) (family s dc)) (minus_of n (family s on) (family s dc)) (working_set n (fdr_list n (family s on) (family s off) (family s dc))) }
+    requires planned { let s = S.state store.old in
+        Covers s.plan (working_set s.vars
+        (fdr_list s.vars (family s on) (family s off) (family s dc))) }
+    ensures { let s = S.state store.old in let n = s.vars in
+        GivesPoints s (S.state store.new) result (minus_of n (family s off) (family s dc))
+        (minus_of n (family s on) (family s dc))
+        (working_set n (fdr_list n (family s on) (family s off) (family s dc))) }
 {
     let ones = minus(store, on, dc)?;
     let zeros = minus(store, off, dc)?;
     Ok(ValuedPoints { zeros, ones })
 }
 
-/// The care points of an output, from its covers: a handle for each of its sets, in the order of `sets_of`. It is Full only where
-/// the plan has more families than the store has slots.
+/// The care points of an output, from its covers: a handle for each of its sets, in the order of
+/// `sets_of`. It is Full only where the plan has more families than the store has slots.
 pub fn care_sets_from<S: Store>(
     store: &mut S,
     kind: Kind,
@@ -88,8 +106,9 @@ pub fn care_sets_from<S: Store>(
     }
 }
 
-/// The care points of the output, whose numbers begin with 1, from the cubes that `row_cubes` gives, in a store with a variable
-/// for each input. It is Full only where the plan has more families than the store has slots.
+/// The care points of the output, whose numbers begin with 1, from the cubes that `row_cubes`
+/// gives, in a store with a variable for each input. It is Full only where the plan has more
+/// families than the store has slots.
 pub fn care_sets<S: Store>(
     store: &mut S,
     p: &Pla,
@@ -99,8 +118,10 @@ pub fn care_sets<S: Store>(
     requires cubes { AreCubes (S.state store.old) p.now.rows cubes.now }
     requires output { (1 ≤ output) × (output ≤ p.now.outputs) }
     requires vars { (S.state store.old).vars ≡ p.now.inputs }
-    requires planned { Covers (S.state store.old).plan (care_needs p.now.inputs p.now.kind p.now.rows output) }
-    ensures { GivesCareSets (S.state store.old) (S.state store.new) result p.now.inputs p.now.kind p.now.rows output }
+    requires planned { Covers (S.state store.old).plan
+        (care_needs p.now.inputs p.now.kind p.now.rows output) }
+    ensures { GivesCareSets (S.state store.old) (S.state store.new) result p.now.inputs p.now.kind
+        p.now.rows output }
 {
     let rows = p.rows.as_slice();
     let sets = sets_of(p.kind);
@@ -121,8 +142,11 @@ pub fn zeros<S: Store>(
     requires cubes { AreCubes (S.state store.old) p.now.rows cubes.now }
     requires output { (1 ≤ output) × (output ≤ p.now.outputs) }
     requires vars { (S.state store.old).vars ≡ p.now.inputs }
-    requires planned { Covers (S.state store.old).plan (care_needs p.now.inputs p.now.kind p.now.rows output) }
-    ensures { Gives (S.state store.old) (S.state store.new) result (care_zeros p.now.inputs p.now.kind p.now.rows output) (care_needs p.now.inputs p.now.kind p.now.rows output) }
+    requires planned { Covers (S.state store.old).plan
+        (care_needs p.now.inputs p.now.kind p.now.rows output) }
+    ensures { Gives (S.state store.old) (S.state store.new) result
+        (care_zeros p.now.inputs p.now.kind p.now.rows output)
+        (care_needs p.now.inputs p.now.kind p.now.rows output) }
 {
     let sets = care_sets(store, p, cubes, output)?;
     Ok(sets.zeros)
@@ -133,8 +157,11 @@ pub fn ones<S: Store>(store: &mut S, p: &Pla, cubes: &[Handle], output: u32) -> 
     requires cubes { AreCubes (S.state store.old) p.now.rows cubes.now }
     requires output { (1 ≤ output) × (output ≤ p.now.outputs) }
     requires vars { (S.state store.old).vars ≡ p.now.inputs }
-    requires planned { Covers (S.state store.old).plan (care_needs p.now.inputs p.now.kind p.now.rows output) }
-    ensures { Gives (S.state store.old) (S.state store.new) result (care_ones p.now.inputs p.now.kind p.now.rows output) (care_needs p.now.inputs p.now.kind p.now.rows output) }
+    requires planned { Covers (S.state store.old).plan
+        (care_needs p.now.inputs p.now.kind p.now.rows output) }
+    ensures { Gives (S.state store.old) (S.state store.new) result
+        (care_ones p.now.inputs p.now.kind p.now.rows output)
+        (care_needs p.now.inputs p.now.kind p.now.rows output) }
 {
     let sets = care_sets(store, p, cubes, output)?;
     Ok(sets.ones)

@@ -11,7 +11,8 @@ use lattice::{Kind, Row};
 use node_store::{Full, Handle, Store};
 use set_algebra::union;
 
-/// A set of points of an output: what its rows say is 1, what they say is 0, or what they leave open.
+/// A set of points of an output: what its rows say is 1, what they say is 0, or what they leave
+/// open.
 #[derive(Clone, Copy, PartialEq, Eq, Debug)]
 pub enum PointSet {
     On,
@@ -45,8 +46,9 @@ fn is_in(row: &Row, set: PointSet, output: u32) -> bool
     bit & mask == bit
 }
 
-/// The points of a set of the output, whose numbers begin with 1: the union of its rows' cubes, in the order of the rows, from the
-/// cubes that `row_cubes` gives. It is Full only where the plan has more families than the store has slots.
+/// The points of a set of the output, whose numbers begin with 1: the union of its rows' cubes, in
+/// the order of the rows, from the cubes that `row_cubes` gives. It is Full only where the plan has
+/// more families than the store has slots.
 pub fn cover<S: Store>(
     store: &mut S,
     rows: &[Row],
@@ -56,8 +58,11 @@ pub fn cover<S: Store>(
 ) -> Result<Handle, Full>
     requires cubes { AreCubes (S.state store.old) rows.now cubes.now }
     requires output { (1 ≤ output) × (output ≤ 64) }
-    requires planned { let s = S.state store.old in Covers s.plan (working_set s.vars (cover_list s.vars (set_rows set output rows.now))) }
-    ensures { let s = S.state store.old in let chosen = set_rows set output rows.now in Gives s (S.state store.new) result (cover s.vars chosen) (working_set s.vars (cover_list s.vars chosen)) }
+    requires planned { let s = S.state store.old in
+        Covers s.plan (working_set s.vars (cover_list s.vars (set_rows set output rows.now))) }
+    ensures { let s = S.state store.old in let chosen = set_rows set output rows.now in
+        Gives s (S.state store.new) result (cover s.vars chosen)
+        (working_set s.vars (cover_list s.vars chosen)) }
 {
     let mut points = Handle(0);
     for (row, cube) in rows.iter().zip(cubes) {

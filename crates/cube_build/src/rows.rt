@@ -32,9 +32,9 @@ impl From<Full> for CubesRefusal {
 }
 
 impl<T: Drop> From<AllocFailed<T>> for CubesRefusal {
-    ghost use Rattle.cube_build.specs.declared.rows.CubesRefusal.TheVariants.{Memory as OutOfMemory};
+    ghost use Rattle.cube_build.specs.declared.rows.CubesRefusal.TheVariants as refusals;
 
-    ghost from_gives = { λ _ e. e ≡ OutOfMemory };
+    ghost from_gives = { λ _ e. e ≡ refusals.Memory };
 
     fn from(_: AllocFailed<T>) -> Self {
         CubesRefusal::Memory
@@ -53,7 +53,8 @@ fn used_cube<S: Store>(store: &mut S, row: &Row) -> Result<Handle, Full>
     requires care { row.now.care < 2 ^ (S.state store.old).vars }
     requires value { divides row.now.value row.now.care ≡ true }
     requires planned { let s = S.state store.old in IsPlanned s (used_cube s.vars row.now) }
-    ensures { let s = S.state store.old in Builds s (S.state store.new) result (used_cube s.vars row.now) }
+    ensures { let s = S.state store.old in
+        Builds s (S.state store.new) result (used_cube s.vars row.now) }
 {
     if names_output(row) {
         cube(store, row)
@@ -62,19 +63,24 @@ fn used_cube<S: Store>(store: &mut S, row: &Row) -> Result<Handle, Full>
     }
 }
 
-/// The handle of each row's cube, in the order of the rows, in a store with a variable for each input; Handle(0) for a row that
-/// says nothing of any output. It is Full only where the plan has more families than the store has slots.
+/// The handle of each row's cube, in the order of the rows, in a store with a variable for each
+/// input; Handle(0) for a row that says nothing of any output. It is Full only where the plan has
+/// more families than the store has slots.
 pub fn row_cubes<S: Store>(
     alloc: Global,
     store: &mut S,
     p: &Pla,
 ) -> Result<Vec<Handle>, CubesRefusal>
     requires vars { (S.state store.old).vars ≡ p.now.inputs }
-    requires planned { let d = p.now in Covers (S.state store.old).plan (working_set d.inputs (flat_map (care_list d.inputs d.kind d.rows) (output_numbers d.outputs))) }
+    requires planned { let d = p.now in
+        Covers (S.state store.old).plan
+        (working_set d.inputs (flat_map (care_list d.inputs d.kind d.rows)
+        (output_numbers d.outputs))) }
     ensures grows { Grows (S.state store.old) (S.state store.new) }
     ensures cubes { IfOk result (λ cubes. AreCubes (S.state store.new) p.now.rows cubes.items) }
     ensures quiet { OnOk result ((S.state store.new).refusals ≡ (S.state store.old).refusals) }
-    ensures full { IsErrOf result CubesRefusal.Full → IsFull (S.state store.old) (S.state store.new) }
+    ensures full { IsErrOf result CubesRefusal.Full
+        → IsFull (S.state store.old) (S.state store.new) }
 {
     let mut cubes = Vec::new(alloc);
     for row in p.rows.as_slice() {

@@ -7,7 +7,8 @@ ghost use Rattle.cube_sets.specs.Buckets.{IsMarked, MeetsNone};
 
 use lattice::Row;
 
-/// The greatest prime below 2^16: of up to 16 columns that every row fixes, nearly every value has a bucket of its own.
+/// The greatest prime below 2^16: of up to 16 columns that every row fixes, nearly every value has
+/// a bucket of its own.
 pub(crate) const BUCKETS: usize = 65_521;
 
 /// The columns that every row fixes.
@@ -21,7 +22,8 @@ pub(crate) fn common_care(rows: &[Row]) -> u64
     common
 }
 
-// The bucket of a row. Rows that share a point have the same values in the common columns, so they have one bucket.
+// The bucket of a row. Rows that share a point have the same values in the common columns, so they
+// have one bucket.
 fn bucket_of(row: &Row, common: u64) -> usize
     ensures { result ≡ bit_and row.now.value common % BUCKETS }
 {
@@ -43,7 +45,8 @@ pub(crate) fn mark_offs(offs: &mut [u64], rows: &[Row], common: u64)
 pub(crate) fn may_clash(a: &Row, offs: &[u64], common: u64) -> bool
     requires length { length offs.now ≡ BUCKETS }
     requires fixed { divides common a.now.care ≡ true }
-    ensures { result ≡ false → (b : Row) → divides common b.care ≡ true → IsMarked common offs.now b → MeetsNone a.now b }
+    ensures { result ≡ false → (b : Row) → divides common b.care ≡ true → IsMarked common offs.now b
+        → MeetsNone a.now b }
 {
     a.on & offs[bucket_of(a, common)] != 0
 }

@@ -5,14 +5,15 @@ ghost use Rattle.lattice.specs.Family.{divides};
 ghost use Rattle.lattice.specs.Rows.{IsConsistent};
 ghost use Rattle.cube_sets.specs.declared.buckets.TheConstants.{BUCKETS};
 ghost use Rattle.cube_sets.specs.Buckets.{IsMarked};
-ghost use Rattle.cube_sets.specs.Clashes.{SharePoint, IsClashOf, IsAmong, IsClash, IsLeastOf, AnswersUpTo};
+ghost use Rattle.cube_sets.specs.Clashes.{SharePoint, IsClashOf, IsAmong, IsClash, IsLeastOf};
+ghost use Rattle.cube_sets.specs.Clashes.{AnswersUpTo};
 
 use crate::buckets::{BUCKETS, common_care, mark_offs, may_clash};
 use lattice::{Kind, Row};
 use pla_reader::Pla;
 
-/// Two rows that contradict each other: the line of one that says that the output is 1, and the line of one that says that it
-/// is 0.
+/// Two rows that contradict each other: the line of one that says that the output is 1, and the
+/// line of one that says that it is 0.
 #[derive(Clone, Copy, PartialEq, Eq, Debug)]
 pub struct Clash {
     pub output: u32,
@@ -24,7 +25,8 @@ pub struct Clash {
 pub fn meets(a: &Row, b: &Row) -> bool
     requires first { divides a.now.value a.now.care ≡ true }
     requires second { divides b.now.value b.now.care ≡ true }
-    ensures { (n : ℕ) → a.now.care < 2 ^ n → b.now.care < 2 ^ n → (IsTrue result ↔ SharePoint n a.now b.now) }
+    ensures { (n : ℕ) → a.now.care < 2 ^ n → b.now.care < 2 ^ n
+        → (IsTrue result ↔ SharePoint n a.now b.now) }
 {
     // A value has no bit outside its care, so the other care alone leaves the bits that both fix.
     a.value & b.care == b.value & a.care
@@ -34,9 +36,11 @@ pub fn meets(a: &Row, b: &Row) -> bool
 fn clash_of(a: &Row, b: &Row, outputs: u32) -> Option<Clash>
     requires first { divides a.now.value a.now.care ≡ true }
     requires second { divides b.now.value b.now.care ≡ true }
-    ensures { (n : ℕ) → a.now.care < 2 ^ n → b.now.care < 2 ^ n → AnswersUpTo outputs (IsClashOf n a.now b.now) result }
+    ensures { (n : ℕ) → a.now.care < 2 ^ n → b.now.care < 2 ^ n
+        → AnswersUpTo outputs (IsClashOf n a.now b.now) result }
 {
-    // Most pairs of cubes are apart, while the masks of as many agree as not: a processor guesses the first test better.
+    // Most pairs of cubes are apart, while the masks of as many agree as not: a processor guesses
+    // the first test better.
     if !meets(a, b) {
         return None;
     }
@@ -55,8 +59,8 @@ fn clash_of(a: &Row, b: &Row, outputs: u32) -> Option<Clash>
     })
 }
 
-/// The least clash of the on-row `a` with an off-row of `p`, of those at an output up to `outputs`. The outputs of value 0 are
-/// marked in the buckets of their rows.
+/// The least clash of the on-row `a` with an off-row of `p`, of those at an output up to `outputs`.
+/// The outputs of value 0 are marked in the buckets of their rows.
 fn least_with(p: &Pla, offs: &[u64], common: u64, a: &Row, outputs: u32) -> Option<Clash>
     requires row { Contains p.now.rows a.now }
     requires length { length offs.now ≡ BUCKETS }
@@ -81,7 +85,8 @@ fn least_with(p: &Pla, offs: &[u64], common: u64, a: &Row, outputs: u32) -> Opti
 
 /// The least clash of two rows.
 fn least_clash(p: &Pla) -> Option<Clash>
-    ensures { AnswersUpTo p.now.outputs (IsAmong (λ a. IsAmong (IsClashOf p.now.inputs a) p.now.rows) p.now.rows) result }
+    ensures { AnswersUpTo p.now.outputs
+        (IsAmong (λ a. IsAmong (IsClashOf p.now.inputs a) p.now.rows) p.now.rows) result }
 {
     let common = common_care(p.rows.as_slice());
     let mut offs = [0; BUCKETS];
@@ -98,11 +103,12 @@ fn least_clash(p: &Pla) -> Option<Clash>
     least
 }
 
-/// The clash of two rows that is least by output, then by the line of the on-row, then by that of the off-row. None exactly
-/// where the description is consistent.
+/// The clash of two rows that is least by output, then by the line of the on-row, then by that of
+/// the off-row. None exactly where the description is consistent.
 pub fn conflict(p: &Pla) -> Option<Clash>
     ensures none { IsNone result ↔ IsConsistent p.now.inputs p.now.outputs p.now.rows }
-    ensures least { IfSome result (IsLeastOf (IsClash p.now.inputs p.now.outputs p.now.rows p.now.rows)) }
+    ensures least { IfSome result
+        (IsLeastOf (IsClash p.now.inputs p.now.outputs p.now.rows p.now.rows)) }
 {
     match p.kind {
         Kind::F | Kind::Fd => None,

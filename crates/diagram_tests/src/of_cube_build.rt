@@ -30,9 +30,13 @@ impl Planned for CubeOf {
 struct AllCares<'a>(&'a Pla);
 
 impl Planned for AllCares<'_> {
-    ghost families = { λ c. let p = c.0.now in working_set p.inputs (flat_map (care_list p.inputs p.kind p.rows) (output_numbers p.outputs)) };
+    ghost families = { λ c. let p = c.0.now in
+        working_set p.inputs (flat_map (care_list p.inputs p.kind p.rows)
+        (output_numbers p.outputs)) };
 
-    ghost node_list = { λ c. let p = c.0.now in working_set_is_node_list p.inputs (flat_map (care_list p.inputs p.kind p.rows) (output_numbers p.outputs)) };
+    ghost node_list = { λ c. let p = c.0.now in
+        working_set_is_node_list p.inputs
+        (flat_map (care_list p.inputs p.kind p.rows) (output_numbers p.outputs)) };
 }
 
 // A store of 16 slots with this plan.
@@ -160,7 +164,8 @@ fn points_of_set(alloc: Global, p: &Pla, place: usize) -> Result<Monos, Fail>
     Ok(members)
 }
 
-// A file of type fdr of which each set has a row or two, and one of type fd: its sets are ON and DC.
+// A file of type fdr of which each set has a row or two, and one of type fd: its sets are ON and
+// DC.
 #[test]
 fn points_of_sets(rt: HostRuntime) -> Result<(), Fail> {
     let cases: [(&[u8], usize, &[Mono]); 5] = [

@@ -1,7 +1,8 @@
 use interp_list::{are_care_points, least_list};
 use lattice::Mono;
 
-// The points of value 0 and of value 1 over two variables, and the monomials from the greatest to the least.
+// The points of value 0 and of value 1 over two variables, and the monomials from the greatest to
+// the least.
 #[test]
 fn table(rt: HostRuntime) {
     let cases: [(&[u64], &[u64], &[Mono]); 6] = [

@@ -27,7 +27,8 @@ fn all_over<S: Store>(store: &mut S, vars: u32, count: u32) -> Result<Handle, Fu
     })
 }
 
-// The first variable of all numbers over the last two of three variables, their parts, and what is grown over them with nothing.
+// The first variable of all numbers over the last two of three variables, their parts, and what is
+// grown over them with nothing.
 fn taken_apart<S: Store>(
     store: &mut S,
     all: Handle,
@@ -56,7 +57,8 @@ fn slots_in_order(rt: HostRuntime) -> Result<(), Fail> {
     Ok(())
 }
 
-// Each slot takes a node; then the store is full, and still gives the handles of the nodes that it has.
+// Each slot takes a node; then the store is full, and still gives the handles of the nodes that it
+// has.
 #[test]
 fn full_after_the_last_slot(rt: HostRuntime) -> Result<(), Fail> {
     let mut store = PlainStore::make(rt.alloc(), 4, 17, any_plan(17))?;
@@ -66,7 +68,8 @@ fn full_after_the_last_slot(rt: HostRuntime) -> Result<(), Fail> {
     Ok(())
 }
 
-// The words as Python computes them: 3 * 2**48 + 1 * 2**24 + 1, and 62 * 2**48 + (2**23 + 1) * 2**24 + 2**23.
+// The words as Python computes them: 3 * 2**48 + 1 * 2**24 + 1, and 62 * 2**48 + (2**23 + 1) *
+// 2**24 + 2**23.
 #[test]
 fn words_of_nodes(rt: HostRuntime) {
     let node = Node {

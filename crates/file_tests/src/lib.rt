@@ -1,4 +1,5 @@
-//! Tests of the public calls on words, files and texts, with a module for each crate that is tested.
+//! Tests of the public calls on words, files and texts, with a module for each crate that is
+//! tested.
 #![tactic(auto)]
 
 #[cfg(test)]

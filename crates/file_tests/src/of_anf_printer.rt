@@ -1,4 +1,5 @@
-ghost use Rattle.std.specs.Prelude.{◌≡◌, ◌≤◌, ◌<◌, ◌^◌, IsTrue, IfOk, All, length, map, reverse, vec_len};
+ghost use Rattle.std.specs.Prelude.{◌≡◌, ◌≤◌, ◌<◌, ◌^◌, IsTrue, IfOk, All, length, map, reverse};
+ghost use Rattle.std.specs.Prelude.{vec_len};
 ghost use Rattle.std.specs.List.Sorted.{IsStrictlyIncreasing};
 ghost use Rattle.lattice.specs.Family.{IsFamily};
 ghost use Rattle.anf_printer.specs.Text.{shown_answer, IsAnswerOver};
@@ -9,7 +10,8 @@ use pla_reader::{Pla, Rows};
 use std::alloc::{AllocError, Global};
 use std::test::Fail;
 
-// An output: the monomials of its polynomial and of its basis elements, ascending, and what is printed.
+// An output: the monomials of its polynomial and of its basis elements, ascending, and what is
+// printed.
 struct Output {
     monomials: &'static [u64],
     basis: &'static [&'static [u64]],
@@ -106,7 +108,8 @@ fn shown(alloc: Global, inputs: u32, output: &Output) -> Result<Shown, Fail>
 fn all_shown(alloc: Global, inputs: u32, outputs: &[Output]) -> Result<Vec<Shown>, Fail>
     requires { inputs ≤ 62 }
     ensures count { IfOk result (λ all. vec_len all ≡ length outputs.now) }
-    ensures answers { IfOk result (λ all. All (λ s. IsAnswerOver inputs (shown_answer s)) all.items) }
+    ensures answers { IfOk result
+        (λ all. All (λ s. IsAnswerOver inputs (shown_answer s)) all.items) }
 {
     let mut all = Vec::new(alloc);
     for output in outputs {

@@ -1,8 +1,9 @@
 use gen_pla::generate;
 use lattice::Kind;
 
-// The number, the point and the outputs that are 1, of the rows that a few lines of Python made from the rule's words: they
-// count the bits of a point by its binary text, and try each pair of neighbours by itself.
+// The number, the point and the outputs that are 1, of the rows that a few lines of Python made
+// from the rule's words: they count the bits of a point by its binary text, and try each pair of
+// neighbours by itself.
 fn made_elsewhere() -> [(u64, [(usize, u64, u64); 6]); 5] {
     [
         (

@@ -206,7 +206,8 @@ fn a_pipe_is_read_to_its_end_and_not_again(rt: HostRuntime) -> Result<(), Fail> 
     Ok(())
 }
 
-// Two branches meet, and one thread that runs one branch after the other does not, however often it comes.
+// Two branches meet, and one thread that runs one branch after the other does not, however often it
+// comes.
 #[test]
 fn branches_meet(rt: HostRuntime) {
     let gate = Rendezvous::waiting(100_000_000);

@@ -168,7 +168,8 @@ fn most_rows(rt: HostRuntime) {
     );
 }
 
-// Three inputs and one output, of type fr, with the rows `1-0 1` and `011 0`; the names of the inputs stand between.
+// Three inputs and one output, of type fr, with the rows `1-0 1` and `011 0`; the names of the
+// inputs stand between.
 fn three_inputs(alloc: Global, names: &[u8]) -> Result<Pla, Fail> {
     let mut text = Vec::from_slice(alloc, b".i 3\n.o 1\n.type fr\n.ob y\n")?;
     text.extend_from_slice(names)?;
@@ -180,7 +181,8 @@ fn three_inputs(alloc: Global, names: &[u8]) -> Result<Pla, Fail> {
     Ok(pla)
 }
 
-// The names that are given, an order, the masks of the two rows over its variables, and the names of the variables.
+// The names that are given, an order, the masks of the two rows over its variables, and the names
+// of the variables.
 #[test]
 fn arranged_inputs(rt: HostRuntime) -> Result<(), Fail> {
     let alloc = rt.alloc();

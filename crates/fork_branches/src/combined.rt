@@ -5,7 +5,8 @@ ghost use Rattle.lattice.specs.Operations.{is_pointwise};
 ghost use Rattle.set_algebra.specs.Pairs.{Asks};
 ghost use Rattle.unique_table.specs.Passes.{token_state, IsOf};
 ghost use Rattle.computed_cache.specs.Cached.{cached_state};
-ghost use Rattle.fork_branches.specs.Branches.{Combines, CombinesBoth, ForksCombining, IsForkedCombining};
+ghost use Rattle.fork_branches.specs.Branches.{Combines, CombinesBoth, ForksCombining};
+ghost use Rattle.fork_branches.specs.Branches.{IsForkedCombining};
 
 use crate::pairs::pair_of;
 use computed_cache::CachedPass;
@@ -21,15 +22,16 @@ fn combine_in_row(store: &mut CachedPass, op: Op, c: Cofactors) -> Result<(Handl
     requires op { is_pointwise op ≡ true }
     requires low { Asks op (cached_state store.old) c.a_low c.b_low }
     requires high { Asks op (cached_state store.old) c.a_high c.b_high }
-    ensures { CombinesBoth op (cached_state store.old) (cached_state store.new) c.a_low c.b_low c.a_high c.b_high result }
+    ensures { CombinesBoth op (cached_state store.old) (cached_state store.new) c.a_low c.b_low
+        c.a_high c.b_high result }
 {
     let lo = combine(store, op, c.a_low, c.b_low)?;
     let hi = combine(store, op, c.a_high, c.b_high)?;
     Ok((lo, hi))
 }
 
-// Both halves beside each other. The pass is split before the branches start, and takes in what both know once they have ended,
-// also where one of them is Full.
+// Both halves beside each other. The pass is split before the branches start, and takes in what
+// both know once they have ended, also where one of them is Full.
 #[cycle(combined)]
 fn combine_both<R: Threads + Sync, G: Gate + Sync>(
     rt: &R,
@@ -43,8 +45,10 @@ fn combine_both<R: Threads + Sync, G: Gate + Sync>(
     requires op { is_pointwise op ≡ true }
     requires low { Asks op (cached_state store.old) c.a_low c.b_low }
     requires high { Asks op (cached_state store.old) c.a_high c.b_high }
-    ensures gives { CombinesBoth op (cached_state store.old) (cached_state store.new) c.a_low c.b_low c.a_high c.b_high result }
-    ensures forks { ForksCombining op (cached_state store.old) (cached_state store.new) c.a_low c.b_low c.a_high c.b_high result }
+    ensures gives { CombinesBoth op (cached_state store.old) (cached_state store.new) c.a_low
+        c.b_low c.a_high c.b_high result }
+    ensures forks { ForksCombining op (cached_state store.old) (cached_state store.new) c.a_low
+        c.b_low c.a_high c.b_high result }
 {
     let table = store.table();
     let first = store.split().end().end();
@@ -53,15 +57,19 @@ fn combine_both<R: Threads + Sync, G: Gate + Sync>(
     let more = workers - fewer;
     let (a_low, b_low, a_high, b_high) = (c.a_low, c.b_low, c.a_high, c.b_high);
     let front = move || -> (Token, Result<Handle, Full>)
-        requires { IsSync R.row × IsSync G.row × (1 ≤ more) × (is_pointwise op ≡ true) × IsOf first table.now × Asks op (token_state first) a_low b_low }
-        ensures { IsOf result.0 table.entry.now × Combines op (token_state first) (token_state result.0) a_low b_low result.1 }
+        requires { IsSync R.row × IsSync G.row × (1 ≤ more) × (is_pointwise op ≡ true)
+            × IsOf first table.now × Asks op (token_state first) a_low b_low }
+        ensures { IsOf result.0 table.entry.now
+            × Combines op (token_state first) (token_state result.0) a_low b_low result.1 }
     {
         gate.enter(0);
         combine_on(rt, gate, more, table, first, op, a_low, b_low)
     };
     let back = move || -> (Token, Result<Handle, Full>)
-        requires { IsSync R.row × IsSync G.row × (1 ≤ fewer) × (is_pointwise op ≡ true) × IsOf second table.now × Asks op (token_state second) a_high b_high }
-        ensures { IsOf result.0 table.entry.now × Combines op (token_state second) (token_state result.0) a_high b_high result.1 }
+        requires { IsSync R.row × IsSync G.row × (1 ≤ fewer) × (is_pointwise op ≡ true)
+            × IsOf second table.now × Asks op (token_state second) a_high b_high }
+        ensures { IsOf result.0 table.entry.now
+            × Combines op (token_state second) (token_state result.0) a_high b_high result.1 }
     {
         gate.enter(1);
         combine_on(rt, gate, fewer, table, second, op, a_high, b_high)
@@ -97,8 +105,8 @@ fn combine_on<R: Threads + Sync, G: Gate + Sync>(
     (pass.end().end(), r)
 }
 
-// Both halves: in two branches where there are workers for them and each operation before began at a later variable, and else
-// one after the other.
+// Both halves: in two branches where there are workers for them and each operation before began at
+// a later variable, and else one after the other.
 #[cycle(combined)]
 fn combine_halves<R: Threads + Sync, G: Gate + Sync>(
     rt: &R,
@@ -113,8 +121,11 @@ fn combine_halves<R: Threads + Sync, G: Gate + Sync>(
     requires op { is_pointwise op ≡ true }
     requires low { Asks op (cached_state store.old) c.a_low c.b_low }
     requires high { Asks op (cached_state store.old) c.a_high c.b_high }
-    ensures gives { CombinesBoth op (cached_state store.old) (cached_state store.new) c.a_low c.b_low c.a_high c.b_high result }
-    ensures forks { 2 ≤ workers → c.var < first.old → ForksCombining op (cached_state store.old) (cached_state store.new) c.a_low c.b_low c.a_high c.b_high result }
+    ensures gives { CombinesBoth op (cached_state store.old) (cached_state store.new) c.a_low
+        c.b_low c.a_high c.b_high result }
+    ensures forks { 2 ≤ workers → c.var < first.old
+        → ForksCombining op (cached_state store.old) (cached_state store.new) c.a_low c.b_low
+        c.a_high c.b_high result }
     ensures first { first.new ≤ first.old }
 {
     if workers < 2 || *first <= c.var {
@@ -124,8 +135,8 @@ fn combine_halves<R: Threads + Sync, G: Gate + Sync>(
     combine_both(rt, gate, workers, store, op, c)
 }
 
-/// The result of a pointwise operation, by as many workers. It forks where its first variable is before `first`, which it
-/// lowers to that variable then.
+/// The result of a pointwise operation, by as many workers. It forks where its first variable is
+/// before `first`, which it lowers to that variable then.
 #[cycle(combined)]
 pub(crate) fn combine_in<R: Threads + Sync, G: Gate + Sync>(
     rt: &R,
@@ -141,7 +152,8 @@ pub(crate) fn combine_in<R: Threads + Sync, G: Gate + Sync>(
     requires op { is_pointwise op ≡ true }
     requires asks { Asks op (cached_state store.old) a b }
     ensures combines { Combines op (cached_state store.old) (cached_state store.new) a b result }
-    ensures full { OnErr result (IsForkedCombining op (cached_state store.old) (cached_state store.new) a b workers first.old) }
+    ensures full { OnErr result (IsForkedCombining op (cached_state store.old)
+        (cached_state store.new) a b workers first.old) }
     ensures first { first.new ≤ first.old }
 {
     match begin(store, op, a, b) {

@@ -29,8 +29,8 @@ pub enum Crew {
     Two(Box<Crew>, Box<Crew>),
 }
 
-/// So many job workers, each with room for so many answers. The operations of each have `each` workers, and those of the first
-/// `more` of them one more.
+/// So many job workers, each with room for so many answers. The operations of each have `each`
+/// workers, and those of the first `more` of them one more.
 pub fn make_crew(
     alloc: Global,
     room: u32,
@@ -41,7 +41,8 @@ pub fn make_crew(
     requires some { 1 ≤ job_workers }
     requires each { (1 ≤ each) × (each + min more 1 ≤ 16) }
     requires more { more ≤ job_workers }
-    ensures ready { IfOk result (λ c. (parts : ℕ) → job_workers * job_workers * 2 ^ 30 ≤ parts → IsReady room parts c) }
+    ensures ready { IfOk result (λ c. (parts : ℕ) → job_workers * job_workers * 2 ^ 30 ≤ parts
+        → IsReady room parts c) }
     ensures workers { IfOk result (λ c. workers_of c ≡ job_workers * each + more) }
     ensures halves { IfOk result (λ c. 2 ≤ job_workers → HasHalves c) }
 {

@@ -3,7 +3,8 @@ ghost use Rattle.std.specs.Prelude.{◌≡◌, ◌/◌, ◌-◌, ◌++◌, []};
 ghost use Rattle.std.specs.Thread.{IsSync};
 ghost use Rattle.job_counter.specs.Drawing.{drawing, IsOf};
 ghost use Rattle.computed_cache.specs.Cached.{cached_state};
-ghost use Rattle.fork_branches.specs.Work.{MayWork, Works, WorksInHalves, GoesOnDrawing, IsReady, IsSent, IsBack, HasHalves, answers_of};
+ghost use Rattle.fork_branches.specs.Work.{MayWork, Works, WorksInHalves, GoesOnDrawing, IsReady};
+ghost use Rattle.fork_branches.specs.Work.{IsSent, IsBack, HasHalves, answers_of};
 
 use crate::crew::Crew;
 use crate::forked::Forked;
@@ -26,8 +27,8 @@ pub struct Branch {
     result: Result<(), Full>,
 }
 
-// Both halves of a crew beside each other. The pass and the drawer are split before the branches start, and take in what both have
-// once they have ended, also where one of them is Full.
+// Both halves of a crew beside each other. The pass and the drawer are split before the branches
+// start, and take in what both have once they have ended, also where one of them is Full.
 #[cycle(crews)]
 fn work_both<R: Threads + Sync, J: Jobs>(
     rt: &R,
@@ -43,10 +44,14 @@ fn work_both<R: Threads + Sync, J: Jobs>(
     requires of { IsOf drawer.old counter.now }
     requires fresh { (drawing drawer.old).drawn ≡ [] }
     requires front { IsReady (J.tasks jobs.now).total ((drawing drawer.old).parts / 2) first.value }
-    requires back { IsReady (J.tasks jobs.now).total (((drawing drawer.old).parts - (drawing drawer.old).parts / 2) / 2) second.value }
+    requires back { IsReady (J.tasks jobs.now).total
+        (((drawing drawer.old).parts - (drawing drawer.old).parts / 2) / 2) second.value }
     ensures drawer { GoesOnDrawing (drawing drawer.old) (drawing drawer.new) }
-    ensures works { Works (J.tasks jobs.now) (cached_state pass.old) (cached_state pass.new) (drawing drawer.new).drawn (answers_of result.0.value ++ answers_of result.1.value) result.2 }
-    ensures halves { WorksInHalves (J.tasks jobs.now) (cached_state pass.old) (cached_state pass.new) }
+    ensures works { Works (J.tasks jobs.now) (cached_state pass.old) (cached_state pass.new)
+        (drawing drawer.new).drawn (answers_of result.0.value ++ answers_of result.1.value)
+        result.2 }
+    ensures halves { WorksInHalves (J.tasks jobs.now) (cached_state pass.old)
+        (cached_state pass.new) }
 {
     let table = pass.table();
     let one = pass.split().end().end();
@@ -54,14 +59,16 @@ fn work_both<R: Threads + Sync, J: Jobs>(
     let mine = counter.split(drawer);
     let other = counter.split(drawer);
     let front = move || -> Branch
-        requires { IsSync R.row × IsSent (J.tasks jobs.now) table.now counter.now one mine first.value }
+        requires { IsSync R.row × IsSent (J.tasks jobs.now) table.now counter.now one mine
+            first.value }
         ensures { IsBack (J.tasks jobs.entry.now) table.entry.now one mine result }
     {
         gate.enter(0);
         work_on(rt, gate, counter, table, jobs, one, mine, first)
     };
     let back = move || -> Branch
-        requires { IsSync R.row × IsSent (J.tasks jobs.now) table.now counter.now two other second.value }
+        requires { IsSync R.row × IsSent (J.tasks jobs.now) table.now counter.now two other
+            second.value }
         ensures { IsBack (J.tasks jobs.entry.now) table.entry.now two other result }
     {
         gate.enter(1);
@@ -103,7 +110,8 @@ fn work_on<R: Threads + Sync, J: Jobs>(
     }
 }
 
-/// Lets a crew draw numbers and run their jobs until there are none left, or until the table is full.
+/// Lets a crew draw numbers and run their jobs until there are none left, or until the table is
+/// full.
 #[cycle(crews)]
 pub fn work_in<R: Threads + Sync, J: Jobs>(
     rt: &R,
@@ -119,8 +127,10 @@ pub fn work_in<R: Threads + Sync, J: Jobs>(
     requires fresh { (drawing drawer.old).drawn ≡ [] }
     requires ready { IsReady (J.tasks jobs.now).total (drawing drawer.old).parts crew.old }
     ensures drawer { GoesOnDrawing (drawing drawer.old) (drawing drawer.new) }
-    ensures works { Works (J.tasks jobs.now) (cached_state pass.old) (cached_state pass.new) (drawing drawer.new).drawn (answers_of crew.new) result }
-    ensures halves { HasHalves crew.old → WorksInHalves (J.tasks jobs.now) (cached_state pass.old) (cached_state pass.new) }
+    ensures works { Works (J.tasks jobs.now) (cached_state pass.old) (cached_state pass.new)
+        (drawing drawer.new).drawn (answers_of crew.new) result }
+    ensures halves { HasHalves crew.old
+        → WorksInHalves (J.tasks jobs.now) (cached_state pass.old) (cached_state pass.new) }
 {
     match mem::replace(crew, Crew::Away) {
         Crew::Away => Ok(()),

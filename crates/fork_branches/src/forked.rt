@@ -12,12 +12,13 @@ use std::thread::Threads;
 
 /// The set operations, each in as many branches as there are workers.
 ///
-/// An operation forks where there are two workers or more, it goes on into two halves, and its first variable is before the first
-/// variable of every operation that went on into halves before it. So the first such operation forks, and few others do, at most
-/// one for each variable: a fork costs as much as some thousand nodes. Of the workers the first
-/// half gets those that the second half, with half of them rounded down, leaves. Each branch works on a pass of its own, which
-/// was split from that of the caller and is joined to it after both branches, and enters the gate first: place 0 in the first
-/// branch, and place 1 in the second. It takes no memory.
+/// An operation forks where there are two workers or more, it goes on into two halves, and its
+/// first variable is before the first variable of every operation that went on into halves before
+/// it. So the first such operation forks, and few others do, at most one for each variable: a fork
+/// costs as much as some thousand nodes. Of the workers the first half gets those that the second
+/// half, with half of them rounded down, leaves. Each branch works on a pass of its own, which was
+/// split from that of the caller and is joined to it after both branches, and enters the gate
+/// first: place 0 in the first branch, and place 1 in the second. It takes no memory.
 #[derive(Drop)]
 pub struct Forked<'g, R> {
     rt: &'g R,
@@ -63,10 +64,13 @@ impl<'g, 't, R: Threads + Sync> SetOps<CachedPass<'t>> for Forked<'g, R> {
         requires ready { IsSync R.row }
         requires a { Knows (cached_state store.old) a }
         requires b { Knows (cached_state store.old) b }
-        requires planned { let s = cached_state store.old in IsPlanned s (union_of s.vars (family s a) (family s b)) }
+        requires planned { let s = cached_state store.old in
+            IsPlanned s (union_of s.vars (family s a) (family s b)) }
         ensures ready { IsSync R.row }
-        ensures result { let s = cached_state store.old in Builds s (cached_state store.new) result (union_of s.vars (family s a) (family s b)) }
-        ensures full { OnErr result (IsForkedCombining Union (cached_state store.old) (cached_state store.new) a b (workers_for self.old) (forks_before self.old)) }
+        ensures result { let s = cached_state store.old in
+            Builds s (cached_state store.new) result (union_of s.vars (family s a) (family s b)) }
+        ensures full { OnErr result (IsForkedCombining Union (cached_state store.old)
+            (cached_state store.new) a b (workers_for self.old) (forks_before self.old)) }
         ensures workers { workers_for self.new ≡ workers_for self.old }
         ensures first { forks_before self.new ≤ forks_before self.old }
     {
@@ -86,10 +90,13 @@ impl<'g, 't, R: Threads + Sync> SetOps<CachedPass<'t>> for Forked<'g, R> {
         requires ready { IsSync R.row }
         requires a { Knows (cached_state store.old) a }
         requires b { Knows (cached_state store.old) b }
-        requires planned { let s = cached_state store.old in IsPlanned s (inter_of s.vars (family s a) (family s b)) }
+        requires planned { let s = cached_state store.old in
+            IsPlanned s (inter_of s.vars (family s a) (family s b)) }
         ensures ready { IsSync R.row }
-        ensures result { let s = cached_state store.old in Builds s (cached_state store.new) result (inter_of s.vars (family s a) (family s b)) }
-        ensures full { OnErr result (IsForkedCombining Inter (cached_state store.old) (cached_state store.new) a b (workers_for self.old) (forks_before self.old)) }
+        ensures result { let s = cached_state store.old in
+            Builds s (cached_state store.new) result (inter_of s.vars (family s a) (family s b)) }
+        ensures full { OnErr result (IsForkedCombining Inter (cached_state store.old)
+            (cached_state store.new) a b (workers_for self.old) (forks_before self.old)) }
         ensures workers { workers_for self.new ≡ workers_for self.old }
         ensures first { forks_before self.new ≤ forks_before self.old }
     {
@@ -109,10 +116,13 @@ impl<'g, 't, R: Threads + Sync> SetOps<CachedPass<'t>> for Forked<'g, R> {
         requires ready { IsSync R.row }
         requires a { Knows (cached_state store.old) a }
         requires b { Knows (cached_state store.old) b }
-        requires planned { let s = cached_state store.old in IsPlanned s (minus_of s.vars (family s a) (family s b)) }
+        requires planned { let s = cached_state store.old in
+            IsPlanned s (minus_of s.vars (family s a) (family s b)) }
         ensures ready { IsSync R.row }
-        ensures result { let s = cached_state store.old in Builds s (cached_state store.new) result (minus_of s.vars (family s a) (family s b)) }
-        ensures full { OnErr result (IsForkedCombining Minus (cached_state store.old) (cached_state store.new) a b (workers_for self.old) (forks_before self.old)) }
+        ensures result { let s = cached_state store.old in
+            Builds s (cached_state store.new) result (minus_of s.vars (family s a) (family s b)) }
+        ensures full { OnErr result (IsForkedCombining Minus (cached_state store.old)
+            (cached_state store.new) a b (workers_for self.old) (forks_before self.old)) }
         ensures workers { workers_for self.new ≡ workers_for self.old }
         ensures first { forks_before self.new ≤ forks_before self.old }
     {
@@ -132,10 +142,13 @@ impl<'g, 't, R: Threads + Sync> SetOps<CachedPass<'t>> for Forked<'g, R> {
         requires ready { IsSync R.row }
         requires a { Knows (cached_state store.old) a }
         requires b { Knows (cached_state store.old) b }
-        requires planned { let s = cached_state store.old in IsPlanned s (sum_of s.vars (family s a) (family s b)) }
+        requires planned { let s = cached_state store.old in
+            IsPlanned s (sum_of s.vars (family s a) (family s b)) }
         ensures ready { IsSync R.row }
-        ensures result { let s = cached_state store.old in Builds s (cached_state store.new) result (sum_of s.vars (family s a) (family s b)) }
-        ensures full { OnErr result (IsForkedCombining Xor (cached_state store.old) (cached_state store.new) a b (workers_for self.old) (forks_before self.old)) }
+        ensures result { let s = cached_state store.old in
+            Builds s (cached_state store.new) result (sum_of s.vars (family s a) (family s b)) }
+        ensures full { OnErr result (IsForkedCombining Xor (cached_state store.old)
+            (cached_state store.new) a b (workers_for self.old) (forks_before self.old)) }
         ensures workers { workers_for self.new ≡ workers_for self.old }
         ensures first { forks_before self.new ≤ forks_before self.old }
     {
@@ -157,8 +170,11 @@ impl<'g, 't, R: Threads + Sync> SetOps<CachedPass<'t>> for Forked<'g, R> {
         requires b { Knows (cached_state store.old) b }
         requires planned { let s = cached_state store.old in Covers s.plan (needs_of s Ones a b.0) }
         ensures ready { IsSync R.row }
-        ensures result { let s = cached_state store.old in Gives s (cached_state store.new) result (ones_of s.vars (family s a) (family s b)) (needs_of s Ones a b.0) }
-        ensures full { OnErr result (IsForkedFinding (cached_state store.old) (cached_state store.new) a b (workers_for self.old) (forks_before self.old)) }
+        ensures result { let s = cached_state store.old in
+            Gives s (cached_state store.new) result (ones_of s.vars (family s a) (family s b))
+            (needs_of s Ones a b.0) }
+        ensures full { OnErr result (IsForkedFinding (cached_state store.old)
+            (cached_state store.new) a b (workers_for self.old) (forks_before self.old)) }
         ensures workers { workers_for self.new ≡ workers_for self.old }
         ensures first { forks_before self.new ≤ forks_before self.old }
     {

@@ -28,5 +28,6 @@ pub trait Jobs: Sync {
         requires uses { KnowsUses (tasks self.now) (S.state store.old) }
         requires planned { Covers (S.state store.old).plan (needed_by (tasks self.now) number) }
         ensures ready { O.ready ops.new }
-        ensures result { Gives (S.state store.old) (S.state store.new) result ((tasks self.now).wanted number) (needed_by (tasks self.now) number) };
+        ensures result { Gives (S.state store.old) (S.state store.new) result
+            ((tasks self.now).wanted number) (needed_by (tasks self.now) number) };
 }

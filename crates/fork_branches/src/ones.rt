@@ -4,7 +4,8 @@ ghost use Rattle.std.specs.Thread.{IsSync};
 ghost use Rattle.bool_poly.specs.Parts.{AsksOnes, AsksWith};
 ghost use Rattle.unique_table.specs.Passes.{token_state, IsOf};
 ghost use Rattle.computed_cache.specs.Cached.{cached_state};
-ghost use Rattle.fork_branches.specs.Branches.{FindsOnes, FindsWith, FindsBoth, ForksFinding, IsForkedFinding};
+ghost use Rattle.fork_branches.specs.Branches.{FindsOnes, FindsWith, FindsBoth, ForksFinding};
+ghost use Rattle.fork_branches.specs.Branches.{IsForkedFinding};
 
 use crate::pairs::pair_of;
 use bool_poly::{begin_ones, finish_ones, ones_of, part_with};
@@ -19,7 +20,8 @@ use unique_table::{Shared, Token};
 fn ones_in_row(store: &mut CachedPass, c: Cofactors) -> Result<(Handle, Handle), Full>
     requires low { AsksOnes (cached_state store.old) c.a_low c.b_low }
     requires high { AsksWith (cached_state store.old) c.a_low c.a_high c.b_high }
-    ensures { FindsBoth (cached_state store.old) (cached_state store.new) c.a_low c.b_low c.a_high c.b_high result }
+    ensures { FindsBoth (cached_state store.old) (cached_state store.new) c.a_low c.b_low c.a_high
+        c.b_high result }
 {
     let lo = ones_of(store, c.a_low, c.b_low)?;
     let with = part_with(store, c.a_low, c.a_high, c.b_high)?;
@@ -27,8 +29,8 @@ fn ones_in_row(store: &mut CachedPass, c: Cofactors) -> Result<(Handle, Handle),
     Ok((lo, hi))
 }
 
-// Both halves beside each other. The pass is split before the branches start, and takes in what both know once they have ended,
-// also where one of them is Full.
+// Both halves beside each other. The pass is split before the branches start, and takes in what
+// both know once they have ended, also where one of them is Full.
 #[cycle(ones)]
 fn ones_both<R: Threads + Sync, G: Gate + Sync>(
     rt: &R,
@@ -40,8 +42,10 @@ fn ones_both<R: Threads + Sync, G: Gate + Sync>(
     requires workers { 2 ≤ workers }
     requires low { AsksOnes (cached_state store.old) c.a_low c.b_low }
     requires high { AsksWith (cached_state store.old) c.a_low c.a_high c.b_high }
-    ensures gives { FindsBoth (cached_state store.old) (cached_state store.new) c.a_low c.b_low c.a_high c.b_high result }
-    ensures forks { ForksFinding (cached_state store.old) (cached_state store.new) c.a_low c.b_low c.a_high c.b_high result }
+    ensures gives { FindsBoth (cached_state store.old) (cached_state store.new) c.a_low c.b_low
+        c.a_high c.b_high result }
+    ensures forks { ForksFinding (cached_state store.old) (cached_state store.new) c.a_low c.b_low
+        c.a_high c.b_high result }
 {
     let table = store.table();
     let first = store.split().end().end();
@@ -50,15 +54,19 @@ fn ones_both<R: Threads + Sync, G: Gate + Sync>(
     let more = workers - fewer;
     let (a_low, b_low, a_high, b_high) = (c.a_low, c.b_low, c.a_high, c.b_high);
     let front = move || -> (Token, Result<Handle, Full>)
-        requires { IsSync R.row × IsSync G.row × (1 ≤ more) × IsOf first table.now × AsksOnes (token_state first) a_low b_low }
-        ensures { IsOf result.0 table.entry.now × FindsOnes (token_state first) (token_state result.0) a_low b_low result.1 }
+        requires { IsSync R.row × IsSync G.row × (1 ≤ more) × IsOf first table.now
+            × AsksOnes (token_state first) a_low b_low }
+        ensures { IsOf result.0 table.entry.now
+            × FindsOnes (token_state first) (token_state result.0) a_low b_low result.1 }
     {
         gate.enter(0);
         ones_on(rt, gate, more, table, first, a_low, b_low)
     };
     let back = move || -> (Token, Result<Handle, Full>)
-        requires { IsSync R.row × IsSync G.row × (1 ≤ fewer) × IsOf second table.now × AsksWith (token_state second) a_low a_high b_high }
-        ensures { IsOf result.0 table.entry.now × FindsWith (token_state second) (token_state result.0) a_low a_high b_high result.1 }
+        requires { IsSync R.row × IsSync G.row × (1 ≤ fewer) × IsOf second table.now
+            × AsksWith (token_state second) a_low a_high b_high }
+        ensures { IsOf result.0 table.entry.now
+            × FindsWith (token_state second) (token_state result.0) a_low a_high b_high result.1 }
     {
         gate.enter(1);
         with_on(rt, gate, fewer, table, second, a_low, a_high, b_high)
@@ -92,7 +100,8 @@ fn ones_on<R: Threads + Sync, G: Gate + Sync>(
     (pass.end().end(), r)
 }
 
-// What the second branch runs: the points with the variable, at which the sum of both parts of the polynomial is 1.
+// What the second branch runs: the points with the variable, at which the sum of both parts of the
+// polynomial is 1.
 #[cycle(ones)]
 fn with_on<R: Threads + Sync, G: Gate + Sync>(
     rt: &R,
@@ -135,8 +144,8 @@ fn with_in<R: Threads + Sync, G: Gate + Sync>(
     ones_in(rt, gate, workers, &mut first, store, with, points)
 }
 
-// Both halves: in two branches where there are workers for them and each operation before began at a later variable, and else
-// one after the other.
+// Both halves: in two branches where there are workers for them and each operation before began at
+// a later variable, and else one after the other.
 #[cycle(ones)]
 fn ones_halves<R: Threads + Sync, G: Gate + Sync>(
     rt: &R,
@@ -149,8 +158,11 @@ fn ones_halves<R: Threads + Sync, G: Gate + Sync>(
     requires workers { 1 ≤ workers }
     requires low { AsksOnes (cached_state store.old) c.a_low c.b_low }
     requires high { AsksWith (cached_state store.old) c.a_low c.a_high c.b_high }
-    ensures gives { FindsBoth (cached_state store.old) (cached_state store.new) c.a_low c.b_low c.a_high c.b_high result }
-    ensures forks { 2 ≤ workers → c.var < first.old → ForksFinding (cached_state store.old) (cached_state store.new) c.a_low c.b_low c.a_high c.b_high result }
+    ensures gives { FindsBoth (cached_state store.old) (cached_state store.new) c.a_low c.b_low
+        c.a_high c.b_high result }
+    ensures forks { 2 ≤ workers → c.var < first.old
+        → ForksFinding (cached_state store.old) (cached_state store.new) c.a_low c.b_low c.a_high
+        c.b_high result }
     ensures first { first.new ≤ first.old }
 {
     if workers < 2 || *first <= c.var {
@@ -160,8 +172,8 @@ fn ones_halves<R: Threads + Sync, G: Gate + Sync>(
     ones_both(rt, gate, workers, store, c)
 }
 
-/// The points of `set` at which the polynomial `h` is 1, by as many workers. It forks where the first variable of both is before
-/// `first`, which it lowers to that variable then.
+/// The points of `set` at which the polynomial `h` is 1, by as many workers. It forks where the
+/// first variable of both is before `first`, which it lowers to that variable then.
 #[cycle(ones)]
 pub(crate) fn ones_in<R: Threads + Sync, G: Gate + Sync>(
     rt: &R,
@@ -175,7 +187,8 @@ pub(crate) fn ones_in<R: Threads + Sync, G: Gate + Sync>(
     requires workers { 1 ≤ workers }
     requires asks { AsksOnes (cached_state store.old) h set }
     ensures finds { FindsOnes (cached_state store.old) (cached_state store.new) h set result }
-    ensures full { OnErr result (IsForkedFinding (cached_state store.old) (cached_state store.new) h set workers first.old) }
+    ensures full { OnErr result (IsForkedFinding (cached_state store.old) (cached_state store.new) h
+        set workers first.old) }
     ensures first { first.new ≤ first.old }
 {
     match begin_ones(store, h, set) {

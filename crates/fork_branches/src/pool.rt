@@ -26,7 +26,8 @@ impl Solved {
 
 /// What runs lists of jobs, and counts the jobs that it answered: `done`.
 pub trait Pool {
-    ghost use Rattle.std.specs.Prelude.{◌≡◌, ◌≤◌, ◌<◌, ◌+◌, ◌^◌, ℕ, length, IfOk, IfErr, OnOk, OnErr};
+    ghost use Rattle.std.specs.Prelude.{◌≡◌, ◌≤◌, ◌<◌, ◌+◌, ◌^◌, ℕ, length, IfOk, IfErr, OnOk};
+    ghost use Rattle.std.specs.Prelude.{OnErr};
     ghost use Rattle.node_store.specs.Stores.{Grows};
     ghost use Rattle.computed_cache.specs.Cached.{cached_state};
     ghost use Rattle.fork_branches.specs.Work.{MayWork, WorksInHalves};
@@ -34,7 +35,8 @@ pub trait Pool {
 
     ghost done: { Self → ℕ };
 
-    /// Counts the jobs of a list, and gives their handles. Whoever writes a pool of their own counts here, and passes on.
+    /// Counts the jobs of a list, and gives their handles. Whoever writes a pool of their own
+    /// counts here, and passes on.
     fn answered(&mut self, solved: Solved) -> Vec<Handle>
         requires { done self.old + length solved.handles.items < 2 ^ 31 }
         ensures done { done self.new ≡ done self.old + length solved.handles.items }
@@ -54,9 +56,12 @@ pub trait Pool {
         requires may { MayWork (J.tasks jobs.now) (cached_state pass.old) }
         requires room { done self.old < 2 ^ 30 }
         ensures grows { Grows (cached_state pass.old) (cached_state pass.new) }
-        ensures solved { IfOk result (λ v. AreSolved (J.tasks jobs.now) (cached_state pass.old) (cached_state pass.new) v.items) }
+        ensures solved { IfOk result
+            (λ v. AreSolved (J.tasks jobs.now) (cached_state pass.old) (cached_state pass.new)
+            v.items) }
         ensures refused { IfErr result (Refuses (cached_state pass.old) (cached_state pass.new)) }
-        ensures halves { AreRun result → 2 ≤ workers → 2 ≤ (J.tasks jobs.now).total → WorksInHalves (J.tasks jobs.now) (cached_state pass.old) (cached_state pass.new) }
+        ensures halves { AreRun result → 2 ≤ workers → 2 ≤ (J.tasks jobs.now).total
+            → WorksInHalves (J.tasks jobs.now) (cached_state pass.old) (cached_state pass.new) }
         ensures done { OnOk result (done self.new ≡ done self.old + (J.tasks jobs.now).total) }
         ensures undone { OnErr result (done self.new ≡ done self.old) }
     {

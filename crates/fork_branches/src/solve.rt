@@ -4,7 +4,8 @@ ghost use Rattle.node_store.specs.Stores.{Grows};
 ghost use Rattle.computed_cache.specs.Cached.{cached_state};
 ghost use Rattle.job_counter.specs.Drawing.{drawing, first_drawing, name};
 ghost use Rattle.job_counter.specs.declared.counter.TheConstants.{ALL_PARTS};
-ghost use Rattle.fork_branches.specs.Work.{MayWork, WorksInHalves, IsReady, HasHalves, answers_of, workers_of};
+ghost use Rattle.fork_branches.specs.Work.{MayWork, WorksInHalves, IsReady, HasHalves, answers_of};
+ghost use Rattle.fork_branches.specs.Work.{workers_of};
 ghost use Rattle.fork_branches.specs.Solves.{AreSolved, Refuses, AreRun, placed};
 
 use crate::crew::{Answer, Crew, make_crew};
@@ -108,11 +109,12 @@ fn put_all(crew: &Crew, handles: &mut [Handle])
 
 /// Runs all jobs, and gives the handle of each, by number.
 ///
-/// As many job workers as there are workers, or as there are jobs where these are fewer, draw the numbers one by one. They are
-/// started by halves, each of which enters the gate first: place 0 in the first half, and place 1 in the second. The workers are
-/// shared out among them evenly, the first ones getting one more, and a job worker's operations run in as many branches as it has
-/// workers. All memory is taken before the first number is drawn. Full where a worker found the table full, once all have ended: the
-/// pass knows, holds and did what all workers did then too.
+/// As many job workers as there are workers, or as there are jobs where these are fewer, draw the
+/// numbers one by one. They are started by halves, each of which enters the gate first: place 0 in
+/// the first half, and place 1 in the second. The workers are shared out among them evenly, the
+/// first ones getting one more, and a job worker's operations run in as many branches as it has
+/// workers. All memory is taken before the first number is drawn. Full where a worker found the
+/// table full, once all have ended: the pass knows, holds and did what all workers did then too.
 pub fn solve_all<R: Threads + Sync, J: Jobs>(
     rt: &R,
     alloc: Global,
@@ -124,9 +126,11 @@ pub fn solve_all<R: Threads + Sync, J: Jobs>(
     requires workers { (1 ≤ workers) × (workers ≤ 16) }
     requires may { MayWork (J.tasks jobs.now) (cached_state pass.old) }
     ensures grows { Grows (cached_state pass.old) (cached_state pass.new) }
-    ensures solved { IfOk result (λ v. AreSolved (J.tasks jobs.now) (cached_state pass.old) (cached_state pass.new) v.items) }
+    ensures solved { IfOk result (λ v. AreSolved (J.tasks jobs.now) (cached_state pass.old)
+        (cached_state pass.new) v.items) }
     ensures refused { IfErr result (Refuses (cached_state pass.old) (cached_state pass.new)) }
-    ensures halves { AreRun result → 2 ≤ workers → 2 ≤ (J.tasks jobs.now).total → WorksInHalves (J.tasks jobs.now) (cached_state pass.old) (cached_state pass.new) }
+    ensures halves { AreRun result → 2 ≤ workers → 2 ≤ (J.tasks jobs.now).total
+        → WorksInHalves (J.tasks jobs.now) (cached_state pass.old) (cached_state pass.new) }
 {
     let count = jobs.count();
     if count == 0 {

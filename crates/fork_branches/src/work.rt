@@ -28,7 +28,8 @@ pub fn work<'t, J: Jobs, O: SetOps<CachedPass<'t>>>(
     requires none { answers.old.items ≡ [] }
     requires room { (J.tasks jobs.now).total ≤ vec_capacity answers.old }
     ensures drawer { GoesOnDrawing (drawing drawer.old) (drawing drawer.new) }
-    ensures works { Works (J.tasks jobs.now) (cached_state pass.old) (cached_state pass.new) (drawing drawer.new).drawn answers.new.items result }
+    ensures works { Works (J.tasks jobs.now) (cached_state pass.old) (cached_state pass.new)
+        (drawing drawer.new).drawn answers.new.items result }
 {
     let count = jobs.count();
     for _turn in 0..count {

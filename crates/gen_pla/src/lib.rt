@@ -3,7 +3,8 @@
 
 ghost use Rattle.std.specs.Prelude.{◌≡◌, ◌<◌, ◌*◌, ◌^◌, IfOk};
 ghost use Rattle.lattice.specs.Family.{divides};
-ghost use Rattle.gen_pla.specs.Generated.{point, pairs, outputs_at, generated, generated_row, generated_rows};
+ghost use Rattle.gen_pla.specs.Generated.{point, pairs, outputs_at, generated, generated_row};
+ghost use Rattle.gen_pla.specs.Generated.{generated_rows};
 ghost use Rattle.pla_reader.specs.Reading.{description};
 ghost use Rattle.lattice.specs.Rows.{IsConsistent};
 
@@ -78,9 +79,10 @@ fn generated_row(seed: u64, k: u32) -> Row
     }
 }
 
-/// The description that the seed makes, of any seed: 16 inputs, 2 outputs, the type fr, no names, and 256 rows that fix one
-/// point each, of an arithmetic progression by 2^16 with an odd step. Output 1 is 1 where the point has an odd number of bits
-/// set, and output 2 where an odd number of pairs of neighbouring bits are both set.
+/// The description that the seed makes, of any seed: 16 inputs, 2 outputs, the type fr, no names,
+/// and 256 rows that fix one point each, of an arithmetic progression by 2^16 with an odd step.
+/// Output 1 is 1 where the point has an odd number of bits set, and output 2 where an odd number of
+/// pairs of neighbouring bits are both set.
 #[tactic(auto, using(crate::proofs::Progression::row_rules))]
 pub fn generate(alloc: Global, seed: u64) -> Result<Pla, Memory>
     ensures file { IfOk result (λ p. description p ≡ generated seed) }

@@ -1,4 +1,5 @@
-//! Whole runs over devices that fail, over devices that watch how they are used, and over files that were cut short.
+//! Whole runs over devices that fail, over devices that watch how they are used, and over files
+//! that were cut short.
 #![tactic(auto)]
 
 #[cfg(test)]

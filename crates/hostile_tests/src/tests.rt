@@ -49,7 +49,8 @@ fn run_in<R: Threads + Sync, S: Source, K: Sink, E: Sink>(
     ))
 }
 
-// A run without watchers: its words beside the program's name, what it reads, and the calls that fail.
+// A run without watchers: its words beside the program's name, what it reads, and the calls that
+// fail.
 #[derive(Clone, Copy)]
 struct Case<'a> {
     mode: &'a str,
@@ -165,14 +166,15 @@ fn a_failed_report_changes_no_status(rt: HostRuntime) -> Result<(), Fail> {
 fn add(watchers: &mut Vec<Box<dyn Watch>>, watcher: Box<dyn Watch>) -> Result<(), AllocError>
     requires untold { All (λ s. s.told ≡ []) (states_by told patience watchers.old.items) }
     requires fresh { told watcher ≡ [] }
-    ensures untold { OnOk result (All (λ s. s.told ≡ []) (states_by told patience watchers.new.items)) }
+    ensures untold { OnOk result (All (λ s. s.told ≡ [])
+        (states_by told patience watchers.new.items)) }
 {
     watchers.push(watcher)?;
     Ok(())
 }
 
-// Runs on two outputs, where one write may fail, and compares the status, how many bytes were taken, and how many terms the
-// watcher was told of: one for each output.
+// Runs on two outputs, where one write may fail, and compares the status, how many bytes were
+// taken, and how many terms the watcher was told of: one for each output.
 fn check_write<R: Threads + Abort + Sync>(
     rt: &R,
     alloc: Global,
@@ -242,8 +244,8 @@ fn impatient_watchers_leave(rt: HostRuntime) -> Result<(), Fail> {
     Ok(())
 }
 
-// A source of so many line feeds, which counts its calls, those among them that came with a buffer of another length than is
-// due, and those that came after a call had given none.
+// A source of so many line feeds, which counts its calls, those among them that came with a buffer
+// of another length than is due, and those that came after a call had given none.
 #[derive(Drop)]
 struct Measured {
     length: usize,
@@ -320,7 +322,8 @@ fn reads_have_a_buffer_and_an_end(rt: HostRuntime) -> Result<(), Fail> {
     Ok(())
 }
 
-// A sink that takes at most eight bytes per call, and keeps the lengths of the pieces that it was given.
+// A sink that takes at most eight bytes per call, and keeps the lengths of the pieces that it was
+// given.
 #[derive(Drop)]
 struct Pieces {
     lengths: ArrayVec<usize, 8>,

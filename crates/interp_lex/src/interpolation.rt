@@ -23,8 +23,12 @@ pub fn least<S: Store, O: SetOps<S>>(
     requires disjoint { let s = S.state store.old in AreDisjoint (family s zeros) (family s ones) }
     requires planned { let s = S.state store.old in Covers s.plan (needs_of s Least zeros ones.0) }
     requires ready { O.ready ops.old }
-    ensures result { let s = S.state store.old in Gives s (S.state store.new) result (interpolate s.vars (family s zeros) (family s ones)) (needs_of s Least zeros ones.0) }
-    ensures least { let s = S.state store.old in IfOk result (λ r. IsLeast s.vars (family s zeros) (family s ones) (family (S.state store.new) r)) }
+    ensures result { let s = S.state store.old in
+        Gives s (S.state store.new) result (interpolate s.vars (family s zeros) (family s ones))
+        (needs_of s Least zeros ones.0) }
+    ensures least { let s = S.state store.old in
+        IfOk result (λ r. IsLeast s.vars (family s zeros) (family s ones)
+        (family (S.state store.new) r)) }
     ensures ready { O.ready ops.new }
 {
     if ones.0 == 0 {

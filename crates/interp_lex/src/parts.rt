@@ -2,7 +2,8 @@
 ghost use Rattle.lattice.specs.Family.{Covers};
 ghost use Rattle.lattice.specs.WorkingLists.{working_set};
 ghost use Rattle.node_store.specs.Stores.{Knows, family, Gives};
-ghost use Rattle.interp_lex.specs.Parts.{common_of, common_list, replaced_of, replaced_list, upper_list, lower_list, lower_of, AreKnown};
+ghost use Rattle.interp_lex.specs.Parts.{common_of, common_list, replaced_of, replaced_list};
+ghost use Rattle.interp_lex.specs.Parts.{upper_list, lower_list, lower_of, AreKnown};
 ghost use Rattle.set_algebra.specs.GivenPoints.{GivesPoints};
 
 use bool_poly::SetOps;
@@ -22,9 +23,15 @@ fn common<S: Store, O: SetOps<S>>(
     requires b { Knows (S.state store.old) b }
     requires c { Knows (S.state store.old) c }
     requires d { Knows (S.state store.old) d }
-    requires planned { let s = S.state store.old in Covers s.plan (working_set s.vars (common_list s.vars (family s a) (family s b) (family s c) (family s d))) }
+    requires planned { let s = S.state store.old in
+        Covers s.plan (working_set s.vars
+        (common_list s.vars (family s a) (family s b) (family s c) (family s d))) }
     requires ready { O.ready ops.old }
-    ensures result { let s = S.state store.old in Gives s (S.state store.new) result (common_of s.vars (family s a) (family s b) (family s c) (family s d)) (working_set s.vars (common_list s.vars (family s a) (family s b) (family s c) (family s d))) }
+    ensures result { let s = S.state store.old in
+        Gives s (S.state store.new) result
+        (common_of s.vars (family s a) (family s b) (family s c) (family s d))
+        (working_set s.vars (common_list s.vars (family s a) (family s b) (family s c)
+        (family s d))) }
     ensures ready { O.ready ops.new }
 {
     let first = ops.inter(store, a, b)?;
@@ -41,10 +48,17 @@ fn replaced<S: Store, O: SetOps<S>>(
     high: Handle,
     removed: Handle,
 ) -> Result<Handle, Full>
-    requires known { let s = S.state store.old in Knows s low × Knows s added × Knows s high × Knows s removed }
-    requires planned { let s = S.state store.old in Covers s.plan (working_set s.vars (replaced_list s.vars (family s low) (family s added) (family s high) (family s removed))) }
+    requires known { let s = S.state store.old in Knows s low × Knows s added × Knows s high
+        × Knows s removed }
+    requires planned { let s = S.state store.old in
+        Covers s.plan (working_set s.vars
+        (replaced_list s.vars (family s low) (family s added) (family s high) (family s removed))) }
     requires ready { O.ready ops.old }
-    ensures result { let s = S.state store.old in Gives s (S.state store.new) result (replaced_of s.vars (family s low) (family s added) (family s high) (family s removed)) (working_set s.vars (replaced_list s.vars (family s low) (family s added) (family s high) (family s removed))) }
+    ensures result { let s = S.state store.old in
+        Gives s (S.state store.new) result
+        (replaced_of s.vars (family s low) (family s added) (family s high) (family s removed))
+        (working_set s.vars (replaced_list s.vars (family s low) (family s added) (family s high)
+        (family s removed))) }
     ensures ready { O.ready ops.new }
 {
     let first = ops.union(store, low, added)?;
@@ -52,16 +66,26 @@ fn replaced<S: Store, O: SetOps<S>>(
     ops.union(store, first, second)
 }
 
-/// The points at which the part with the variable is fixed: those that are given both with and without it.
+/// The points at which the part with the variable is fixed: those that are given both with and
+/// without it.
 pub fn upper_part<S: Store, O: SetOps<S>>(
     store: &mut S,
     ops: &mut O,
     c: Cofactors,
 ) -> Result<ValuedPoints, Full>
     requires known { AreKnown (S.state store.old) c }
-    requires planned { let s = S.state store.old in Covers s.plan (working_set s.vars (upper_list s.vars (family s c.a_low) (family s c.a_high) (family s c.b_low) (family s c.b_high))) }
+    requires planned { let s = S.state store.old in
+        Covers s.plan (working_set s.vars
+        (upper_list s.vars (family s c.a_low) (family s c.a_high) (family s c.b_low)
+        (family s c.b_high))) }
     requires ready { O.ready ops.old }
-    ensures result { let s = S.state store.old in GivesPoints s (S.state store.new) result (common_of s.vars (family s c.a_low) (family s c.a_high) (family s c.b_low) (family s c.b_high)) (common_of s.vars (family s c.a_low) (family s c.b_high) (family s c.b_low) (family s c.a_high)) (working_set s.vars (upper_list s.vars (family s c.a_low) (family s c.a_high) (family s c.b_low) (family s c.b_high))) }
+    ensures result { let s = S.state store.old in
+        GivesPoints s (S.state store.new) result
+        (common_of s.vars (family s c.a_low) (family s c.a_high) (family s c.b_low)
+        (family s c.b_high)) (common_of s.vars (family s c.a_low) (family s c.b_high)
+        (family s c.b_low) (family s c.a_high))
+        (working_set s.vars (upper_list s.vars (family s c.a_low) (family s c.a_high)
+        (family s c.b_low) (family s c.b_high))) }
     ensures ready { O.ready ops.new }
 {
     let zeros = common(store, ops, c.a_low, c.a_high, c.b_low, c.b_high)?;
@@ -78,9 +102,17 @@ pub fn lower_part<S: Store, O: SetOps<S>>(
 ) -> Result<ValuedPoints, Full>
     requires known { AreKnown (S.state store.old) c }
     requires h { Knows (S.state store.old) h }
-    requires planned { let s = S.state store.old in Covers s.plan (working_set s.vars (lower_list s.vars (family s h) (family s c.a_low) (family s c.a_high) (family s c.b_low) (family s c.b_high))) }
+    requires planned { let s = S.state store.old in
+        Covers s.plan (working_set s.vars
+        (lower_list s.vars (family s h) (family s c.a_low) (family s c.a_high) (family s c.b_low)
+        (family s c.b_high))) }
     requires ready { O.ready ops.old }
-    ensures result { let s = S.state store.old in GivesPoints s (S.state store.new) result (lower_of s.vars (family s h) (family s c.a_low) (family s c.a_high) (family s c.b_high)) (lower_of s.vars (family s h) (family s c.b_low) (family s c.b_high) (family s c.a_high)) (working_set s.vars (lower_list s.vars (family s h) (family s c.a_low) (family s c.a_high) (family s c.b_low) (family s c.b_high))) }
+    ensures result { let s = S.state store.old in
+        GivesPoints s (S.state store.new) result
+        (lower_of s.vars (family s h) (family s c.a_low) (family s c.a_high) (family s c.b_high))
+        (lower_of s.vars (family s h) (family s c.b_low) (family s c.b_high) (family s c.a_high))
+        (working_set s.vars (lower_list s.vars (family s h) (family s c.a_low) (family s c.a_high)
+        (family s c.b_low) (family s c.b_high))) }
     ensures ready { O.ready ops.new }
 {
     let zeros_at_one = ops.ones_of(store, h, c.a_high)?;

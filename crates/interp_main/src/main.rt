@@ -1,6 +1,6 @@
-//! `interp MODE [--workers N] [--nodes B] [--terms T] [--seed S] [--order NAMES]`: reads a description from standard
-//! input, and writes least Boolean polynomials to standard output and a line of progress for each of the first outputs to standard
-//! error.
+//! `interp MODE [--workers N] [--nodes B] [--terms T] [--seed S] [--order NAMES]`: reads a
+//! description from standard input, and writes least Boolean polynomials to standard output and a
+//! line of progress for each of the first outputs to standard error.
 #![tactic(auto)]
 
 ghost use Rattle.std.specs.Prelude.{◌≡◌, [], All, IfOk};
@@ -22,7 +22,8 @@ const PATIENCE: u32 = 16;
 // A list of one watcher, who was told nothing.
 fn alone(alloc: Global, watcher: Box<dyn Watch>) -> Result<Vec<Box<dyn Watch>>, Memory>
     requires { told watcher ≡ [] }
-    ensures { IfOk result (λ watchers. All (λ s. s.told ≡ []) (states_by told patience watchers.items)) }
+    ensures { IfOk result (λ watchers. All (λ s. s.told ≡ [])
+        (states_by told patience watchers.items)) }
 {
     let mut watchers = Vec::with_capacity(alloc, 1)?;
     watchers.push(watcher)?;
@@ -34,7 +35,8 @@ fn without_memory(err: &mut StdSink<Stderr>) -> ExitCode {
     ExitCode::from(report(err, Outcome::Memory))
 }
 
-// Runs on the standard streams, with one watcher that writes lines of progress to standard error. Its branches wait at no gate.
+// Runs on the standard streams, with one watcher that writes lines of progress to standard error.
+// Its branches wait at no gate.
 fn main(rt: HostRuntime) -> ExitCode {
     let mut err = StdSink::new(rt.stderr());
     let lines = Lines::new(StdSink::new(rt.stderr()), PATIENCE);

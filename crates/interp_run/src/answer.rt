@@ -46,8 +46,8 @@ fn notes_of(alloc: Global, shown: &[Shown]) -> Result<Notes, AllocError>
     Ok(Notes::from_vec(notes))
 }
 
-/// The answer to a job of mode anf or basis on the bytes, or how the run ends without it: as is due, or for want of memory. The
-/// pool answers the jobs, also where no answer comes of them.
+/// The answer to a job of mode anf or basis on the bytes, or how the run ends without it: as is
+/// due, or for want of memory. The pool answers the jobs, also where no answer comes of them.
 pub fn answer_of<R: Threads + Sync, P: Pool>(
     rt: &R,
     alloc: Global,
@@ -59,7 +59,8 @@ pub fn answer_of<R: Threads + Sync, P: Pool>(
     requires mode { (job.now.mode ≡ Anf) ⊎ (job.now.mode ≡ Basis) }
     requires within { IsWithin job.now }
     requires fresh { P.done pool.old ≡ 0 }
-    ensures ok { IfOk result (λ a. IsDue job.now bytes.now (record { outcome = outcomes.Done; pages = a.pages; notes = a.notes })) }
+    ensures ok { IfOk result (λ a. IsDue job.now bytes.now
+        (record { outcome = outcomes.Done; pages = a.pages; notes = a.notes })) }
     ensures jobs { IfOk result (λ a. least_jobs job.now.mode a.notes ≤ P.done pool.new) }
     ensures few { IfOk result (λ a. (length a.notes ≡ length a.pages) × (length a.pages ≤ 64)) }
     ensures err { IfErr result (EndsWithout job.now bytes.now) }

@@ -1,5 +1,6 @@
 //! Phase 2 of a run: the elements of the bases of all outputs, from the leads that phase 1 found.
-ghost use Rattle.std.specs.Prelude.{◌≡◌, ◌+◌, ◌<◌, ◌≤◌, ◌^◌, ◌++◌, [], IfOk, IsErrOf, OnOk, length, map, reverse, sum_by};
+ghost use Rattle.std.specs.Prelude.{◌≡◌, ◌+◌, ◌<◌, ◌≤◌, ◌^◌, ◌++◌, [], IfOk, IsErrOf, OnOk, length};
+ghost use Rattle.std.specs.Prelude.{map, reverse, sum_by};
 ghost use Rattle.lattice.specs.Family.{Covers};
 ghost use Rattle.lattice.specs.Rows.{IsConsistent};
 ghost use Rattle.lattice.specs.WorkingLists.{output_numbers, second_phase, working_set};
@@ -8,7 +9,8 @@ ghost use Rattle.lattice.specs.declared.kind.Mode.TheVariants.{Basis};
 ghost use Rattle.node_store.specs.Stores.{Grows, IsFull};
 ghost use Rattle.computed_cache.specs.Cached.{cached_state};
 ghost use Rattle.pla_reader.specs.Reading.{description};
-ghost use Rattle.interp_run.specs.Phases.{AreGrouped, AreLeads, AreOf, IsFirst, IsSecond, element_task, first_tasks, second_tasks, terms_of};
+ghost use Rattle.interp_run.specs.Phases.{AreGrouped, AreLeads, AreOf, IsFirst, IsSecond};
+ghost use Rattle.interp_run.specs.Phases.{element_task, first_tasks, second_tasks, terms_of};
 
 use crate::phases::{First, Solved, Stop};
 use crate::tasks::{Part, Task, Tasks, all_done};
@@ -33,8 +35,8 @@ pub(crate) fn no_leads(alloc: Global, outputs: u32) -> Result<MonoLists, Memory>
     Ok(lists)
 }
 
-/// The leads of each output, from the greatest down, in mode basis, where there are no more than `limit` terms in what was found:
-/// in the polynomials and, as the leads, of the bases.
+/// The leads of each output, from the greatest down, in mode basis, where there are no more than
+/// `limit` terms in what was found: in the polynomials and, as the leads, of the bases.
 pub(crate) fn lead_lists<S: Store>(
     alloc: Global,
     store: &mut S,
@@ -42,7 +44,8 @@ pub(crate) fn lead_lists<S: Store>(
     found: &[Handle],
     limit: u64,
 ) -> Result<MonoLists, Stop>
-    requires { AreOf (S.state store.old) (description pla.now) found.now (first_tasks (description pla.now) Basis) }
+    requires { AreOf (S.state store.old) (description pla.now) found.now
+        (first_tasks (description pla.now) Basis) }
     ensures leads { IfOk result (AreLeads (description pla.now) Basis) }
     ensures within { OnOk result (terms_of (S.state store.old) found.now ≤ limit) }
     ensures terms { IsErrOf result Stop.Terms → limit < terms_of (S.state store.old) found.now }
@@ -58,7 +61,8 @@ pub(crate) fn lead_lists<S: Store>(
 
 // The tasks with those for the elements of an output behind them, by ascending lead.
 fn with_elements(mut tasks: Vec<Task>, output: u32, leads: &Monos) -> Result<Vec<Task>, Memory>
-    ensures { IfOk result (λ all. all.items ≡ tasks.items ++ map (element_task output) (reverse leads.now)) }
+    ensures { IfOk result (λ all. all.items
+        ≡ tasks.items ++ map (element_task output) (reverse leads.now)) }
 {
     for lead in leads.as_slice().iter().rev() {
         tasks.push(Task {
@@ -72,7 +76,8 @@ fn with_elements(mut tasks: Vec<Task>, output: u32, leads: &Monos) -> Result<Vec
 // The tasks of phase 2: the elements of each output.
 fn second_tasks(alloc: Global, pla: &Pla, leads: &[Monos]) -> Result<Vec<Task>, Memory>
     requires leads { length leads.now ≡ pla.now.outputs }
-    ensures { IfOk result (λ tasks. (mode : Mode) → AreLeads (description pla.now) mode leads.now → tasks.items ≡ second_tasks (description pla.now) mode) }
+    ensures { IfOk result (λ tasks. (mode : Mode) → AreLeads (description pla.now) mode leads.now
+        → tasks.items ≡ second_tasks (description pla.now) mode) }
 {
     let mut list = Vec::new(alloc);
     for before in 0..pla.outputs {
@@ -90,7 +95,8 @@ fn grouped(
 ) -> Result<Vec<Solved>, Memory>
     requires polynomials { length leads.now ≤ length polynomials.now }
     requires elements { length elements.now ≡ sum_by length leads.now }
-    ensures { IfOk result (λ solved. AreGrouped polynomials.now leads.now elements.now solved.items) }
+    ensures { IfOk result (λ solved. AreGrouped polynomials.now leads.now elements.now
+        solved.items) }
 {
     let mut solved = Vec::new(alloc);
     let mut rest = elements;
@@ -125,13 +131,18 @@ pub(crate) fn second_phase<R: Threads + Sync, P: Pool>(
     requires first { IsFirst (cached_state store.old) (description pla.now) mode first.now }
     requires leads { AreLeads (description pla.now) mode leads.now }
     requires few { length (second_tasks (description pla.now) mode) ≤ 1000000 }
-    requires planned { Covers (cached_state store.old).plan (working_set pla.now.inputs (second_phase pla.now.inputs pla.now.outputs pla.now.kind pla.now.rows mode)) }
+    requires planned { Covers (cached_state store.old).plan
+        (working_set pla.now.inputs (second_phase pla.now.inputs pla.now.outputs pla.now.kind
+        pla.now.rows mode)) }
     ensures grows { Grows (cached_state store.old) (cached_state store.new) }
-    ensures solved { IfOk result (λ solved. IsSecond (cached_state store.new) (description pla.now) mode solved.items) }
-    ensures jobs { OnOk result (P.done pool.old + length (second_tasks (description pla.now) mode) ≤ P.done pool.new) }
+    ensures solved { IfOk result (λ solved. IsSecond (cached_state store.new)
+        (description pla.now) mode solved.items) }
+    ensures jobs { OnOk result (P.done pool.old + length (second_tasks (description pla.now) mode)
+        ≤ P.done pool.new) }
     ensures least { P.done pool.old ≤ P.done pool.new }
     ensures most { P.done pool.new ≤ P.done pool.old + 2 ^ 24 }
-    ensures full { IsErrOf result Stop.Full → IsFull (cached_state store.old) (cached_state store.new) }
+    ensures full { IsErrOf result Stop.Full
+        → IsFull (cached_state store.old) (cached_state store.new) }
     ensures counted { ¬ IsErrOf result Stop.Terms }
 {
     let list = second_tasks(alloc, pla, leads)?;

@@ -1,4 +1,5 @@
-//! The care sets of all outputs: the covers of their sets, as jobs of a pool, and what is found from these.
+//! The care sets of all outputs: the covers of their sets, as jobs of a pool, and what is found
+//! from these.
 ghost use Rattle.std.specs.Prelude.{◌≡◌, ◌+◌, ◌<◌, ◌≤◌, ◌^◌, IfOk, IsErrOf, length};
 ghost use Rattle.std.specs.List.{flat_map};
 ghost use Rattle.lattice.specs.Family.{Covers};
@@ -21,7 +22,8 @@ use set_algebra::ValuedPoints;
 use std::alloc::Global;
 use std::thread::Threads;
 
-// The covers of all outputs, from the cubes of the rows: those of output 1 first, in the order of `sets_of`.
+// The covers of all outputs, from the cubes of the rows: those of output 1 first, in the order of
+// `sets_of`.
 #[derive(Clone, Copy)]
 struct CoverJobs<'a> {
     pla: &'a Pla,
@@ -59,9 +61,13 @@ fn cares_from<S: Store>(
 ) -> Result<Vec<ValuedPoints>, Stop>
     requires vars { (S.state store.old).vars ≡ pla.now.inputs }
     requires covers { AreAllCovers (S.state store.old) (description pla.now) covers.now }
-    requires planned { let p = pla.now in Covers (S.state store.old).plan (working_set p.inputs (flat_map (care_list p.inputs p.kind p.rows) (output_numbers p.outputs))) }
+    requires planned { let p = pla.now in
+        Covers (S.state store.old).plan
+        (working_set p.inputs (flat_map (care_list p.inputs p.kind p.rows)
+        (output_numbers p.outputs))) }
     ensures grows { Grows (S.state store.old) (S.state store.new) }
-    ensures cares { IfOk result (λ cares. CaresDone (S.state store.new) (description pla.now) pla.now.outputs cares.items) }
+    ensures cares { IfOk result (λ cares. CaresDone (S.state store.new)
+        (description pla.now) pla.now.outputs cares.items) }
     ensures full { IsErrOf result Stop.Full → IsFull (S.state store.old) (S.state store.new) }
     ensures counted { ¬ IsErrOf result Stop.Terms }
 {
@@ -74,7 +80,8 @@ fn cares_from<S: Store>(
     Ok(cares)
 }
 
-/// The care sets of all outputs. Each row's cube is built once, by the pass; their unions are jobs of the pool.
+/// The care sets of all outputs. Each row's cube is built once, by the pass; their unions are jobs
+/// of the pool.
 pub(crate) fn all_cares<R: Threads + Sync, P: Pool>(
     rt: &R,
     alloc: Global,
@@ -87,12 +94,17 @@ pub(crate) fn all_cares<R: Threads + Sync, P: Pool>(
     requires workers { (1 ≤ workers) × (workers ≤ 16) }
     requires room { P.done pool.old < 2 ^ 30 }
     requires vars { (cached_state store.old).vars ≡ pla.now.inputs }
-    requires planned { let p = pla.now in Covers (cached_state store.old).plan (working_set p.inputs (flat_map (care_list p.inputs p.kind p.rows) (output_numbers p.outputs))) }
+    requires planned { let p = pla.now in
+        Covers (cached_state store.old).plan
+        (working_set p.inputs (flat_map (care_list p.inputs p.kind p.rows)
+        (output_numbers p.outputs))) }
     ensures grows { Grows (cached_state store.old) (cached_state store.new) }
-    ensures cares { IfOk result (λ cares. CaresDone (cached_state store.new) (description pla.now) pla.now.outputs cares.items) }
+    ensures cares { IfOk result (λ cares. CaresDone (cached_state store.new)
+        (description pla.now) pla.now.outputs cares.items) }
     ensures least { P.done pool.old ≤ P.done pool.new }
     ensures most { P.done pool.new ≤ P.done pool.old + cover_count (description pla.now) }
-    ensures full { IsErrOf result Stop.Full → IsFull (cached_state store.old) (cached_state store.new) }
+    ensures full { IsErrOf result Stop.Full
+        → IsFull (cached_state store.old) (cached_state store.new) }
     ensures counted { ¬ IsErrOf result Stop.Terms }
 {
     let cubes = row_cubes(alloc, store, pla)?;

@@ -1,10 +1,12 @@
 //! The description of a run, in the order that is asked for, and its contradictions.
-ghost use Rattle.std.specs.Prelude.{◌≡◌, ◌≤◌, ◌⊎◌, false, Err, IfOk, IfErr, IfSome, IsNone, Ok, OnOk, length};
+ghost use Rattle.std.specs.Prelude.{◌≡◌, ◌≤◌, ◌⊎◌, false, Err, IfOk, IfErr, IfSome, IsNone, Ok};
+ghost use Rattle.std.specs.Prelude.{OnOk, length};
 ghost use Rattle.lattice.specs.Rows.{IsConsistent};
 ghost use Rattle.pla_reader.specs.Reading.{bytes_taken, description};
 ghost use Rattle.run_parts.specs.declared.describe.TheConstants.{MOST_BYTES};
 ghost use Rattle.interp_run.specs.Due.{file_of, in_order, is_gen};
-ghost use Rattle.interp_run.specs.Parts.{EndsWithout, IsContradiction, disordered_outcome, undescribed_outcome};
+ghost use Rattle.interp_run.specs.Parts.{EndsWithout, IsContradiction, disordered_outcome};
+ghost use Rattle.interp_run.specs.Parts.{undescribed_outcome};
 ghost use Rattle.interp_run.specs.declared.outcome.Outcome.TheVariants as outcomes;
 
 use crate::Outcome;
@@ -38,8 +40,10 @@ fn disordered(refusal: OrderRefusal) -> Outcome
 
 // The description in the order that the job asks for, or how the run ends without it.
 fn in_order(alloc: Global, job: &Job, pla: Pla) -> Result<Pla, Outcome>
-    ensures ok { IfOk result (λ file. in_order job.now.order (Ok (description pla)) ≡ Ok (description file)) }
-    ensures err { IfErr result (λ o. (in_order job.now.order (Ok (description pla)) ≡ Err o) ⊎ (o ≡ outcomes.Memory)) }
+    ensures ok { IfOk result (λ file. in_order job.now.order (Ok (description pla))
+        ≡ Ok (description file)) }
+    ensures err { IfErr result (λ o. (in_order job.now.order (Ok (description pla)) ≡ Err o)
+        ⊎ (o ≡ outcomes.Memory)) }
 {
     let Some(text) = &job.order else {
         return Ok(pla);
@@ -54,8 +58,8 @@ fn in_order(alloc: Global, job: &Job, pla: Pla) -> Result<Pla, Outcome>
     }
 }
 
-/// The description of the bytes, in the order that the job asks for, and the number of bytes that it takes, or how the run ends
-/// without it.
+/// The description of the bytes, in the order that the job asks for, and the number of bytes that
+/// it takes, or how the run ends without it.
 pub(crate) fn description_of(
     alloc: Global,
     job: &Job,

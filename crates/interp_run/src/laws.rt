@@ -1,5 +1,7 @@
-//! Functions that do nothing. Their contracts are the laws of `specs/Laws.antt`, so a check proves these.
-ghost use Rattle.interp_run.specs.Laws.{DueForTwoPoints, FirstWithinLast, OneIsDue, SomeIsDue, WorkersAreFree, YesIsRight};
+//! Functions that do nothing. Their contracts are the laws of `specs/Laws.antt`, so a check proves
+//! these.
+ghost use Rattle.interp_run.specs.Laws.{DueForTwoPoints, FirstWithinLast, OneIsDue, SomeIsDue};
+ghost use Rattle.interp_run.specs.Laws.{WorkersAreFree, YesIsRight};
 
 use cube_sets::conflict;
 use pla_reader::Pla;
@@ -9,7 +11,8 @@ pub fn one_is_due()
     ensures { OneIsDue }
 {}
 
-/// For a job and bytes that describe the file, one is due at least. Where the bytes have no file, their refusal is due.
+/// For a job and bytes that describe the file, one is due at least. Where the bytes have no file,
+/// their refusal is due.
 pub fn some_is_due(pla: &Pla)
     ensures { SomeIsDue pla.now }
 {
@@ -21,7 +24,8 @@ pub fn workers_are_free()
     ensures { WorkersAreFree }
 {}
 
-/// Phase 1 needs no more nodes than the last phase: where the whole working set of a run fits the slots, so does that of phase 1.
+/// Phase 1 needs no more nodes than the last phase: where the whole working set of a run fits the
+/// slots, so does that of phase 1.
 pub fn first_within_last()
     ensures { FirstWithinLast }
 {}
@@ -31,7 +35,8 @@ pub fn yes_is_right()
     ensures { YesIsRight }
 {}
 
-/// What is due for a worked file in the modes anf, basis and check, by another order of its inputs, and by a text that is none.
+/// What is due for a worked file in the modes anf, basis and check, by another order of its inputs,
+/// and by a text that is none.
 pub fn due_for_two_points()
     ensures { DueForTwoPoints }
 {}

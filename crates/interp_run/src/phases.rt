@@ -1,5 +1,7 @@
-//! The two phases of a run: the polynomials and the leads of all outputs, and the elements of their bases.
-ghost use Rattle.std.specs.Prelude.{◌≡◌, ◌+◌, ◌++◌, ◌<◌, ◌≤◌, ◌^◌, IfOk, IsErrOf, OnOk, length, map};
+//! The two phases of a run: the polynomials and the leads of all outputs, and the elements of their
+//! bases.
+ghost use Rattle.std.specs.Prelude.{◌≡◌, ◌+◌, ◌++◌, ◌<◌, ◌≤◌, ◌^◌, IfOk, IsErrOf, OnOk, length};
+ghost use Rattle.std.specs.Prelude.{map};
 ghost use Rattle.lattice.specs.Family.{Covers};
 ghost use Rattle.lattice.specs.Rows.{IsConsistent};
 ghost use Rattle.lattice.specs.WorkingLists.{first_phase, output_numbers, working_set};
@@ -104,7 +106,8 @@ pub(crate) struct Solved {
 
 // The tasks with this part of each output behind them.
 fn with_all(mut tasks: Vec<Task>, part: &Part, outputs: u32) -> Result<Vec<Task>, Memory>
-    ensures { IfOk result (λ all. all.items ≡ tasks.items ++ map (task part.now) (output_numbers outputs)) }
+    ensures { IfOk result (λ all. all.items
+        ≡ tasks.items ++ map (task part.now) (output_numbers outputs)) }
 {
     for before in 0..outputs {
         tasks.push(Task {
@@ -141,13 +144,17 @@ pub(crate) fn first_phase<R: Threads + Sync, P: Pool>(
     requires room { P.done pool.old < 2 ^ 29 }
     requires vars { (cached_state store.old).vars ≡ pla.now.inputs }
     requires consistent { IsConsistent pla.now.inputs pla.now.outputs pla.now.rows }
-    requires planned { Covers (cached_state store.old).plan (working_set pla.now.inputs (first_phase pla.now.inputs pla.now.outputs pla.now.kind pla.now.rows mode)) }
+    requires planned { Covers (cached_state store.old).plan
+        (working_set pla.now.inputs (first_phase pla.now.inputs pla.now.outputs pla.now.kind
+        pla.now.rows mode)) }
     ensures grows { Grows (cached_state store.old) (cached_state store.new) }
     ensures found { IfOk result (IsFirst (cached_state store.new) (description pla.now) mode) }
-    ensures jobs { OnOk result (P.done pool.old + length (first_tasks (description pla.now) mode) ≤ P.done pool.new) }
+    ensures jobs { OnOk result (P.done pool.old + length (first_tasks (description pla.now) mode)
+        ≤ P.done pool.new) }
     ensures least { P.done pool.old ≤ P.done pool.new }
     ensures most { P.done pool.new ≤ P.done pool.old + 2 ^ 24 }
-    ensures full { IsErrOf result Stop.Full → IsFull (cached_state store.old) (cached_state store.new) }
+    ensures full { IsErrOf result Stop.Full
+        → IsFull (cached_state store.old) (cached_state store.new) }
     ensures counted { ¬ IsErrOf result Stop.Terms }
 {
     let cares = all_cares(rt, alloc, store, pool, gate, workers, pla)?;

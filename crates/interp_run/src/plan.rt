@@ -11,9 +11,11 @@ use pla_reader::Pla;
 struct FirstPhase<'a>(&'a Pla, Mode);
 
 impl Planned for FirstPhase<'_> {
-    ghost families = { λ r. working_set r.0.now.inputs (first_phase r.0.now.inputs r.0.now.outputs r.0.now.kind r.0.now.rows r.1) };
+    ghost families = { λ r. working_set r.0.now.inputs
+        (first_phase r.0.now.inputs r.0.now.outputs r.0.now.kind r.0.now.rows r.1) };
 
-    ghost node_list = { λ r. working_set_is_node_list r.0.now.inputs (first_phase r.0.now.inputs r.0.now.outputs r.0.now.kind r.0.now.rows r.1) };
+    ghost node_list = { λ r. working_set_is_node_list r.0.now.inputs
+        (first_phase r.0.now.inputs r.0.now.outputs r.0.now.kind r.0.now.rows r.1) };
 }
 
 /// A run on a description in a mode.
@@ -21,21 +23,26 @@ impl Planned for FirstPhase<'_> {
 struct ModeRun<'a>(&'a Pla, Mode);
 
 impl Planned for ModeRun<'_> {
-    ghost families = { λ r. working_set r.0.now.inputs (second_phase r.0.now.inputs r.0.now.outputs r.0.now.kind r.0.now.rows r.1) };
+    ghost families = { λ r. working_set r.0.now.inputs
+        (second_phase r.0.now.inputs r.0.now.outputs r.0.now.kind r.0.now.rows r.1) };
 
-    ghost node_list = { λ r. working_set_is_node_list r.0.now.inputs (second_phase r.0.now.inputs r.0.now.outputs r.0.now.kind r.0.now.rows r.1) };
+    ghost node_list = { λ r. working_set_is_node_list r.0.now.inputs
+        (second_phase r.0.now.inputs r.0.now.outputs r.0.now.kind r.0.now.rows r.1) };
 }
 
 /// The plan of phase 1 of a run on the description: its working set. It does nothing at run time.
 pub fn first_plan(pla: &Pla, mode: Mode) -> Plan
-    ensures { let p = pla.now in result.families ≡ working_set p.inputs (first_phase p.inputs p.outputs p.kind p.rows mode) }
+    ensures { let p = pla.now in result.families
+        ≡ working_set p.inputs (first_phase p.inputs p.outputs p.kind p.rows mode) }
 {
     plan_of(&FirstPhase(pla, mode))
 }
 
-/// The plan of a run on the description: the working set of its last phase. It does nothing at run time.
+/// The plan of a run on the description: the working set of its last phase. It does nothing at run
+/// time.
 pub fn run_plan(pla: &Pla, mode: Mode) -> Plan
-    ensures { let p = pla.now in result.families ≡ working_set p.inputs (second_phase p.inputs p.outputs p.kind p.rows mode) }
+    ensures { let p = pla.now in result.families
+        ≡ working_set p.inputs (second_phase p.inputs p.outputs p.kind p.rows mode) }
 {
     plan_of(&ModeRun(pla, mode))
 }

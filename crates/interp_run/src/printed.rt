@@ -12,10 +12,11 @@ use set_algebra::WalkRefusal;
 use std::alloc::Global;
 
 impl From<WalkRefusal> for Stop {
-    ghost use Rattle.set_algebra.specs.declared.counted.WalkRefusal.TheVariants.{Over, Memory as NoMemory};
-    ghost use Rattle.interp_run.specs.declared.phases.Stop.TheVariants.{Terms, Memory as OutOfMemory};
+    ghost use Rattle.set_algebra.specs.declared.counted.WalkRefusal.TheVariants as unlisted;
+    ghost use Rattle.interp_run.specs.declared.phases.Stop.TheVariants as stops;
 
-    ghost from_gives = { λ refusal e. (refusal ≡ Over → e ≡ Terms) × (refusal ≡ NoMemory → e ≡ OutOfMemory) };
+    ghost from_gives = { λ refusal e. (refusal ≡ unlisted.Over → e ≡ stops.Terms)
+        × (refusal ≡ unlisted.Memory → e ≡ stops.Memory) };
 
     fn from(refusal: WalkRefusal) -> Self {
         match refusal {
@@ -33,9 +34,11 @@ pub(crate) fn shown_of<S: Store>(
     limit: u64,
 ) -> Result<Vec<Shown>, Stop>
     requires { All (KnowsSolved (S.state store.old)) solved.now }
-    ensures shown { IfOk result (λ shown. map shown_answer shown.items ≡ map (answer_in (S.state store.old)) solved.now) }
+    ensures shown { IfOk result (λ shown. map shown_answer shown.items
+        ≡ map (answer_in (S.state store.old)) solved.now) }
     ensures within { OnOk result (second_terms (S.state store.old) solved.now ≤ limit) }
-    ensures terms { IsErrOf result Stop.Terms → limit < second_terms (S.state store.old) solved.now }
+    ensures terms { IsErrOf result Stop.Terms
+        → limit < second_terms (S.state store.old) solved.now }
     ensures full { ¬ IsErrOf result Stop.Full }
 {
     let mut left = limit;

@@ -1,5 +1,6 @@
 //! A consistent description solved, each phase on a table of its own.
-ghost use Rattle.std.specs.Prelude.{◌≡◌, ◌≢◌, ◌<◌, ◌≤◌, ◌^◌, ◌+◌, true, IfOk, IfErr, IsErrOf, OnOk, length, map};
+ghost use Rattle.std.specs.Prelude.{◌≡◌, ◌≢◌, ◌<◌, ◌≤◌, ◌^◌, ◌+◌, true, IfOk, IfErr, IsErrOf, OnOk};
+ghost use Rattle.std.specs.Prelude.{length, map};
 ghost use Rattle.lattice.specs.declared.kind.Mode.TheVariants.{Basis, Gen};
 ghost use Rattle.lattice.specs.declared.limits.TheConstants.{MIN_BITS, MAX_BITS};
 ghost use Rattle.lattice.specs.Rows.{IsConsistent};
@@ -40,8 +41,8 @@ pub(crate) struct Solution {
     pub shown: Vec<Shown>,
 }
 
-// How many workers run a phase on tables of 2^bits slots. On a small table a phase takes less time than a thread takes to start, so
-// there the last phase has two at most, and a phase before it one.
+// How many workers run a phase on tables of 2^bits slots. On a small table a phase takes less time
+// than a thread takes to start, so there the last phase has two at most, and a phase before it one.
 fn workers_on(job: &Job, bits: u32, is_last: bool) -> u32
     requires { IsWithin job.now }
     ensures { (1 ≤ result) × (result ≤ 16) }
@@ -55,8 +56,8 @@ fn workers_on(job: &Job, bits: u32, is_last: bool) -> u32
     }
 }
 
-// The leads of each output in mode basis, where phase 1 fits 2^bits slots and its terms are within the limit. Its table is
-// given up.
+// The leads of each output in mode basis, where phase 1 fits 2^bits slots and its terms are within
+// the limit. Its table is given up.
 fn leads_on<R: Threads + Sync, P: Pool>(
     rt: &R,
     alloc: Global,
@@ -73,8 +74,10 @@ fn leads_on<R: Threads + Sync, P: Pool>(
     requires consistent { IsConsistent pla.now.inputs pla.now.outputs pla.now.rows }
     ensures leads { IfOk result (AreLeads (description pla.now) job.now.mode) }
     ensures fits { OnOk result (FirstFits job.now (description pla.now)) }
-    ensures full { IsErrOf result Stop.Full → 2 ^ bits < first_nodes (description pla.now) job.now.mode }
-    ensures terms { IsErrOf result Stop.Terms → IsDueSolving job.now (description pla.now) (silent (outcomes.Terms job.now.terms)) }
+    ensures full { IsErrOf result Stop.Full
+        → 2 ^ bits < first_nodes (description pla.now) job.now.mode }
+    ensures terms { IsErrOf result Stop.Terms
+        → IsDueSolving job.now (description pla.now) (silent (outcomes.Terms job.now.terms)) }
     ensures most { P.done pool.new ≤ P.done pool.old + 2 ^ 24 }
 {
     let (table, token) = Shared::make(alloc, bits, pla.inputs, first_plan(pla, job.mode))?;
@@ -102,8 +105,10 @@ fn leads_found<R: Threads + Sync, P: Pool>(
     ensures leads { IfOk result (λ r. AreLeads (description pla.now) job.now.mode r.0) }
     ensures bits { IfOk result (λ r. (MIN_BITS ≤ r.1) × (r.1 ≤ job.now.nodes)) }
     ensures fits { OnOk result (FirstFits job.now (description pla.now)) }
-    ensures full { IsErrOf result Stop.Full → 2 ^ job.now.nodes < first_nodes (description pla.now) job.now.mode }
-    ensures terms { IsErrOf result Stop.Terms → IsDueSolving job.now (description pla.now) (silent (outcomes.Terms job.now.terms)) }
+    ensures full { IsErrOf result Stop.Full
+        → 2 ^ job.now.nodes < first_nodes (description pla.now) job.now.mode }
+    ensures terms { IsErrOf result Stop.Terms
+        → IsDueSolving job.now (description pla.now) (silent (outcomes.Terms job.now.terms)) }
     ensures most { P.done pool.new ≤ P.done pool.old + 2 ^ 25 }
 {
     match leads_on(rt, alloc, pool, gate, pla, job, bits) {
@@ -117,10 +122,12 @@ fn leads_found<R: Threads + Sync, P: Pool>(
 
 // How many care points there are.
 fn points_of<S: Store>(store: &mut S, pla: &Pla, output: u32, care: ValuedPoints) -> u64
-    requires zeros { Denotes (S.state store.old) care.zeros (zeros_in (description pla.now) output) }
+    requires zeros { Denotes (S.state store.old) care.zeros
+        (zeros_in (description pla.now) output) }
     requires ones { Denotes (S.state store.old) care.ones (ones_in (description pla.now) output) }
     ensures reads { Reads (S.state store.old) (S.state store.new) }
-    ensures count { let d = description pla.now in result ≡ length (zeros_in d output) + length (ones_in d output) }
+    ensures count { let d = description pla.now in
+        result ≡ length (zeros_in d output) + length (ones_in d output) }
 {
     let most = 1u64 << MAX_VARS;
     let zeros = count_upto(store, care.zeros, most).unwrap();
@@ -132,7 +139,8 @@ fn points_of<S: Store>(store: &mut S, pla: &Pla, output: u32, care: ValuedPoints
 fn points_counted<S: Store>(store: &mut S, pla: &Pla, mode: Mode, cares: &[ValuedPoints]) -> u64
     requires { AreCares (S.state store.old) (description pla.now) pla.now.outputs cares.now }
     ensures reads { Reads (S.state store.old) (S.state store.new) }
-    ensures count { let d = description pla.now in mode ≡ Gen → result ≡ length (zeros_in d 1) + length (ones_in d 1) }
+    ensures count { let d = description pla.now in mode ≡ Gen
+        → result ≡ length (zeros_in d 1) + length (ones_in d 1) }
 {
     match mode {
         Mode::Gen => points_of(store, pla, 1, cares[0]),
@@ -140,8 +148,8 @@ fn points_counted<S: Store>(store: &mut S, pla: &Pla, mode: Mode, cares: &[Value
     }
 }
 
-// The solution, where all phases fit 2^bits slots and its terms are within the limit. In mode basis phase 1 is known to be
-// within its own limits, and its families are built again.
+// The solution, where all phases fit 2^bits slots and its terms are within the limit. In mode basis
+// phase 1 is known to be within its own limits, and its families are built again.
 fn solution_on<R: Threads + Sync, P: Pool>(
     rt: &R,
     alloc: Global,
@@ -158,11 +166,18 @@ fn solution_on<R: Threads + Sync, P: Pool>(
     requires consistent { IsConsistent pla.now.inputs pla.now.outputs pla.now.rows }
     requires leads { AreLeads (description pla.now) job.now.mode leads.now }
     requires fits { is_basis job.now.mode ≡ true → FirstFits job.now (description pla.now) }
-    ensures points { IfOk result (λ s. let d = description pla.now in job.now.mode ≡ Gen → s.points ≡ length (zeros_in d 1) + length (ones_in d 1)) }
-    ensures ok { IfOk result (λ s. AreAnswers (description pla.now) job.now.mode (map shown_answer s.shown.items) × IsDueSolving job.now (description pla.now) (solved job.now (description pla.now) (map shown_answer s.shown.items))) }
-    ensures jobs { IfOk result (λ s. P.done pool.old + jobs_for job.now.mode (map shown_answer s.shown.items) ≤ P.done pool.new) }
-    ensures full { IsErrOf result Stop.Full → 2 ^ bits < last_nodes (description pla.now) job.now.mode }
-    ensures terms { IsErrOf result Stop.Terms → IsDueSolving job.now (description pla.now) (silent (outcomes.Terms job.now.terms)) }
+    ensures points { IfOk result (λ s. let d = description pla.now in job.now.mode ≡ Gen
+        → s.points ≡ length (zeros_in d 1) + length (ones_in d 1)) }
+    ensures ok { IfOk result (λ s. AreAnswers (description pla.now) job.now.mode
+        (map shown_answer s.shown.items)
+        × IsDueSolving job.now (description pla.now)
+        (solved job.now (description pla.now) (map shown_answer s.shown.items))) }
+    ensures jobs { IfOk result (λ s. P.done pool.old
+        + jobs_for job.now.mode (map shown_answer s.shown.items) ≤ P.done pool.new) }
+    ensures full { IsErrOf result Stop.Full
+        → 2 ^ bits < last_nodes (description pla.now) job.now.mode }
+    ensures terms { IsErrOf result Stop.Terms
+        → IsDueSolving job.now (description pla.now) (silent (outcomes.Terms job.now.terms)) }
     ensures least { P.done pool.old ≤ P.done pool.new }
     ensures most { P.done pool.new ≤ P.done pool.old + 2 ^ 25 }
 {
@@ -204,11 +219,18 @@ fn solution_found<R: Threads + Sync, P: Pool>(
     requires consistent { IsConsistent pla.now.inputs pla.now.outputs pla.now.rows }
     requires leads { AreLeads (description pla.now) job.now.mode leads.now }
     requires fits { is_basis job.now.mode ≡ true → FirstFits job.now (description pla.now) }
-    ensures points { IfOk result (λ s. let d = description pla.now in job.now.mode ≡ Gen → s.points ≡ length (zeros_in d 1) + length (ones_in d 1)) }
-    ensures ok { IfOk result (λ s. AreAnswers (description pla.now) job.now.mode (map shown_answer s.shown.items) × IsDueSolving job.now (description pla.now) (solved job.now (description pla.now) (map shown_answer s.shown.items))) }
-    ensures jobs { IfOk result (λ s. P.done pool.old + jobs_for job.now.mode (map shown_answer s.shown.items) ≤ P.done pool.new) }
-    ensures full { IsErrOf result Stop.Full → 2 ^ job.now.nodes < last_nodes (description pla.now) job.now.mode }
-    ensures terms { IsErrOf result Stop.Terms → IsDueSolving job.now (description pla.now) (silent (outcomes.Terms job.now.terms)) }
+    ensures points { IfOk result (λ s. let d = description pla.now in job.now.mode ≡ Gen
+        → s.points ≡ length (zeros_in d 1) + length (ones_in d 1)) }
+    ensures ok { IfOk result (λ s. AreAnswers (description pla.now) job.now.mode
+        (map shown_answer s.shown.items)
+        × IsDueSolving job.now (description pla.now)
+        (solved job.now (description pla.now) (map shown_answer s.shown.items))) }
+    ensures jobs { IfOk result (λ s. P.done pool.old
+        + jobs_for job.now.mode (map shown_answer s.shown.items) ≤ P.done pool.new) }
+    ensures full { IsErrOf result Stop.Full
+        → 2 ^ job.now.nodes < last_nodes (description pla.now) job.now.mode }
+    ensures terms { IsErrOf result Stop.Terms
+        → IsDueSolving job.now (description pla.now) (silent (outcomes.Terms job.now.terms)) }
 {
     match solution_on(rt, alloc, pool, gate, pla, job, leads, bits) {
         Err(Stop::Full) if bits < job.nodes => {
@@ -218,7 +240,8 @@ fn solution_found<R: Threads + Sync, P: Pool>(
     }
 }
 
-// The leads of each output, which are none but in mode basis, and the size of the table to go on with.
+// The leads of each output, which are none but in mode basis, and the size of the table to go on
+// with.
 fn first_leads<R: Threads + Sync, P: Pool>(
     rt: &R,
     alloc: Global,
@@ -232,9 +255,12 @@ fn first_leads<R: Threads + Sync, P: Pool>(
     requires consistent { IsConsistent pla.now.inputs pla.now.outputs pla.now.rows }
     ensures leads { IfOk result (λ r. AreLeads (description pla.now) job.now.mode r.0) }
     ensures bits { IfOk result (λ r. (MIN_BITS ≤ r.1) × (r.1 ≤ job.now.nodes)) }
-    ensures fits { OnOk result (is_basis job.now.mode ≡ true → FirstFits job.now (description pla.now)) }
-    ensures full { IsErrOf result Stop.Full → 2 ^ job.now.nodes < first_nodes (description pla.now) job.now.mode }
-    ensures terms { IsErrOf result Stop.Terms → IsDueSolving job.now (description pla.now) (silent (outcomes.Terms job.now.terms)) }
+    ensures fits { OnOk result (is_basis job.now.mode ≡ true
+        → FirstFits job.now (description pla.now)) }
+    ensures full { IsErrOf result Stop.Full
+        → 2 ^ job.now.nodes < first_nodes (description pla.now) job.now.mode }
+    ensures terms { IsErrOf result Stop.Terms
+        → IsDueSolving job.now (description pla.now) (silent (outcomes.Terms job.now.terms)) }
     ensures most { P.done pool.new ≤ P.done pool.old + 2 ^ 25 }
 {
     let bits = first_bits(pla, job.nodes, job.mode == Mode::Basis);
@@ -258,8 +284,8 @@ fn stopped(stop: Stop, job: &Job) -> Outcome
     }
 }
 
-/// The solution of a consistent description, or how the run ends without it. The pool answers the jobs, which the job's number
-/// of workers run; their branches enter the gate.
+/// The solution of a consistent description, or how the run ends without it. The pool answers the
+/// jobs, which the job's number of workers run; their branches enter the gate.
 pub(crate) fn solve<R: Threads + Sync, P: Pool>(
     rt: &R,
     alloc: Global,
@@ -271,9 +297,14 @@ pub(crate) fn solve<R: Threads + Sync, P: Pool>(
     requires within { IsWithin job.now }
     requires fresh { P.done pool.old ≡ 0 }
     requires consistent { IsConsistent pla.now.inputs pla.now.outputs pla.now.rows }
-    ensures points { IfOk result (λ s. let d = description pla.now in job.now.mode ≡ Gen → s.points ≡ length (zeros_in d 1) + length (ones_in d 1)) }
-    ensures ok { IfOk result (λ s. AreAnswers (description pla.now) job.now.mode (map shown_answer s.shown.items) × IsDueSolving job.now (description pla.now) (solved job.now (description pla.now) (map shown_answer s.shown.items))) }
-    ensures jobs { IfOk result (λ s. jobs_for job.now.mode (map shown_answer s.shown.items) ≤ P.done pool.new) }
+    ensures points { IfOk result (λ s. let d = description pla.now in job.now.mode ≡ Gen
+        → s.points ≡ length (zeros_in d 1) + length (ones_in d 1)) }
+    ensures ok { IfOk result (λ s. AreAnswers (description pla.now) job.now.mode
+        (map shown_answer s.shown.items)
+        × IsDueSolving job.now (description pla.now)
+        (solved job.now (description pla.now) (map shown_answer s.shown.items))) }
+    ensures jobs { IfOk result (λ s. jobs_for job.now.mode (map shown_answer s.shown.items)
+        ≤ P.done pool.new) }
     ensures err { IfErr result (EndsUnsolved job.now (description pla.now)) }
     ensures unfinished { IfErr result (λ o. o ≢ outcomes.Done) }
 {

@@ -1,5 +1,6 @@
 //! Mode gen: the summary of the description that a seed makes.
-ghost use Rattle.std.specs.Prelude.{◌≡◌, ◌≢◌, ◌≤◌, ◌∷◌, ◌++◌, [], IfErr, IfOk, OnOk, List, ℕ, codes, decimal, length, map};
+ghost use Rattle.std.specs.Prelude.{◌≡◌, ◌≢◌, ◌≤◌, ◌∷◌, ◌++◌, [], IfErr, IfOk, OnOk, List, ℕ};
+ghost use Rattle.std.specs.Prelude.{codes, decimal, length, map};
 ghost use Rattle.std.specs.List.{enumerate_from, flat_map};
 ghost use Rattle.lattice.specs.declared.kind.Mode.TheVariants.{Gen};
 ghost use Rattle.anf_printer.specs.Text.{shown_answer};
@@ -31,7 +32,9 @@ fn push_number(text: &mut Vec<u8>, number: u64) -> Result<(), AllocError>
 
 // Puts the line of an output at the end of the text.
 fn push_line(text: &mut Vec<u8>, output: u64, terms: u64) -> Result<(), AllocError>
-    ensures { OnOk result (text.new.items ≡ text.old.items ++ (codes "f" ++ decimal output ++ codes " " ++ decimal terms ++ codes "\n")) }
+    ensures { OnOk result (text.new.items
+        ≡ text.old.items ++ (codes "f" ++ decimal output ++ codes " " ++ decimal terms
+        ++ codes "\n")) }
 {
     text.push(b'f')?;
     push_number(text, output)?;
@@ -55,7 +58,8 @@ fn points_line(alloc: Global, points: u64) -> Result<Vec<u8>, AllocError>
 // The summary of these answers.
 fn summary_text(alloc: Global, points: u64, shown: &[Shown]) -> Result<Text, Memory>
     requires few { length shown.now ≤ 64 }
-    ensures { IfOk result (λ text. text ≡ codes "points " ++ decimal points ++ codes "\n" ++ flat_map summary_line (enumerate_from 1 (map shown_answer shown.now))) }
+    ensures { IfOk result (λ text. text ≡ codes "points " ++ decimal points ++ codes "\n"
+        ++ flat_map summary_line (enumerate_from 1 (map shown_answer shown.now))) }
 {
     let mut text = points_line(alloc, points)?;
     for (before, output) in shown.iter().enumerate() {
@@ -79,7 +83,8 @@ pub(crate) fn summary_of<R: Threads + Sync, P: Pool>(
     requires mode { job.now.mode ≡ Gen }
     requires within { IsWithin job.now }
     requires fresh { P.done pool.old ≡ 0 }
-    ensures ok { IfOk result (λ text. (bytes : List ℕ) → IsDue job.now bytes (record { outcome = outcomes.Done; pages = text ∷ []; notes = [] })) }
+    ensures ok { IfOk result (λ text. (bytes : List ℕ)
+        → IsDue job.now bytes (record { outcome = outcomes.Done; pages = text ∷ []; notes = [] })) }
     ensures jobs { OnOk result (2 ≤ P.done pool.new) }
     ensures unfinished { IfErr result (λ o. o ≢ outcomes.Done) }
     ensures err { IfErr result (λ o. (bytes : List ℕ) → EndsWithout job.now bytes o) }

@@ -1,5 +1,6 @@
 //! What a run finds on its store: the tasks of a phase, as jobs of a pool.
-ghost use Rattle.std.specs.Prelude.{◌≡◌, ◌^◌, ◌+◌, ◌<◌, ◌≤◌, IfOk, IsErrOf, OnOk, length, slice_index_or};
+ghost use Rattle.std.specs.Prelude.{◌≡◌, ◌^◌, ◌+◌, ◌<◌, ◌≤◌, IfOk, IsErrOf, OnOk, length};
+ghost use Rattle.std.specs.Prelude.{slice_index_or};
 ghost use Rattle.std.specs.List.{All, flat_map};
 ghost use Rattle.lattice.specs.Family.{AreDisjoint, Covers, union_of};
 ghost use Rattle.lattice.specs.Basis.{IsLead, basis_element_of, leads_of, standard_of};
@@ -8,7 +9,8 @@ ghost use Rattle.lattice.specs.WorkingLists.{staircase_list, working_set};
 ghost use Rattle.node_store.specs.Stores.{Gives, Grows, IsFull, Knows, family};
 ghost use Rattle.computed_cache.specs.Cached.{cached_state};
 ghost use Rattle.pla_reader.specs.Reading.{description};
-ghost use Rattle.interp_run.specs.Phases.{AreCares, AreDone, IsPart, IsTask, element_list, jobs_of, no_task, part_family, part_list, task_family, task_list};
+ghost use Rattle.interp_run.specs.Phases.{AreCares, AreDone, IsPart, IsTask, element_list, jobs_of};
+ghost use Rattle.interp_run.specs.Phases.{no_task, part_family, part_list, task_family, task_list};
 
 use crate::phases::Stop;
 use bool_poly::SetOps;
@@ -64,8 +66,13 @@ fn leads_on<S: Store, O: SetOps<S>>(
     requires ready { O.ready ops.old }
     requires zeros { Knows (S.state store.old) care.zeros }
     requires ones { Knows (S.state store.old) care.ones }
-    requires planned { let s = S.state store.old in Covers s.plan (working_set s.vars (staircase_list s.vars (union_of s.vars (family s care.zeros) (family s care.ones)))) }
-    ensures gives { let s = S.state store.old in let points = union_of s.vars (family s care.zeros) (family s care.ones) in Gives s (S.state store.new) result (leads_of s.vars (standard_of s.vars points)) (working_set s.vars (staircase_list s.vars points)) }
+    requires planned { let s = S.state store.old in
+        Covers s.plan (working_set s.vars
+        (staircase_list s.vars (union_of s.vars (family s care.zeros) (family s care.ones)))) }
+    ensures gives { let s = S.state store.old in
+        let points = union_of s.vars (family s care.zeros) (family s care.ones) in
+        Gives s (S.state store.new) result (leads_of s.vars (standard_of s.vars points))
+        (working_set s.vars (staircase_list s.vars points)) }
     ensures ready { O.ready ops.new }
 {
     let points = ops.union(store, care.zeros, care.ones)?;
@@ -83,9 +90,15 @@ fn element_on<S: Store, O: SetOps<S>>(
     requires zeros { Knows (S.state store.old) care.zeros }
     requires ones { Knows (S.state store.old) care.ones }
     requires below { lead < 2 ^ (S.state store.old).vars }
-    requires lead { let s = S.state store.old in IsLead s.vars (union_of s.vars (family s care.zeros) (family s care.ones)) lead }
-    requires planned { let s = S.state store.old in Covers s.plan (working_set s.vars (element_list s.vars lead (union_of s.vars (family s care.zeros) (family s care.ones)))) }
-    ensures gives { let s = S.state store.old in let points = union_of s.vars (family s care.zeros) (family s care.ones) in Gives s (S.state store.new) result (basis_element_of s.vars lead points) (working_set s.vars (element_list s.vars lead points)) }
+    requires lead { let s = S.state store.old in
+        IsLead s.vars (union_of s.vars (family s care.zeros) (family s care.ones)) lead }
+    requires planned { let s = S.state store.old in
+        Covers s.plan (working_set s.vars
+        (element_list s.vars lead (union_of s.vars (family s care.zeros) (family s care.ones)))) }
+    ensures gives { let s = S.state store.old in
+        let points = union_of s.vars (family s care.zeros) (family s care.ones) in
+        Gives s (S.state store.new) result (basis_element_of s.vars lead points)
+        (working_set s.vars (element_list s.vars lead points)) }
     ensures ready { O.ready ops.new }
 {
     let points = ops.union(store, care.zeros, care.ones)?;
@@ -102,10 +115,17 @@ fn part_on<S: Store, O: SetOps<S>>(
     requires ready { O.ready ops.old }
     requires zeros { Knows (S.state store.old) care.zeros }
     requires ones { Knows (S.state store.old) care.ones }
-    requires disjoint { let s = S.state store.old in AreDisjoint (family s care.zeros) (family s care.ones) }
-    requires part { let s = S.state store.old in IsPart s.vars (union_of s.vars (family s care.zeros) (family s care.ones)) part }
-    requires planned { let s = S.state store.old in Covers s.plan (working_set s.vars (part_list s.vars (family s care.zeros) (family s care.ones) part)) }
-    ensures gives { let s = S.state store.old in Gives s (S.state store.new) result (part_family s.vars (family s care.zeros) (family s care.ones) part) (working_set s.vars (part_list s.vars (family s care.zeros) (family s care.ones) part)) }
+    requires disjoint { let s = S.state store.old in
+        AreDisjoint (family s care.zeros) (family s care.ones) }
+    requires part { let s = S.state store.old in
+        IsPart s.vars (union_of s.vars (family s care.zeros) (family s care.ones)) part }
+    requires planned { let s = S.state store.old in
+        Covers s.plan (working_set s.vars
+        (part_list s.vars (family s care.zeros) (family s care.ones) part)) }
+    ensures gives { let s = S.state store.old in
+        Gives s (S.state store.new) result
+        (part_family s.vars (family s care.zeros) (family s care.ones) part)
+        (working_set s.vars (part_list s.vars (family s care.zeros) (family s care.ones) part)) }
     ensures ready { O.ready ops.new }
 {
     match part {
@@ -126,9 +146,15 @@ impl Tasks<'_> {
         requires ready { O.ready ops.old }
         requires below { number < length self.now.list.now }
         requires vars { (S.state store.old).vars ≡ self.now.pla.now.inputs }
-        requires cares { AreCares (S.state store.old) (description self.now.pla.now) self.now.pla.now.outputs self.now.cares.now }
-        requires planned { let d = description self.now.pla.now in Covers (S.state store.old).plan (working_set d.inputs (task_list d (slice_index_or self.now.list.now number no_task))) }
-        ensures gives { let d = description self.now.pla.now in let task = slice_index_or self.now.list.now number no_task in Gives (S.state store.old) (S.state store.new) result (task_family d task) (working_set d.inputs (task_list d task)) }
+        requires cares { AreCares (S.state store.old) (description self.now.pla.now)
+            self.now.pla.now.outputs self.now.cares.now }
+        requires planned { let d = description self.now.pla.now in
+            Covers (S.state store.old).plan
+            (working_set d.inputs (task_list d (slice_index_or self.now.list.now number no_task))) }
+        ensures gives { let d = description self.now.pla.now in
+            let task = slice_index_or self.now.list.now number no_task in
+            Gives (S.state store.old) (S.state store.new) result (task_family d task)
+            (working_set d.inputs (task_list d task)) }
         ensures ready { O.ready ops.new }
     {
         let task = self.list[number];
@@ -166,14 +192,19 @@ pub(crate) fn all_done<R: Threads + Sync, P: Pool>(
     requires workers { (1 ≤ workers) × (workers ≤ 16) }
     requires room { P.done pool.old < 2 ^ 30 }
     requires vars { (cached_state store.old).vars ≡ tasks.now.pla.now.inputs }
-    requires cares { AreCares (cached_state store.old) (description tasks.now.pla.now) tasks.now.pla.now.outputs tasks.now.cares.now }
-    requires planned { let d = description tasks.now.pla.now in Covers (cached_state store.old).plan (working_set d.inputs (flat_map (task_list d) tasks.now.list.now)) }
+    requires cares { AreCares (cached_state store.old) (description tasks.now.pla.now)
+        tasks.now.pla.now.outputs tasks.now.cares.now }
+    requires planned { let d = description tasks.now.pla.now in
+        Covers (cached_state store.old).plan
+        (working_set d.inputs (flat_map (task_list d) tasks.now.list.now)) }
     ensures grows { Grows (cached_state store.old) (cached_state store.new) }
-    ensures done { IfOk result (λ found. AreDone (cached_state store.new) (description tasks.now.pla.now) tasks.now.list.now found.items) }
+    ensures done { IfOk result (λ found. AreDone (cached_state store.new)
+        (description tasks.now.pla.now) tasks.now.list.now found.items) }
     ensures jobs { OnOk result (P.done pool.old + length tasks.now.list.now ≤ P.done pool.new) }
     ensures least { P.done pool.old ≤ P.done pool.new }
     ensures most { P.done pool.new ≤ P.done pool.old + length tasks.now.list.now }
-    ensures full { IsErrOf result Stop.Full → IsFull (cached_state store.old) (cached_state store.new) }
+    ensures full { IsErrOf result Stop.Full
+        → IsFull (cached_state store.old) (cached_state store.new) }
     ensures counted { ¬ IsErrOf result Stop.Terms }
 {
     Ok(pool.all(rt, alloc, store, tasks, gate, workers)?)

@@ -1,5 +1,6 @@
 //! The top call: the words, the reading, the answer and the writing.
-ghost use Rattle.std.specs.Prelude.{◌≡◌, ◌≢◌, false, ◌⊎◌, ◌+◌, ◌≤◌, [], List, ℕ, All, OnOk, OnErr, Some, length, take};
+ghost use Rattle.std.specs.Prelude.{◌≡◌, ◌≢◌, false, ◌⊎◌, ◌+◌, ◌≤◌, [], List, ℕ, All, OnOk, OnErr};
+ghost use Rattle.std.specs.Prelude.{Some, length, take};
 ghost use Rattle.std.specs.List.{concat};
 ghost use Rattle.std.specs.Io.KnownBytes.{Appends, Keeps};
 ghost use Rattle.lattice.specs.Counts.{Rose};
@@ -9,7 +10,8 @@ ghost use Rattle.cli_words.specs.CommandLine.{IsWithin};
 ghost use Rattle.cli_words.specs.declared.job.Job.{Job};
 ghost use Rattle.watch.specs.Notes.{WatcherState, left_after_all, states_by};
 ghost use Rattle.interp_run.specs.Due.{Due, IsDue, is_gen, least_jobs};
-ghost use Rattle.interp_run.specs.Run.{Ends, HasText, IsAsked, IsRefused, Ran, TellsFirst, line_of, status_of};
+ghost use Rattle.interp_run.specs.Run.{Ends, HasText, IsAsked, IsRefused, Ran, TellsFirst, line_of};
+ghost use Rattle.interp_run.specs.Run.{status_of};
 ghost use Rattle.interp_run.specs.declared.outcome.Outcome.{Outcome};
 ghost use Rattle.interp_run.specs.declared.outcome.Outcome.TheVariants as outcomes;
 
@@ -26,7 +28,8 @@ use std::alloc::Global;
 use std::thread::Threads;
 use watch::{Note, Watch, tell};
 
-// Writes the texts, one after the other, and tells the watchers of each as soon as it was written whole.
+// Writes the texts, one after the other, and tells the watchers of each as soon as it was written
+// whole.
 fn write_pages<K: Sink>(
     out: &mut K,
     pages: &[Text],
@@ -39,8 +42,12 @@ fn write_pages<K: Sink>(
     ensures whole { OnOk result (Appends (K.held out.old) (K.held out.new) (concat pages.now)) }
     ensures front { GainsFront (K.held out.old) (K.held out.new) (concat pages.now) }
     ensures cause { HasCause (K.faults out.old) (K.faults out.new) result }
-    ensures told { OnOk result (states_by told patience watchers.new.items ≡ left_after_all notes.now (states_by told patience watchers.old.items)) }
-    ensures stopped { OnErr result (TellsFirst (K.held out.old) (K.held out.new) (record { outcome = outcomes.Done; pages = pages.now; notes = notes.now }) (states_by told patience watchers.old.items) (states_by told patience watchers.new.items)) }
+    ensures told { OnOk result (states_by told patience watchers.new.items
+        ≡ left_after_all notes.now (states_by told patience watchers.old.items)) }
+    ensures stopped { OnErr result
+        (TellsFirst (K.held out.old) (K.held out.new)
+        (record { outcome = outcomes.Done; pages = pages.now; notes = notes.now })
+        (states_by told patience watchers.old.items) (states_by told patience watchers.new.items)) }
 {
     for (page, note) in pages.iter().zip(notes) {
         write_whole(out, page.as_slice())?;
@@ -66,10 +73,14 @@ fn solved<R: Threads + Sync, K: Sink, P: Pool>(
     requires untold { All (λ s. s.told ≡ []) (states_by told patience watchers.old.items) }
     ensures read { (result ≢ outcomes.Usage) × (result ≢ outcomes.ReadFault) }
     ensures write { result ≡ outcomes.WriteFault → Rose (K.faults out.old) (K.faults out.new) }
-    ensures jobs { (whole : List ℕ) (due : Due) → bytes.now ≡ take (MOST_BYTES + 1) whole → IsDue job.now whole due → (result ≡ outcomes.Done) ⊎ (result ≡ outcomes.WriteFault)
+    ensures jobs { (whole : List ℕ) (due : Due) → bytes.now ≡ take (MOST_BYTES + 1) whole
+        → IsDue job.now whole due → (result ≡ outcomes.Done) ⊎ (result ≡ outcomes.WriteFault)
         → least_jobs job.now.mode due.notes ≤ P.done pool.new }
-    ensures ends { (words : List (List ℕ)) (whole : List ℕ) → IsAsked words job.now → bytes.now ≡ take (MOST_BYTES + 1) whole
-        → Ends words whole (K.held out.old) (K.held out.new) (states_by told patience watchers.old.items) (states_by told patience watchers.new.items) result }
+    ensures ends { (words : List (List ℕ)) (whole : List ℕ) → IsAsked words job.now
+        → bytes.now ≡ take (MOST_BYTES + 1) whole
+        → Ends words whole (K.held out.old) (K.held out.new)
+        (states_by told patience watchers.old.items) (states_by told patience watchers.new.items)
+        result }
 {
     let answer = match answer_of(rt, alloc, job, pool, bytes, gate) {
         Ok(answer) => answer,
@@ -91,7 +102,8 @@ fn judged<K: Sink>(alloc: Global, job: &Job, bytes: &[u8], out: &mut K) -> Outco
     requires mode { job.now.mode ≡ Check }
     ensures read { (result ≢ outcomes.Usage) × (result ≢ outcomes.ReadFault) }
     ensures write { result ≡ outcomes.WriteFault → Rose (K.faults out.old) (K.faults out.new) }
-    ensures ends { (words : List (List ℕ)) (whole : List ℕ) (states : List WatcherState) → IsAsked words job.now → bytes.now ≡ take (MOST_BYTES + 1) whole
+    ensures ends { (words : List (List ℕ)) (whole : List ℕ) (states : List WatcherState)
+        → IsAsked words job.now → bytes.now ≡ take (MOST_BYTES + 1) whole
         → Ends words whole (K.held out.old) (K.held out.new) states states result }
 {
     let verdict = match verdict_of(alloc, job, bytes) {
@@ -119,7 +131,8 @@ fn summed<R: Threads + Sync, K: Sink, P: Pool>(
     ensures read { (result ≢ outcomes.Usage) × (result ≢ outcomes.ReadFault) }
     ensures write { result ≡ outcomes.WriteFault → Rose (K.faults out.old) (K.faults out.new) }
     ensures jobs { (result ≡ outcomes.Done) ⊎ (result ≡ outcomes.WriteFault) → 2 ≤ P.done pool.new }
-    ensures ends { (words : List (List ℕ)) (whole : List ℕ) (states : List WatcherState) → IsAsked words job.now
+    ensures ends { (words : List (List ℕ)) (whole : List ℕ) (states : List WatcherState)
+        → IsAsked words job.now
         → Ends words whole (K.held out.old) (K.held out.new) states states result }
 {
     let text = match summary_of(rt, alloc, pool, gate, job) {
@@ -147,11 +160,16 @@ fn of_source<R: Threads + Sync, S: Source, K: Sink, P: Pool>(
     requires within { IsWithin job.now }
     requires fresh { P.done pool.old ≡ 0 }
     requires untold { All (λ s. s.told ≡ []) (states_by told patience watchers.old.items) }
-    ensures ran { (words : List (List ℕ)) → IsAsked words job.now → Ran words (S.left source.old) (K.held out.old) (K.held out.new) (states_by told patience watchers.old.items) (states_by told patience watchers.new.items) result }
+    ensures ran { (words : List (List ℕ)) → IsAsked words job.now
+        → Ran words (S.left source.old) (K.held out.old) (K.held out.new)
+        (states_by told patience watchers.old.items) (states_by told patience watchers.new.items)
+        result }
     ensures usage { result ≢ outcomes.Usage }
     ensures read { result ≡ outcomes.ReadFault → Rose (S.faults source.old) (S.faults source.new) }
     ensures write { result ≡ outcomes.WriteFault → Rose (K.faults out.old) (K.faults out.new) }
-    ensures jobs { (whole : List ℕ) (due : Due) → S.left source.old ≡ Some whole → IsDue job.now whole due → job.now.mode ≢ Check → (result ≡ outcomes.Done) ⊎ (result ≡ outcomes.WriteFault)
+    ensures jobs { (whole : List ℕ) (due : Due) → S.left source.old ≡ Some whole
+        → IsDue job.now whole due → job.now.mode ≢ Check
+        → (result ≡ outcomes.Done) ⊎ (result ≡ outcomes.WriteFault)
         → least_jobs job.now.mode due.notes ≤ P.done pool.new }
     ensures few { LosesAtMost (S.left source.old) (S.left source.new) (MOST_BYTES + 1) }
 {
@@ -180,14 +198,21 @@ fn outcome_of<R: Threads + Sync, S: Source, K: Sink, P: Pool>(
 ) -> Outcome
     requires untold { All (λ s. s.told ≡ []) (states_by told patience watchers.old.items) }
     requires fresh { P.done pool.old ≡ 0 }
-    ensures ran { Ran words.now (S.left source.old) (K.held out.old) (K.held out.new) (states_by told patience watchers.old.items) (states_by told patience watchers.new.items) result }
+    ensures ran { Ran words.now (S.left source.old) (K.held out.old) (K.held out.new)
+        (states_by told patience watchers.old.items) (states_by told patience watchers.new.items)
+        result }
     ensures read { result ≡ outcomes.ReadFault → Rose (S.faults source.old) (S.faults source.new) }
     ensures write { result ≡ outcomes.WriteFault → Rose (K.faults out.old) (K.faults out.new) }
-    ensures jobs { (job : Job) (bytes : List ℕ) (due : Due) → IsAsked words.now job → (S.left source.old ≡ Some bytes) ⊎ (job.mode ≡ Gen) → IsDue job bytes due → job.mode ≢ Check
-        → (result ≡ outcomes.Done) ⊎ (result ≡ outcomes.WriteFault) → least_jobs job.mode due.notes ≤ P.done pool.new }
+    ensures jobs { (job : Job) (bytes : List ℕ) (due : Due) → IsAsked words.now job
+        → (S.left source.old ≡ Some bytes) ⊎ (job.mode ≡ Gen) → IsDue job bytes due
+        → job.mode ≢ Check
+        → (result ≡ outcomes.Done) ⊎ (result ≡ outcomes.WriteFault)
+        → least_jobs job.mode due.notes ≤ P.done pool.new }
     ensures few { LosesAtMost (S.left source.old) (S.left source.new) (MOST_BYTES + 1) }
-    ensures untouched { result ≡ outcomes.Usage → (S.left source.new ≡ S.left source.old) × (S.faults source.new ≡ S.faults source.old) }
-    ensures generated { (job : Job) → IsAsked words.now job → job.mode ≡ Gen → (S.left source.new ≡ S.left source.old) × (S.faults source.new ≡ S.faults source.old) }
+    ensures untouched { result ≡ outcomes.Usage
+        → (S.left source.new ≡ S.left source.old) × (S.faults source.new ≡ S.faults source.old) }
+    ensures generated { (job : Job) → IsAsked words.now job → job.mode ≡ Gen
+        → (S.left source.new ≡ S.left source.old) × (S.faults source.new ≡ S.faults source.old) }
 {
     let job = match read_words(alloc, words) {
         Ok(job) => job,
@@ -205,15 +230,16 @@ fn outcome_of<R: Threads + Sync, S: Source, K: Sink, P: Pool>(
 /// Writes the outcome's line to err, and answers its status. A failed write changes nothing.
 pub fn report<E: Sink>(err: &mut E, outcome: Outcome) -> u8
     ensures status { result ≡ status_of outcome }
-    ensures line { GainsUnlessRose (E.held err.old) (E.held err.new) (line_of outcome) (E.faults err.old) (E.faults err.new) }
+    ensures line { GainsUnlessRose (E.held err.old) (E.held err.new) (line_of outcome)
+        (E.faults err.old) (E.faults err.new) }
 {
     let _ = write_whole(err, outcome.line().as_str().as_bytes());
     outcome.status()
 }
 
-/// Does all that the program does, and answers its status. Each output is solved by the job's number of workers, whose branches
-/// enter the gate at their starts. The watchers are told of each output as soon as its text was written whole; those whose
-/// patience ends are dropped.
+/// Does all that the program does, and answers its status. Each output is solved by the job's
+/// number of workers, whose branches enter the gate at their starts. The watchers are told of each
+/// output as soon as its text was written whole; those whose patience ends are dropped.
 pub fn run<R: Threads + Sync, S: Source, K: Sink, E: Sink, P: Pool>(
     rt: &R,
     alloc: Global,
@@ -228,33 +254,48 @@ pub fn run<R: Threads + Sync, S: Source, K: Sink, E: Sink, P: Pool>(
     requires untold { All (λ s. s.told ≡ []) (states_by told patience watchers.old.items) }
     requires fresh { P.done pool.old ≡ 0 }
 
-    // Where the source tells its bytes, or in mode gen, an answer is due and no fault was counted, out gained its whole text,
-    // unless memory ran out: that of the least polynomials and, in mode basis, of the reduced bases; in mode check the verdict,
-    // and in mode gen the summary.
-    ensures headline { (job : Job) (bytes : List ℕ) (due : Due) → IsAsked words.now job → (S.left source.old ≡ Some bytes) ⊎ (job.mode ≡ Gen) → HasText due.outcome → IsDue job bytes due
-        → ¬ Rose (S.faults source.old) (S.faults source.new) → ¬ Rose (K.faults out.old) (K.faults out.new)
-        → (result ≡ 7) ⊎ ((result ≡ status_of due.outcome) × Appends (K.held out.old) (K.held out.new) (concat due.pages)) }
+    // Where the source tells its bytes, or in mode gen, an answer is due and no fault was counted,
+    // out gained its whole text, unless memory ran out: that of the least polynomials and, in mode
+    // basis, of the reduced bases; in mode check the verdict, and in mode gen the summary.
+    ensures headline { (job : Job) (bytes : List ℕ) (due : Due) → IsAsked words.now job
+        → (S.left source.old ≡ Some bytes) ⊎ (job.mode ≡ Gen) → HasText due.outcome
+        → IsDue job bytes due
+        → ¬ Rose (S.faults source.old) (S.faults source.new)
+        → ¬ Rose (K.faults out.old) (K.faults out.new)
+        → (result ≡ 7) ⊎ ((result ≡ status_of due.outcome)
+        × Appends (K.held out.old) (K.held out.new) (concat due.pages)) }
 
-    // For every source there are bytes, those that it told where it told them, for which the outcome, what out gained and who
-    // was told are as is due, or yield to memory and faults; and err gained the line of this outcome.
+    // For every source there are bytes, those that it told where it told them, for which the
+    // outcome, what out gained and who was told are as is due, or yield to memory and faults; and
+    // err gained the line of this outcome.
     ensures ran { (outcome : Outcome) × (result ≡ status_of outcome)
-        × Ran words.now (S.left source.old) (K.held out.old) (K.held out.new) (states_by told patience watchers.old.items) (states_by told patience watchers.new.items) outcome
-        × GainsUnlessRose (E.held err.old) (E.held err.new) (line_of outcome) (E.faults err.old) (E.faults err.new) }
+        × Ran words.now (S.left source.old) (K.held out.old) (K.held out.new)
+        (states_by told patience watchers.old.items) (states_by told patience watchers.new.items)
+        outcome
+        × GainsUnlessRose (E.held err.old) (E.held err.new) (line_of outcome) (E.faults err.old)
+        (E.faults err.new) }
     ensures usage { result ≡ 2 → IsRefused words.now }
     ensures taken { result ≢ 2 → result ≢ 7 → ¬ IsRefused words.now }
     ensures read { result ≡ 8 → Rose (S.faults source.old) (S.faults source.new) }
     ensures write { result ≡ 9 → Rose (K.faults out.old) (K.faults out.new) }
 
     // Where an answer was written, whole or in part, the pool answered the jobs that found it.
-    ensures jobs { (job : Job) (bytes : List ℕ) (due : Due) → IsAsked words.now job → (S.left source.old ≡ Some bytes) ⊎ (job.mode ≡ Gen) → IsDue job bytes due → job.mode ≢ Check
+    ensures jobs { (job : Job) (bytes : List ℕ) (due : Due) → IsAsked words.now job
+        → (S.left source.old ≡ Some bytes) ⊎ (job.mode ≡ Gen) → IsDue job bytes due
+        → job.mode ≢ Check
         → (result ≡ 0) ⊎ (result ≡ 9) → least_jobs job.mode due.notes ≤ P.done pool.new }
 
-    ensures nothing { result ≢ 0 → result ≢ 1 → result ≢ 9 → Keeps (K.held out.old) (K.held out.new) }
-    ensures nobody { result ≢ 0 → result ≢ 9 → states_by told patience watchers.new.items ≡ states_by told patience watchers.old.items }
-    ensures checks { (job : Job) → IsAsked words.now job → (job.mode ≡ Check) ⊎ (job.mode ≡ Gen) → states_by told patience watchers.new.items ≡ states_by told patience watchers.old.items }
+    ensures nothing { result ≢ 0 → result ≢ 1 → result ≢ 9
+        → Keeps (K.held out.old) (K.held out.new) }
+    ensures nobody { result ≢ 0 → result ≢ 9
+        → states_by told patience watchers.new.items ≡ states_by told patience watchers.old.items }
+    ensures checks { (job : Job) → IsAsked words.now job → (job.mode ≡ Check) ⊎ (job.mode ≡ Gen)
+        → states_by told patience watchers.new.items ≡ states_by told patience watchers.old.items }
     ensures few { LosesAtMost (S.left source.old) (S.left source.new) (MOST_BYTES + 1) }
-    ensures untouched { result ≡ 2 → (S.left source.new ≡ S.left source.old) × (S.faults source.new ≡ S.faults source.old) }
-    ensures generated { (job : Job) → IsAsked words.now job → job.mode ≡ Gen → (S.left source.new ≡ S.left source.old) × (S.faults source.new ≡ S.faults source.old) }
+    ensures untouched { result ≡ 2
+        → (S.left source.new ≡ S.left source.old) × (S.faults source.new ≡ S.faults source.old) }
+    ensures generated { (job : Job) → IsAsked words.now job → job.mode ≡ Gen
+        → (S.left source.new ≡ S.left source.old) × (S.faults source.new ≡ S.faults source.old) }
 {
     let outcome = outcome_of(rt, alloc, words, source, out, pool, gate, watchers);
     report(err, outcome)

@@ -12,15 +12,17 @@ use std::alloc::Global;
 /// The parts that the drawers of a counter have in all. Each bounds one draw.
 pub const ALL_PARTS: u64 = 1 << 40;
 
-/// A counter that threads share. It gives out the numbers from 0 on, each once, by one atomic addition a number.
+/// A counter that threads share. It gives out the numbers from 0 on, each once, by one atomic
+/// addition a number.
 #[derive(Drop)]
 pub struct Counter {
     table: Table<(), Hand, (), Numbers, Global>,
     ghost one_word: { table.shared.table_id.words ≡ 1 },
 }
 
-/// One who draws numbers of a counter. Clauses see its parts, of which there are `ALL_PARTS` in all and which bound how many numbers
-/// it may draw, and the numbers that it drew: `drawing`. It has no lifetime, so that a thread can be handed one.
+/// One who draws numbers of a counter. Clauses see its parts, of which there are `ALL_PARTS` in all
+/// and which bound how many numbers it may draw, and the numbers that it drew: `drawing`. It has no
+/// lifetime, so that a thread can be handed one.
 #[derive(Drop)]
 pub struct Drawer {
     seat: Seat<(), Hand>,
@@ -28,7 +30,8 @@ pub struct Drawer {
 }
 
 impl Counter {
-    ghost use Rattle.job_counter.specs.Drawing.{drawing, name, IsOf, first_drawing, more_drawn, left_half, right_half, together};
+    ghost use Rattle.job_counter.specs.Drawing.{drawing, name, IsOf, first_drawing, more_drawn};
+    ghost use Rattle.job_counter.specs.Drawing.{left_half, right_half, together};
 
     /// A counter of which no number is drawn yet, and the drawer that has all its parts.
     #[tactic(auto, unfolding(crate::specs::Drawing::drawing, crate::specs::Drawing::name))]
@@ -72,7 +75,8 @@ impl Counter {
         self.table.shared.join_seat::<Union>(&mut drawer.seat, seat);
     }
 
-    /// How many numbers were drawn. A drawer that has all parts again drew each number below it once, and no other.
+    /// How many numbers were drawn. A drawer that has all parts again drew each number below it
+    /// once, and no other.
     #[tactic(auto, unfolding(crate::specs::Drawing::drawing, crate::specs::Drawing::name))]
     pub fn all_drawn(&self, drawer: &mut Drawer) -> u64
         requires of { IsOf drawer.old self.now }

@@ -1,6 +1,7 @@
 //! The rule of the counter, and what each step tells. These types are for the proofs alone.
 ghost use Rattle.std.specs.Prelude.{[]};
-ghost use Rattle.job_counter.specs.Rule.{Rule, Drew, Counted, hand, first_half, second_half, both_hands};
+ghost use Rattle.job_counter.specs.Rule.{Rule, Drew, Counted, hand, first_half, second_half};
+ghost use Rattle.job_counter.specs.Rule.{both_hands};
 ghost use Rattle.job_counter.specs.declared.counter.TheConstants.{ALL_PARTS};
 
 use crate::view::Hand;

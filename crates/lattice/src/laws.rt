@@ -1,7 +1,20 @@
-//! Functions that do nothing. Their contracts are the laws of `specs/Laws.antt` and `specs/TableLaws.antt`, so a check
-//! proves these.
-ghost use Rattle.lattice.specs.Laws.{DividesByBits, OrderIsStrict, InterpolateIsLeast, LeastIsUnique, LeastSplits, DivisorsAreStandard, StandardSplitsLow, StandardSplitsHigh, LeastIsStandard, StandardIsLeast, StandardCount, CountDecidesStandard, BasisElementFromLeast, ReducedBasisIsUnique, LeastOverMore, StandardOverMore, FamilyIsItsMembers, CofactorsByBit, FamilyIsJoin, StandardByRecursion, LeadsAreMinimal, ReducedBasisExists, PolynomialByValues, ProductByValues, CarePointsAreDisjoint, WorkingSetMembers, WorkingSetIsNodeList, LeadsByRecursion, FillingKeepsCanonical, DenotedStays, HistoryStaysFit, DenotedIsOne, HandleIsOne, StoredFit, FittingIsLegal, HistoriesAppend, TrueWordStays, ConsistentByRows, RoseIsGreater};
-ghost use Rattle.lattice.specs.TableLaws.{FillingKeepsWords, HandlesDenote, KnownIsOneToOne, UnionAgrees, AgreementStays};
+//! Functions that do nothing. Their contracts are the laws of `specs/Laws.antt` and
+//! `specs/TableLaws.antt`, so a check proves these.
+ghost use Rattle.lattice.specs.Laws.{DividesByBits, OrderIsStrict, InterpolateIsLeast};
+ghost use Rattle.lattice.specs.Laws.{LeastIsUnique, LeastSplits, DivisorsAreStandard};
+ghost use Rattle.lattice.specs.Laws.{StandardSplitsLow, StandardSplitsHigh, LeastIsStandard};
+ghost use Rattle.lattice.specs.Laws.{StandardIsLeast, StandardCount, CountDecidesStandard};
+ghost use Rattle.lattice.specs.Laws.{BasisElementFromLeast, ReducedBasisIsUnique, LeastOverMore};
+ghost use Rattle.lattice.specs.Laws.{StandardOverMore, FamilyIsItsMembers, CofactorsByBit};
+ghost use Rattle.lattice.specs.Laws.{FamilyIsJoin, StandardByRecursion, LeadsAreMinimal};
+ghost use Rattle.lattice.specs.Laws.{ReducedBasisExists, PolynomialByValues, ProductByValues};
+ghost use Rattle.lattice.specs.Laws.{CarePointsAreDisjoint, WorkingSetMembers};
+ghost use Rattle.lattice.specs.Laws.{WorkingSetIsNodeList, LeadsByRecursion, FillingKeepsCanonical};
+ghost use Rattle.lattice.specs.Laws.{DenotedStays, HistoryStaysFit, DenotedIsOne, HandleIsOne};
+ghost use Rattle.lattice.specs.Laws.{StoredFit, FittingIsLegal, HistoriesAppend, TrueWordStays};
+ghost use Rattle.lattice.specs.Laws.{ConsistentByRows, RoseIsGreater};
+ghost use Rattle.lattice.specs.TableLaws.{FillingKeepsWords, HandlesDenote, KnownIsOneToOne};
+ghost use Rattle.lattice.specs.TableLaws.{UnionAgrees, AgreementStays};
 
 /// A monomial divides a point exactly where every bit of it is a bit of the point.
 #[tactic(auto, using(crate::proofs::Values::divides_by_bits))]

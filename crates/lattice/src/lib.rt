@@ -1,4 +1,5 @@
-//! Points, monomials, families and polynomials in Boolean variables, the rows of a description, and their laws.
+//! Points, monomials, families and polynomials in Boolean variables, the rows of a description, and
+//! their laws.
 #![tactic(auto)]
 
 mod entry;

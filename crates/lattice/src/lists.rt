@@ -1,5 +1,6 @@
 //! Small lists, which contracts see as plain lists.
-ghost use Rattle.std.specs.Prelude.{◌≡◌, List, [], ◌∷◌, ◌++◌, ◌↔◌, length, slice_get, IsTrue, OnOk, OnErr, option_map};
+ghost use Rattle.std.specs.Prelude.{◌≡◌, List, [], ◌∷◌, ◌++◌, ◌↔◌, length, slice_get, IsTrue, OnOk};
+ghost use Rattle.std.specs.Prelude.{OnErr, option_map};
 
 use super::memory::Memory;
 use super::mono::Mono;

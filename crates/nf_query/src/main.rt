@@ -1,5 +1,5 @@
-//! `nfq reduce|union|meet`: reads a description from standard input, and in mode reduce the queries behind it, and writes the answers or
-//! a reduced basis to standard output.
+//! `nfq reduce|union|meet`: reads a description from standard input, and in mode reduce the queries
+//! behind it, and writes the answers or a reduced basis to standard output.
 #![tactic(auto)]
 
 use outside::{StdSink, StdSource};

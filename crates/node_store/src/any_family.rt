@@ -16,8 +16,8 @@ impl Planned for EveryFamily {
     ghost node_list = { λ p. working_set_is_node_list p.0 (every_family p.0) };
 }
 
-/// The plan that has every family over so many variables: of a store that may be asked for any of them. It does nothing
-/// at run time.
+/// The plan that has every family over so many variables: of a store that may be asked for any of
+/// them. It does nothing at run time.
 pub fn any_plan(vars: u32) -> Plan
     ensures { result.families ≡ working_set vars (every_family vars) }
 {

@@ -16,5 +16,7 @@ pub fn equal_families_have_one_handle<S: Store>(store: &S, a: Handle, b: Handle)
 
 /// Where the plan has no more families than the store has slots, a call that gives a handle is Ok.
 pub fn fitting_plan_suffices()
-    ensures { (before after : State) (result : Result HandleIn FullIn) (f : Family) (needed : List Family) → Gives before after result f needed → length before.plan ≤ before.capacity → IsOk result }
+    ensures { (before after : State) (result : Result HandleIn FullIn) (f : Family)
+        (needed : List Family) → Gives before after result f needed
+        → length before.plan ≤ before.capacity → IsOk result }
 {}

@@ -4,7 +4,8 @@ ghost use Rattle.lattice.specs.Family.{Has};
 
 use lattice::Op;
 
-/// The name of a family in a store: 0 the empty one, 1 the one whose one member is 0, and s + 2 that of the node in slot s.
+/// The name of a family in a store: 0 the empty one, 1 the one whose one member is 0, and s + 2
+/// that of the node in slot s.
 #[derive(Clone, Copy, PartialEq, Eq, Hash, Debug)]
 pub struct Handle(pub u32);
 
@@ -20,9 +21,11 @@ pub struct Node {
 #[derive(Clone, Copy, PartialEq, Eq, Hash, Debug)]
 pub struct Full;
 
-/// A store of diagram nodes, which knows the families of its handles. None of its calls takes memory.
+/// A store of diagram nodes, which knows the families of its handles. None of its calls takes
+/// memory.
 pub trait Store {
-    ghost use Rattle.node_store.specs.Stores.{State, IsSound, IsNode, node_family, Knows, family, AreOperands, IsResult, Builds, Reads};
+    ghost use Rattle.node_store.specs.Stores.{State, IsSound, IsNode, node_family, Knows, family};
+    ghost use Rattle.node_store.specs.Stores.{AreOperands, IsResult, Builds, Reads};
 
     ghost state: { Self → State };
 
@@ -30,12 +33,13 @@ pub trait Store {
     fn vars(&self) -> u32
         ensures { result ≡ (state self.now).vars };
 
-    /// The handle of a node over known handles, whose family is in the plan. It is Full only where the node has no slot and
-    /// none is left for it.
+    /// The handle of a node over known handles, whose family is in the plan. It is Full only where
+    /// the node has no slot and none is left for it.
     fn intern(&mut self, n: &Node) -> Result<Handle, Full>
         requires node { IsNode (state self.old) n.now }
         requires planned { Has (state self.old).plan (node_family (state self.old) n.now) }
-        ensures { Builds (state self.old) (state self.new) result (node_family (state self.old) n.now) };
+        ensures { Builds (state self.old) (state self.new) result
+            (node_family (state self.old) n.now) };
 
     /// The node of a known handle; None exactly for the two constants.
     fn node(&mut self, h: Handle) -> Option<Node>
@@ -43,9 +47,11 @@ pub trait Store {
         ensures reads { Reads (state self.old) (state self.new) }
         ensures constant { IsNone result ↔ (h.0 < 2) }
         ensures node { IfSome result (IsNode (state self.new)) }
-        ensures family { IfSome result (λ n. node_family (state self.new) n ≡ family (state self.old) h) };
+        ensures family { IfSome result
+            (λ n. node_family (state self.new) n ≡ family (state self.old) h) };
 
-    /// The kept result of an operation on these operands. A store need not keep any: it may always answer None.
+    /// The kept result of an operation on these operands. A store need not keep any: it may always
+    /// answer None.
     fn look(&mut self, op: Op, a: Handle, b: u32) -> Option<Handle>
         requires { AreOperands (state self.old) op a b }
         ensures reads { Reads (state self.old) (state self.new) }

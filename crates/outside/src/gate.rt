@@ -24,8 +24,8 @@ impl Gate for OpenGate {
     }
 }
 
-/// A gate where a first and a second branch wait for each other. Each sets a flag of its own, and then looks at the other's until
-/// it is set, so many times at most.
+/// A gate where a first and a second branch wait for each other. Each sets a flag of its own, and
+/// then looks at the other's until it is set, so many times at most.
 #[derive(Drop)]
 pub struct Rendezvous {
     first: AtomicU64,
@@ -50,8 +50,8 @@ impl Rendezvous {
         }
     }
 
-    /// Whether a first and a second branch came, and none went on without having seen the other: no thread that runs one branch
-    /// after the other leaves it so.
+    /// Whether a first and a second branch came, and none went on without having seen the other: no
+    /// thread that runs one branch after the other leaves it so.
     pub fn met(&self) -> bool {
         self.first.load(Ordering::SeqCst) != 0
             && self.second.load(Ordering::SeqCst) != 0

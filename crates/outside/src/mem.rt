@@ -1,5 +1,6 @@
 // A source and a sink in memory, which fail at the calls that the caller names.
-ghost use Rattle.std.specs.Prelude.{◌≡◌, ◌≤◌, ◌<◌, ◌-◌, ◌==◌, ◌||◌, [], List, ℕ, length, min, take, drop, IfOk, Some, is_err, if◌then◌else◌};
+ghost use Rattle.std.specs.Prelude.{◌≡◌, ◌≤◌, ◌<◌, ◌-◌, ◌==◌, ◌||◌, [], List, ℕ, length, min, take};
+ghost use Rattle.std.specs.Prelude.{drop, IfOk, Some, is_err, if◌then◌else◌};
 ghost use Rattle.std.specs.Io.{ReadsAtMost};
 ghost use Rattle.std.specs.Io.KnownBytes.{ReadConsumes, WriteAppends};
 ghost use Rattle.outside.specs.Causes.{HasCause};
@@ -63,7 +64,8 @@ impl MemSource {
         fails: &[u64],
     ) -> Result<MemSource, Memory>
         requires step { 1 ≤ step }
-        ensures made { IfOk result (λ s. s ≡ record { left = bytes.now; step = step; fails = fails.now; calls = 0; faults = 0 }) }
+        ensures made { IfOk result (λ s. s
+            ≡ record { left = bytes.now; step = step; fails = fails.now; calls = 0; faults = 0 }) }
     {
         Ok(MemSource {
             bytes: bytes.to_vec(alloc)?,
@@ -89,8 +91,10 @@ impl Source for MemSource {
         // Exactly the calls that are due fail.
         ensures due { is_err result ≡ is_due self.old.fails self.old.calls }
         // The others give as many bytes as are left and fit, up to a step.
-        ensures count { IfOk result (λ k. k ≡ min self.old.step (min (length self.old.left) (length buf.new))) }
-        ensures state { self.new ≡ record self.old { left = self.new.left; faults = self.new.faults; calls = one_more self.old.calls } }
+        ensures count { IfOk result (λ k. k
+            ≡ min self.old.step (min (length self.old.left) (length buf.new))) }
+        ensures state { self.new ≡ record self.old
+            { left = self.new.left; faults = self.new.faults; calls = one_more self.old.calls } }
     {
         if count_call(&mut self.calls, &mut self.faults, &self.fails) {
             return Err(Failed);
@@ -131,11 +135,19 @@ impl Model for MemSink {
 }
 
 impl MemSink {
-    /// Room for so many bytes, taken at most `step` per call, but for the calls whose numbers are in
-    /// `fails`.
+    /// Room for so many bytes, taken at most `step` per call, but for the calls whose numbers are
+    /// in `fails`.
     pub fn make(alloc: Global, room: usize, step: usize, fails: &[u64]) -> Result<MemSink, Memory>
         requires step { 1 ≤ step }
-        ensures made { IfOk result (λ s. s ≡ record { held = []; room = room; step = step; fails = fails.now; calls = 0; faults = 0 }) }
+        ensures made { IfOk result (λ s. s
+            ≡ record {
+              held = [];
+              room = room;
+              step = step;
+              fails = fails.now;
+              calls = 0;
+              faults = 0;
+            }) }
     {
         Ok(MemSink {
             bytes: Vec::from_elem(alloc, 0, room)?,
@@ -166,9 +178,12 @@ impl Sink for MemSink {
         ensures bytes { WriteAppends (Some self.old.held) (Some self.new.held) result piece.now }
         ensures cause { HasCause self.old.faults self.new.faults result }
         // Exactly the calls that are due fail, and those that find no room.
-        ensures due { is_err result ≡ (is_due self.old.fails self.old.calls || length self.old.held == self.old.room) }
-        ensures count { IfOk result (λ n. n ≡ min self.old.step (min (self.old.room - length self.old.held) (length piece.now))) }
-        ensures state { self.new ≡ record self.old { held = self.new.held; faults = self.new.faults; calls = one_more self.old.calls } }
+        ensures due { is_err result ≡
+            (is_due self.old.fails self.old.calls || length self.old.held == self.old.room) }
+        ensures count { IfOk result (λ n. n
+            ≡ min self.old.step (min (self.old.room - length self.old.held) (length piece.now))) }
+        ensures state { self.new ≡ record self.old
+            { held = self.new.held; faults = self.new.faults; calls = one_more self.old.calls } }
     {
         if count_call(&mut self.calls, &mut self.faults, &self.fails) {
             return Err(Failed);

@@ -31,8 +31,10 @@ pub fn read_up_to<S: Source>(
     source: &mut S,
     most: usize,
 ) -> Result<Vec<u8>, ReadStop>
-    ensures bytes { IfOk result (λ bytes. LosesUpTo (S.left source.old) (S.left source.new) most bytes.items) }
-    ensures told { IfOk result (λ bytes. (xs : List ℕ) → S.left source.old ≡ Some xs → bytes.items ≡ take most xs) }
+    ensures bytes { IfOk result (λ bytes. LosesUpTo (S.left source.old) (S.left source.new) most
+        bytes.items) }
+    ensures told { IfOk result (λ bytes. (xs : List ℕ) → S.left source.old ≡ Some xs
+        → bytes.items ≡ take most xs) }
     ensures few { LosesAtMost (S.left source.old) (S.left source.new) most }
     ensures later { S.faults source.old ≤ S.faults source.new }
     ensures kept { OnOk result (S.faults source.new ≡ S.faults source.old) }

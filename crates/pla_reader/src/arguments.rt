@@ -1,10 +1,12 @@
 //! What the commands of a description set.
-ghost use Rattle.std.specs.Prelude.{◌≡◌, ◌+◌, ◌<◌, ◌≤◌, ◌^◌, true, false, length, min, Option, Some, None, is_some, IfOk, MatchResult};
+ghost use Rattle.std.specs.Prelude.{◌≡◌, ◌+◌, ◌<◌, ◌≤◌, ◌^◌, true, false, length, min, Option};
+ghost use Rattle.std.specs.Prelude.{Some, None, is_some, IfOk, MatchResult};
 ghost use Rattle.std.specs.List.{list_all};
 ghost use Rattle.std.specs.Char.{is_ascii_digit};
 ghost use Rattle.std.specs.Str.Parse.{digits_value};
 ghost use Rattle.pla_reader.specs.Lines.{words_of};
-ghost use Rattle.pla_reader.specs.Grammar.{kind_named, number_in, kind_in, size_fault, kind_fault, names_fault};
+ghost use Rattle.pla_reader.specs.Grammar.{kind_named, number_in, kind_in, size_fault, kind_fault};
+ghost use Rattle.pla_reader.specs.Grammar.{names_fault};
 ghost use Rattle.pla_reader.specs.Parts.{Stops};
 
 use crate::lines::{count_words, first_word, is_word, only_word};
@@ -37,7 +39,8 @@ pub fn size_in(before: Option<u32>, most: u32, arguments: &[u8]) -> Result<u32, 
     requires { most < 1000 }
     ensures few { IfOk result (λ size. size ≤ most) }
     ensures answer { MatchResult result
-        (λ size. (size_fault (is_some before) most (words_of arguments.now) ≡ None) × (number_in (words_of arguments.now) ≡ Some size))
+        (λ size. (size_fault (is_some before) most (words_of arguments.now) ≡ None)
+        × (number_in (words_of arguments.now) ≡ Some size))
         (λ why. size_fault (is_some before) most (words_of arguments.now) ≡ Some why) }
 {
     if before.is_some() {
@@ -78,7 +81,8 @@ fn kind_named(name: &[u8]) -> Option<Kind>
 #[tactic(auto, unfolding(crate::specs::Grammar::kind_fault))]
 pub fn kind_in(before: Option<Kind>, rows: usize, arguments: &[u8]) -> Result<Kind, Why>
     ensures { MatchResult result
-        (λ kind. (kind_fault (is_some before) rows (words_of arguments.now) ≡ None) × (kind_in (words_of arguments.now) ≡ Some kind))
+        (λ kind. (kind_fault (is_some before) rows (words_of arguments.now) ≡ None)
+        × (kind_in (words_of arguments.now) ≡ Some kind))
         (λ why. kind_fault (is_some before) rows (words_of arguments.now) ≡ Some why) }
 {
     if before.is_some() {
@@ -98,7 +102,8 @@ pub fn kind_in(before: Option<Kind>, rows: usize, arguments: &[u8]) -> Result<Ki
 
 /// The words, as names.
 fn names(alloc: Global, words: &[u8]) -> Result<Names, LineRefusal<Why>>
-    ensures { MatchResult result (λ names. names ≡ words_of words.now) (λ e. e ≡ LineRefusal.Memory) }
+    ensures { MatchResult result (λ names. names ≡ words_of words.now)
+        (λ e. e ≡ LineRefusal.Memory) }
 {
     let mut names = Names::new(alloc);
     let mut rest = words;
@@ -118,7 +123,8 @@ pub fn names_in(
     arguments: &[u8],
 ) -> Result<Names, LineRefusal<Why>>
     ensures { MatchResult result
-        (λ names. (names_fault (is_some before.now) count (words_of arguments.now) ≡ None) × (names ≡ words_of arguments.now))
+        (λ names. (names_fault (is_some before.now) count (words_of arguments.now) ≡ None)
+        × (names ≡ words_of arguments.now))
         (λ e. Stops e (names_fault (is_some before.now) count (words_of arguments.now))) }
 {
     if before.is_some() {

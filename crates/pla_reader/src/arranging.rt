@@ -2,7 +2,8 @@
 ghost use Rattle.std.specs.Prelude.{◌≡◌, ◌≤◌, IfOk, All, length, map};
 ghost use Rattle.lattice.specs.declared.limits.TheConstants.{MAX_VARS};
 ghost use Rattle.pla_reader.specs.Reading.{description};
-ghost use Rattle.pla_reader.specs.Orders.{IsOrder, arranged, arranged_mask, arranged_row, names_in_order};
+ghost use Rattle.pla_reader.specs.Orders.{IsOrder, arranged, arranged_mask, arranged_row};
+ghost use Rattle.pla_reader.specs.Orders.{names_in_order};
 
 use crate::names::{names_in_place, printed};
 use crate::pla::{Pla, Rows};
@@ -77,8 +78,8 @@ fn names_in_order(alloc: Global, order: &[u32], names: &[Name]) -> Result<Names,
 
 /// The description over the variables: variable i is the input at the order's i-th position.
 ///
-/// In each row the variables have the bits of their inputs. The names of the inputs are the printed ones, in the order. All
-/// else is as in `p`.
+/// In each row the variables have the bits of their inputs. The names of the inputs are the printed
+/// ones, in the order. All else is as in `p`.
 pub fn arrange(alloc: Global, p: &Pla, order: &Order) -> Result<Pla, Memory>
     requires { IsOrder p.now.inputs order.now }
     ensures { IfOk result (λ q. description q ≡ arranged (description p.now) order.now) }

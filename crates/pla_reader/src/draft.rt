@@ -89,14 +89,16 @@ impl Draft {
         self.sizes().map(|sizes| sizes.1)
     }
 
-    /// Adds what a line says, and answers whether it ends the description. After an `Err` nothing is said of the draft.
+    /// Adds what a line says, and answers whether it ends the description. After an `Err` nothing
+    /// is said of the draft.
     pub fn add_line(
         &mut self,
         alloc: Global,
         number: u32,
         line: &[u8],
     ) -> Result<bool, LineRefusal<Why>>
-        ensures { (earlier : List (List ℕ)) → length earlier + 1 ≡ number → IsDraftOf self.old earlier → AddsLine result self.new earlier line.now }
+        ensures { (earlier : List (List ℕ)) → length earlier + 1 ≡ number
+            → IsDraftOf self.old earlier → AddsLine result self.new earlier line.now }
     {
         if !is_printable(line) {
             return Err(LineRefusal::Bad(Why::BadByte));
@@ -120,7 +122,9 @@ impl Draft {
         word: &[u8],
         arguments: &[u8],
     ) -> Result<bool, LineRefusal<Why>>
-        ensures { (earlier : List (List ℕ)) (line : List ℕ) → IsCommandLine line word.now (words_of arguments.now) → IsDraftOf self.old earlier → AddsLine result self.new earlier line }
+        ensures { (earlier : List (List ℕ)) (line : List ℕ)
+            → IsCommandLine line word.now (words_of arguments.now) → IsDraftOf self.old earlier
+            → AddsLine result self.new earlier line }
     {
         if is_word(word, ".i") {
             self.inputs = Some(size_in(self.inputs, MAX_VARS, arguments)?);

@@ -1,5 +1,7 @@
-//! Functions that do nothing. Their contracts are the laws of `specs/Laws.antt`, so a check proves these.
-ghost use Rattle.pla_reader.specs.Laws.{OrdersByTest, ArrangedBits, FileOrderKeepsRows, ArrangedNamesArePrinted, NamesAskForTheirOrder};
+//! Functions that do nothing. Their contracts are the laws of `specs/Laws.antt`, so a check proves
+//! these.
+ghost use Rattle.pla_reader.specs.Laws.{OrdersByTest, ArrangedBits, FileOrderKeepsRows};
+ghost use Rattle.pla_reader.specs.Laws.{ArrangedNamesArePrinted, NamesAskForTheirOrder};
 
 /// A list is an order exactly where the test says so.
 pub fn orders_by_test()

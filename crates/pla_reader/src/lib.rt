@@ -1,4 +1,5 @@
-//! Descriptions in the form of espresso's PLA files: read from bytes, their names, and the order of their inputs.
+//! Descriptions in the form of espresso's PLA files: read from bytes, their names, and the order of
+//! their inputs.
 #![tactic(auto)]
 
 mod arguments;

@@ -1,9 +1,11 @@
 //! The lines of a text, and the words that stand on a line.
-ghost use Rattle.std.specs.Prelude.{◌≡◌, ◌+◌, ◌<◌, ◌≤◌, ◌==◌, true, not, [], ◌∷◌, length, Some, None, MatchOption};
+ghost use Rattle.std.specs.Prelude.{◌≡◌, ◌+◌, ◌<◌, ◌≤◌, ◌==◌, true, not, [], ◌∷◌, length, Some};
+ghost use Rattle.std.specs.Prelude.{None, MatchOption};
 ghost use Rattle.std.specs.List.{list_all, position_or_len};
 ghost use Rattle.std.specs.Str.{bytes_eq};
 ghost use Rattle.std.specs.Io.BufRead.{strip_last};
-ghost use Rattle.pla_reader.specs.Lines.{lines_of, is_blank, is_printable, before_comment, content, words_of};
+ghost use Rattle.pla_reader.specs.Lines.{lines_of, is_blank, is_printable, before_comment, content};
+ghost use Rattle.pla_reader.specs.Lines.{words_of};
 ghost use Rattle.pla_reader.specs.Parts.{BeginsWithWord};
 ghost use Rattle.pla_reader.specs.Grammar.{only};
 
@@ -103,7 +105,8 @@ fn first_blank(line: &[u8]) -> usize
 
 /// The first word of a line, and what follows it.
 pub fn first_word(line: &[u8]) -> Option<(&[u8], &[u8])>
-    ensures { MatchOption result (words_of line.now ≡ []) (λ r. BeginsWithWord line.now r.0.now r.1.now) }
+    ensures { MatchOption result (words_of line.now ≡ [])
+        (λ r. BeginsWithWord line.now r.0.now r.1.now) }
 {
     let start = first_of_word(line);
     if start == line.len() {
@@ -128,7 +131,8 @@ pub fn count_words(line: &[u8]) -> usize
 
 /// The word of a line that has just one.
 pub fn only_word(line: &[u8]) -> Option<&[u8]>
-    ensures { MatchOption result (only (words_of line.now) ≡ None) (λ r. only (words_of line.now) ≡ Some r.now) }
+    ensures { MatchOption result (only (words_of line.now) ≡ None)
+        (λ r. only (words_of line.now) ≡ Some r.now) }
 {
     let (word, rest) = first_word(line)?;
     match first_word(rest) {

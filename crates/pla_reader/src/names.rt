@@ -31,8 +31,8 @@ fn all_continue(bytes: &[u8]) -> bool
     bytes.iter().all(|b| continues_name(*b))
 }
 
-/// Whether the name is plain: it has 1 to 32 bytes, begins with an ASCII letter or `_`, and goes on with ASCII letters, digits
-/// and the bytes `_ . [ ] < >`.
+/// Whether the name is plain: it has 1 to 32 bytes, begins with an ASCII letter or `_`, and goes on
+/// with ASCII letters, digits and the bytes `_ . [ ] < >`.
 #[tactic(auto, unfolding(crate::specs::PlainNames::is_plain))]
 pub fn is_plain(name: &[u8]) -> bool
     ensures { result ≡ is_plain name.now }
@@ -94,8 +94,8 @@ fn numbered(alloc: Global, letter: &str, count: u32) -> Result<Names, Memory>
     Ok(names)
 }
 
-/// The names that are printed in place of the given ones: the letter with 1, 2 and so on, as many as `count`. None where the
-/// given names are plain, and are printed themselves.
+/// The names that are printed in place of the given ones: the letter with 1, 2 and so on, as many
+/// as `count`. None where the given names are plain, and are printed themselves.
 #[tactic(auto, unfolding(crate::specs::PrintedNames::printed_names))]
 pub fn names_in_place(
     alloc: Global,
@@ -103,7 +103,8 @@ pub fn names_in_place(
     count: u32,
     given: &Names,
 ) -> Result<Option<Names>, Memory>
-    ensures { IfOk result (λ names. unwrap_or names given.now ≡ printed_names letter.now count given.now) }
+    ensures { IfOk result (λ names. unwrap_or names given.now
+        ≡ printed_names letter.now count given.now) }
 {
     if plain_names(given) {
         Ok(None)

@@ -2,7 +2,8 @@
 ghost use Rattle.std.specs.Prelude.{◌≡◌, ◌+◌, ◌≤◌, length, IfOk, OnOk, IsErrOf};
 ghost use Rattle.lattice.specs.declared.limits.TheConstants.{MAX_VARS};
 ghost use Rattle.pla_reader.specs.PrintedNames.{input_names};
-ghost use Rattle.pla_reader.specs.Orders.{IsOrder, file_order, names_between, names_in_order, order_named, position_named};
+ghost use Rattle.pla_reader.specs.Orders.{IsOrder, file_order, names_between, names_in_order};
+ghost use Rattle.pla_reader.specs.Orders.{order_named, position_named};
 ghost use Rattle.pla_reader.specs.declared.order.OrderRefusal.TheVariants.{Memory};
 
 use crate::names::{names_in_place, printed};
@@ -46,7 +47,8 @@ pub fn file_order(alloc: Global, p: &Pla) -> Result<Order, lattice::Memory>
     Ok(order)
 }
 
-/// The position of the input of this name, from 1. Where no input has it, one more than there are inputs.
+/// The position of the input of this name, from 1. Where no input has it, one more than there are
+/// inputs.
 #[tactic(auto, unfolding(crate::specs::Orders::position_named))]
 fn position_of(names: &[Name], name: &[u8]) -> u32
     requires { length names.now ≤ MAX_VARS }
@@ -65,7 +67,8 @@ fn order_of(alloc: Global, names: &[Name], text: &[u8]) -> Result<Order, OrderRe
     ensures order { IfOk result (λ order. order ≡ order_named names.now text.now) }
     ensures good { OnOk result (IsOrder (length names.now) (order_named names.now text.now)) }
     ensures names { IfOk result (λ order. names_in_order order names.now ≡ names_between text.now) }
-    ensures bad { IsErrOf result OrderRefusal.Bad → IsOrder (length names.now) (order_named names.now text.now) → ⊥ }
+    ensures bad { IsErrOf result OrderRefusal.Bad
+        → IsOrder (length names.now) (order_named names.now text.now) → ⊥ }
 {
     let mut order = Order::new(alloc);
     for name in text.split(|byte| *byte == b',') {
@@ -82,15 +85,18 @@ fn order_of(alloc: Global, names: &[Name], text: &[u8]) -> Result<Order, OrderRe
     }
 }
 
-/// The order of the inputs that the text asks for: their printed names, each once, with commas between them, the greatest
-/// variable's first.
+/// The order of the inputs that the text asks for: their printed names, each once, with commas
+/// between them, the greatest variable's first.
 ///
-/// `Bad` says that the text, cut at its commas, is no list of all printed names of the inputs, each once.
+/// `Bad` says that the text, cut at its commas, is no list of all printed names of the inputs, each
+/// once.
 pub fn read_order(alloc: Global, p: &Pla, text: &[u8]) -> Result<Order, OrderRefusal>
     ensures order { IfOk result (λ order. order ≡ order_named (input_names p.now) text.now) }
     ensures good { OnOk result (IsOrder p.now.inputs (order_named (input_names p.now) text.now)) }
-    ensures names { IfOk result (λ order. names_in_order order (input_names p.now) ≡ names_between text.now) }
-    ensures bad { IsErrOf result OrderRefusal.Bad → IsOrder p.now.inputs (order_named (input_names p.now) text.now) → ⊥ }
+    ensures names { IfOk result (λ order. names_in_order order (input_names p.now)
+        ≡ names_between text.now) }
+    ensures bad { IsErrOf result OrderRefusal.Bad
+        → IsOrder p.now.inputs (order_named (input_names p.now) text.now) → ⊥ }
 {
     let in_place = names_in_place(alloc, "x", p.inputs, &p.in_names)?;
     order_of(alloc, printed(&in_place, &p.in_names), text)

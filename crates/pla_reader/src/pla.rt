@@ -7,7 +7,8 @@ use lattice::{Kind, Names, Row, Seq};
 /// A list of rows.
 pub type Rows = Seq<Row>;
 
-/// A description: the sizes, the type, the rows in the order of their lines, and the names that were given.
+/// A description: the sizes, the type, the rows in the order of their lines, and the names that
+/// were given.
 ///
 /// A list of names is empty where none were given.
 #[derive(Drop)]
@@ -18,5 +19,6 @@ pub struct Pla {
     pub rows: Rows,
     pub in_names: Names,
     pub out_names: Names,
-    pub ghost fits: { IsDescription inputs outputs kind rows in_names out_names } by { Prim.hlevel props },
+    pub ghost fits: { IsDescription inputs outputs kind rows
+        in_names out_names } by { Prim.hlevel props },
 }

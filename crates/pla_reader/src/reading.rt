@@ -1,6 +1,7 @@
 //! Reading a description from bytes.
 ghost use Rattle.std.specs.Prelude.{◌≡◌, ◌<◌, ◌≤◌, ◌^◌, [], length, IfOk, MatchResult};
-ghost use Rattle.pla_reader.specs.Reading.{description_lines, first_fault, reading_of, bytes_taken, GivesReading};
+ghost use Rattle.pla_reader.specs.Reading.{description_lines, first_fault, reading_of, bytes_taken};
+ghost use Rattle.pla_reader.specs.Reading.{GivesReading};
 ghost use Rattle.pla_reader.specs.Parts.{Refuses};
 ghost use Rattle.pla_reader.specs.Draft.{AllRead};
 
@@ -22,7 +23,8 @@ struct Lines {
 /// Reads the lines of the description.
 fn read_lines(alloc: Global, bytes: &[u8]) -> Result<Lines, ReadRefusal>
     requires { length bytes.now < 2 ^ 32 }
-    ensures { MatchResult result (λ lines. AllRead bytes.now lines.draft lines.count lines.taken) (λ e. Refuses e (first_fault [] (description_lines bytes.now))) }
+    ensures { MatchResult result (λ lines. AllRead bytes.now lines.draft lines.count lines.taken)
+        (λ e. Refuses e (first_fault [] (description_lines bytes.now))) }
 {
     let mut draft = Draft::new(alloc);
     let mut count = 0;
@@ -50,10 +52,11 @@ fn read_lines(alloc: Global, bytes: &[u8]) -> Result<Lines, ReadRefusal>
     })
 }
 
-/// Reads the description that the bytes begin with: the file, and the number of bytes that it takes.
+/// Reads the description that the bytes begin with: the file, and the number of bytes that it
+/// takes.
 ///
-/// These are the bytes up to and with the line `.e` or `.end`, or all bytes where there is none. `Bad` has the first bad
-/// line and the first check that it fails.
+/// These are the bytes up to and with the line `.e` or `.end`, or all bytes where there is none.
+/// `Bad` has the first bad line and the first check that it fails.
 pub fn read(alloc: Global, bytes: &[u8]) -> Result<(Pla, usize), ReadRefusal>
     requires { length bytes.now < 2 ^ 32 }
     ensures reading { GivesReading result (reading_of bytes.now) }

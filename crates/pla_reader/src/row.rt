@@ -1,5 +1,6 @@
 //! The rows of a description.
-ghost use Rattle.std.specs.Prelude.{◌≡◌, ◌≤◌, ◌&&◌, ℕ, codes, length, take, drop, Option, Some, None, IfSome, MatchOption, MatchResult, if◌then◌else◌};
+ghost use Rattle.std.specs.Prelude.{◌≡◌, ◌≤◌, ◌&&◌, ℕ, codes, length, take, drop, Option, Some};
+ghost use Rattle.std.specs.Prelude.{None, IfSome, MatchOption, MatchResult, if◌then◌else◌};
 ghost use Rattle.std.specs.List.{list_all};
 ghost use Rattle.lattice.specs.declared.limits.TheConstants.{MAX_VARS};
 ghost use Rattle.pla_reader.specs.Description.{has_off, has_dc};
@@ -84,10 +85,11 @@ fn fixes_to_one(symbol: u8) -> bool
 #[tactic(auto, using(crate::proofs::Symbols::input_steps))]
 fn cube_of(line: &[u8]) -> Option<Cube>
     requires { length (symbols line.now) ≤ MAX_VARS }
-    ensures { result ≡ (if list_all (is_one_of (codes "01-2")) (symbols line.now) then Some (record {
-      care = input_mask (is_one_of (codes "01")) (symbols line.now);
-      value = input_mask (is_one_of (codes "1")) (symbols line.now);
-    }) else None) }
+    ensures { result ≡ (if list_all (is_one_of (codes "01-2")) (symbols line.now) then Some
+        (record {
+          care = input_mask (is_one_of (codes "01")) (symbols line.now);
+          value = input_mask (is_one_of (codes "1")) (symbols line.now);
+        }) else None) }
 {
     let mut cube = Cube { care: 0, value: 0 };
     for byte in line {
@@ -104,7 +106,8 @@ fn cube_of(line: &[u8]) -> Option<Cube>
     Some(cube)
 }
 
-/// For each of ON, OFF and DC the outputs that have a cube or a point in it, as a mask. The first output has weight 1.
+/// For each of ON, OFF and DC the outputs that have a cube or a point in it, as a mask. The first
+/// output has weight 1.
 #[derive(Clone, Copy)]
 pub struct Marks {
     pub on: u64,
@@ -137,11 +140,12 @@ fn is_dc(kind: Kind, symbol: u8) -> bool
 #[tactic(auto, using(crate::proofs::Symbols::output_steps))]
 fn marks_of(kind: Kind, line: &[u8]) -> Option<Marks>
     requires { length (symbols line.now) ≤ 64 }
-    ensures { result ≡ (if list_all (is_one_of (codes "01-~24")) (symbols line.now) then Some (record {
-      on = output_mask (is_one_of (codes "14")) (symbols line.now);
-      off = output_mask (λ symbol. has_off kind && is_one_of (codes "0") symbol) (symbols line.now);
-      dc = output_mask (λ symbol. has_dc kind && is_one_of (codes "-2") symbol) (symbols line.now);
-    }) else None) }
+    ensures { let all = symbols line.now in
+        result ≡ (if list_all (is_one_of (codes "01-~24")) all then Some (record {
+          on = output_mask (is_one_of (codes "14")) all;
+          off = output_mask (λ symbol. has_off kind && is_one_of (codes "0") symbol) all;
+          dc = output_mask (λ symbol. has_dc kind && is_one_of (codes "-2") symbol) all;
+        }) else None) }
 {
     let mut marks = Marks {
         on: 0,
@@ -165,7 +169,8 @@ fn marks_of(kind: Kind, line: &[u8]) -> Option<Marks>
     Some(marks)
 }
 
-/// The row on a line that follows so many rows, by the numbers of inputs and outputs where they are given.
+/// The row on a line that follows so many rows, by the numbers of inputs and outputs where they are
+/// given.
 #[tactic(auto, using(std::proofs::lemmas::Bool::Decides::nat_tests), unfolding(crate::specs::Grammar::row_fault, crate::specs::Reading::row_of))]
 pub fn row_in(
     sizes: Option<(u32, u32)>,
@@ -176,7 +181,8 @@ pub fn row_in(
 ) -> Result<Row, Why>
     requires { IfSome sizes (λ s. (s.0 ≤ MAX_VARS) × (s.1 ≤ 64)) }
     ensures { MatchResult result
-        (λ row. (row_fault sizes rows line.now ≡ None) × IfSome sizes (λ s. row ≡ row_of s.0 kind number line.now))
+        (λ row. (row_fault sizes rows line.now ≡ None)
+        × IfSome sizes (λ s. row ≡ row_of s.0 kind number line.now))
         (λ why. row_fault sizes rows line.now ≡ Some why) }
 {
     let Some((inputs, outputs)) = sizes else {

@@ -6,7 +6,8 @@ ghost use Rattle.lattice.specs.Rows.{cube};
 ghost use Rattle.lattice.specs.WorkingLists.{working_set};
 ghost use Rattle.node_store.specs.Stores.{Denotes, Grows, IsFull, IsPlanned};
 ghost use Rattle.pla_reader.specs.Reading.{description};
-ghost use Rattle.point_ideals.specs.Cares.{AreRowCubes, HoldsPoints, points_list, says_of, used_rows};
+ghost use Rattle.point_ideals.specs.Cares.{AreRowCubes, HoldsPoints, points_list, says_of};
+ghost use Rattle.point_ideals.specs.Cares.{used_rows};
 
 use cube_build::{CubesRefusal, care_sets, cube};
 use lattice::{Names, Row};
@@ -77,10 +78,12 @@ fn cubes_of<S: Store>(
 ) -> Result<Vec<Handle>, CubesRefusal>
     requires cares { All (λ r. r.care < 2 ^ (S.state store.old).vars) rows.now }
     requires values { All (λ r. divides r.value r.care ≡ true) rows.now }
-    requires planned { let s = S.state store.old in All (λ r. IsPlanned s (cube s.vars r)) rows.now }
+    requires planned { let s = S.state store.old in
+        All (λ r. IsPlanned s (cube s.vars r)) rows.now }
     ensures grows { Grows (S.state store.old) (S.state store.new) }
     ensures cubes { IfOk result (λ cubes. AreRowCubes (S.state store.new) rows.now cubes.items) }
-    ensures full { IsErrOf result CubesRefusal.Full → IsFull (S.state store.old) (S.state store.new) }
+    ensures full { IsErrOf result CubesRefusal.Full
+        → IsFull (S.state store.old) (S.state store.new) }
 {
     let mut cubes = Vec::new(alloc);
     for row in rows {
@@ -89,8 +92,8 @@ fn cubes_of<S: Store>(
     Ok(cubes)
 }
 
-/// The care points of the output, whose numbers begin with 1, in a store with a variable for each input. It is Full only where the
-/// plan has more families than the store has slots.
+/// The care points of the output, whose numbers begin with 1, in a store with a variable for each
+/// input. It is Full only where the plan has more families than the store has slots.
 pub fn care_points<S: Store>(
     alloc: Global,
     store: &mut S,
@@ -99,10 +102,12 @@ pub fn care_points<S: Store>(
 ) -> Result<Handle, CubesRefusal>
     requires output { (1 ≤ output) × (output ≤ p.now.outputs) }
     requires vars { (S.state store.old).vars ≡ p.now.inputs }
-    requires planned { Covers (S.state store.old).plan (working_set p.now.inputs (points_list (description p.now) output)) }
+    requires planned { Covers (S.state store.old).plan
+        (working_set p.now.inputs (points_list (description p.now) output)) }
     ensures grows { Grows (S.state store.old) (S.state store.new) }
     ensures points { IfOk result (HoldsPoints (S.state store.new) (description p.now) output) }
-    ensures full { IsErrOf result CubesRefusal.Full → IsFull (S.state store.old) (S.state store.new) }
+    ensures full { IsErrOf result CubesRefusal.Full
+        → IsFull (S.state store.old) (S.state store.new) }
 {
     let part = part_for(alloc, p, output)?;
     let cubes = cubes_of(alloc, store, part.rows.as_slice())?;

@@ -1,12 +1,15 @@
-//! The reduced basis of the intersection or the sum of the ideals of two outputs' care points, each phase on a table of its own.
-ghost use Rattle.std.specs.Prelude.{◌≡◌, ◌≢◌, ◌<◌, ◌≤◌, ◌^◌, List, None, Some, IfErr, IfOk, map, reverse};
+//! The reduced basis of the intersection or the sum of the ideals of two outputs' care points, each
+//! phase on a table of its own.
+ghost use Rattle.std.specs.Prelude.{◌≡◌, ◌≢◌, ◌<◌, ◌≤◌, ◌^◌, List, None, Some, IfErr, IfOk, map};
+ghost use Rattle.std.specs.Prelude.{reverse};
 ghost use Rattle.lattice.specs.Family.{Family};
 ghost use Rattle.lattice.specs.WorkingLists.{working_set};
 ghost use Rattle.lattice.specs.declared.limits.TheConstants.{MIN_BITS, MAX_BITS};
 ghost use Rattle.lattice.proofs.Diagrams.{working_set_is_node_list};
 ghost use Rattle.pla_reader.specs.Reading.{description};
-ghost use Rattle.point_ideals.specs.Joined.{FindsBasis, FindsLeads, IsJointBasis, first_phase_list, first_refused, joint_leads, second_phase_list};
-ghost use Rattle.point_ideals.specs.declared.joined.BasisRefusal.TheVariants.{Memory as OutOfMemory};
+ghost use Rattle.point_ideals.specs.Joined.{FindsBasis, FindsLeads, IsJointBasis, first_phase_list};
+ghost use Rattle.point_ideals.specs.Joined.{first_refused, joint_leads, second_phase_list};
+ghost use Rattle.point_ideals.specs.declared.joined.BasisRefusal.TheVariants as refusals;
 
 use crate::phases::{first_phase, second_phase};
 use computed_cache::CachedPass;
@@ -22,9 +25,11 @@ use unique_table::Shared;
 /// How the care points of two outputs are put together.
 #[derive(Clone, Copy, Debug, PartialEq, Eq)]
 pub enum Joining {
-    /// All of them. What vanishes there is what vanishes at the points of the one and at those of the other.
+    /// All of them. What vanishes there is what vanishes at the points of the one and at those of
+    /// the other.
     Union,
-    /// The common ones. What vanishes there is a sum of what vanishes at the points of the one and what does at those of the other.
+    /// The common ones. What vanishes there is a sum of what vanishes at the points of the one and
+    /// what does at those of the other.
     Meet,
 }
 
@@ -66,9 +71,7 @@ impl From<WalkRefusal> for BasisRefusal {
 }
 
 impl From<Memory> for BasisRefusal {
-    ghost use Rattle.point_ideals.specs.declared.joined.BasisRefusal.TheVariants.{Memory as OutOfMemory};
-
-    ghost from_gives = { λ _ e. e ≡ OutOfMemory };
+    ghost from_gives = { λ _ e. e ≡ refusals.Memory };
 
     fn from(_: Memory) -> Self {
         BasisRefusal::Memory
@@ -80,9 +83,11 @@ impl From<Memory> for BasisRefusal {
 struct FirstPhase<'a>(&'a Pla, Joining);
 
 impl Planned for FirstPhase<'_> {
-    ghost families = { λ r. working_set r.0.now.inputs (first_phase_list (description r.0.now) r.1) };
+    ghost families = { λ r. working_set r.0.now.inputs
+        (first_phase_list (description r.0.now) r.1) };
 
-    ghost node_list = { λ r. working_set_is_node_list r.0.now.inputs (first_phase_list (description r.0.now) r.1) };
+    ghost node_list = { λ r. working_set_is_node_list r.0.now.inputs
+        (first_phase_list (description r.0.now) r.1) };
 }
 
 /// Phase 2 on a description.
@@ -90,21 +95,25 @@ impl Planned for FirstPhase<'_> {
 struct SecondPhase<'a>(&'a Pla, Joining);
 
 impl Planned for SecondPhase<'_> {
-    ghost families = { λ r. working_set r.0.now.inputs (second_phase_list (description r.0.now) r.1) };
+    ghost families = { λ r. working_set r.0.now.inputs
+        (second_phase_list (description r.0.now) r.1) };
 
-    ghost node_list = { λ r. working_set_is_node_list r.0.now.inputs (second_phase_list (description r.0.now) r.1) };
+    ghost node_list = { λ r. working_set_is_node_list r.0.now.inputs
+        (second_phase_list (description r.0.now) r.1) };
 }
 
 /// The plan of phase 1: its working set. It does nothing at run time.
 fn first_plan(p: &Pla, joining: Joining) -> Plan
-    ensures { result.families ≡ working_set p.now.inputs (first_phase_list (description p.now) joining) }
+    ensures { result.families ≡ working_set p.now.inputs
+        (first_phase_list (description p.now) joining) }
 {
     plan_of(&FirstPhase(p, joining))
 }
 
 /// The plan of phase 2: its working set. It does nothing at run time.
 fn second_plan(p: &Pla, joining: Joining) -> Plan
-    ensures { result.families ≡ working_set p.now.inputs (second_phase_list (description p.now) joining) }
+    ensures { result.families ≡ working_set p.now.inputs
+        (second_phase_list (description p.now) joining) }
 {
     plan_of(&SecondPhase(p, joining))
 }
@@ -119,14 +128,16 @@ fn leads_in<S: Store>(
 ) -> Result<Monos, BasisRefusal>
     requires outputs { p.now.outputs ≡ 2 }
     requires vars { (S.state store.old).vars ≡ p.now.inputs }
-    requires plan { (S.state store.old).plan ≡ working_set p.now.inputs (first_phase_list (description p.now) joining) }
+    requires plan { (S.state store.old).plan
+        ≡ working_set p.now.inputs (first_phase_list (description p.now) joining) }
     ensures { FindsLeads (S.state store.old).capacity limit (description p.now) joining result }
 {
     let found = first_phase(alloc, store, p, joining)?;
     Ok(walk_upto(alloc, store, found.leads, limit)?)
 }
 
-/// Phase 2 in a store with its plan: the terms of the elements with these leads, which go from the greatest to the least.
+/// Phase 2 in a store with its plan: the terms of the elements with these leads, which go from the
+/// greatest to the least.
 fn basis_in<S: Store>(
     alloc: Global,
     store: &mut S,
@@ -138,7 +149,8 @@ fn basis_in<S: Store>(
     requires outputs { p.now.outputs ≡ 2 }
     requires vars { (S.state store.old).vars ≡ p.now.inputs }
     requires leads { reverse leads.now ≡ joint_leads (description p.now) joining }
-    requires plan { (S.state store.old).plan ≡ working_set p.now.inputs (second_phase_list (description p.now) joining) }
+    requires plan { (S.state store.old).plan
+        ≡ working_set p.now.inputs (second_phase_list (description p.now) joining) }
     ensures { FindsBasis (S.state store.old).capacity limit (description p.now) joining result }
 {
     let elements = second_phase(alloc, store, p, joining, leads)?;
@@ -191,18 +203,25 @@ fn joint_basis_on(
 ) -> Result<MonoLists, BasisRefusal>
     requires bits { (MIN_BITS ≤ bits) × (bits ≤ MAX_BITS) }
     requires outputs { p.now.outputs ≡ 2 }
-    ensures basis { IfOk result (λ lists. IsJointBasis (description p.now) joining (map reverse lists)) }
-    ensures within { IfOk result (λ lists. first_refused bits limit (description p.now) joining (map reverse lists) ≡ None) }
-    ensures refused { IfErr result (λ e. e ≢ OutOfMemory → (basis : List Family) → IsJointBasis (description p.now) joining basis → first_refused bits limit (description p.now) joining basis ≡ Some e) }
+    ensures basis { IfOk result (λ lists. IsJointBasis (description p.now) joining
+        (map reverse lists)) }
+    ensures within { IfOk result (λ lists. first_refused bits limit (description p.now) joining
+        (map reverse lists) ≡ None) }
+    ensures refused { IfErr result
+        (λ e. e ≢ refusals.Memory → (basis : List Family)
+        → IsJointBasis (description p.now) joining basis
+        → first_refused bits limit (description p.now) joining basis ≡ Some e) }
 {
     let leads = leads_on(alloc, bits, p, joining, limit)?;
     basis_on(alloc, bits, p, joining, leads.as_slice(), limit)
 }
 
-/// The reduced basis of the intersection or of the sum of two ideals, those of the care points of outputs 1 and 2: the terms of each
-/// element from the greatest to the least, the elements by ascending lead. Each of two phases works on a table of 2^bits slots of its
-/// own: the first finds the leads, which are counted and listed, and the second the elements, whose terms are counted. The refusal is
-/// that of the first limit that is passed, or want of memory. Tables are tried first that the description may do with.
+/// The reduced basis of the intersection or of the sum of two ideals, those of the care points of
+/// outputs 1 and 2: the terms of each element from the greatest to the least, the elements by
+/// ascending lead. Each of two phases works on a table of 2^bits slots of its own: the first finds
+/// the leads, which are counted and listed, and the second the elements, whose terms are counted.
+/// The refusal is that of the first limit that is passed, or want of memory. Tables are tried first
+/// that the description may do with.
 pub fn joint_basis(
     alloc: Global,
     bits: u32,
@@ -212,9 +231,14 @@ pub fn joint_basis(
 ) -> Result<MonoLists, BasisRefusal>
     requires bits { (MIN_BITS ≤ bits) × (bits ≤ MAX_BITS) }
     requires outputs { p.now.outputs ≡ 2 }
-    ensures basis { IfOk result (λ lists. IsJointBasis (description p.now) joining (map reverse lists)) }
-    ensures within { IfOk result (λ lists. first_refused bits limit (description p.now) joining (map reverse lists) ≡ None) }
-    ensures refused { IfErr result (λ e. e ≢ OutOfMemory → (basis : List Family) → IsJointBasis (description p.now) joining basis → first_refused bits limit (description p.now) joining basis ≡ Some e) }
+    ensures basis { IfOk result (λ lists. IsJointBasis (description p.now) joining
+        (map reverse lists)) }
+    ensures within { IfOk result (λ lists. first_refused bits limit (description p.now) joining
+        (map reverse lists) ≡ None) }
+    ensures refused { IfErr result
+        (λ e. e ≢ refusals.Memory → (basis : List Family)
+        → IsJointBasis (description p.now) joining basis
+        → first_refused bits limit (description p.now) joining basis ≡ Some e) }
 {
     let first = first_bits(p, bits, true);
     match joint_basis_on(alloc, first, p, joining, limit) {

@@ -1,5 +1,7 @@
-//! Functions that do nothing. Their contracts are the laws of `specs/Laws.antt`, so a check proves these.
-ghost use Rattle.point_ideals.specs.Laws.{BasisOfIdeal, IntersectionIsOfUnion, JointBasisExists, JointBasisIsUnique, LeadsOfIdeal, SumIsOfIntersection};
+//! Functions that do nothing. Their contracts are the laws of `specs/Laws.antt`, so a check proves
+//! these.
+ghost use Rattle.point_ideals.specs.Laws.{BasisOfIdeal, IntersectionIsOfUnion, JointBasisExists};
+ghost use Rattle.point_ideals.specs.Laws.{JointBasisIsUnique, LeadsOfIdeal, SumIsOfIntersection};
 
 /// The intersection of the ideals of two sets of points is the ideal of their union.
 pub fn intersection_is_of_union()
@@ -21,7 +23,8 @@ pub fn basis_of_ideal()
     ensures { BasisOfIdeal }
 {}
 
-/// The intersection and the sum of the ideals of two outputs' care points have a reduced basis each.
+/// The intersection and the sum of the ideals of two outputs' care points have a reduced basis
+/// each.
 pub fn joint_basis_exists()
     ensures { JointBasisExists }
 {}

@@ -1,5 +1,6 @@
-//! Ideals of points: their sums and intersections with their laws, the care points of the outputs of a description, and the reduced
-//! bases of the sum and the intersection of the ideals of two outputs' care points.
+//! Ideals of points: their sums and intersections with their laws, the care points of the outputs
+//! of a description, and the reduced bases of the sum and the intersection of the ideals of two
+//! outputs' care points.
 #![tactic(auto)]
 
 mod cares;

@@ -1,4 +1,5 @@
-//! The care points of two outputs put together, their leads, and the elements of their reduced basis, over any store.
+//! The care points of two outputs put together, their leads, and the elements of their reduced
+//! basis, over any store.
 ghost use Rattle.std.specs.Prelude.{◌≡◌, ◌<◌, ◌^◌, IfOk, IsErrOf, reverse};
 ghost use Rattle.std.specs.List.{All};
 ghost use Rattle.lattice.specs.Basis.{IsLead};
@@ -6,7 +7,10 @@ ghost use Rattle.lattice.specs.Family.{Covers};
 ghost use Rattle.lattice.specs.WorkingLists.{working_set};
 ghost use Rattle.node_store.specs.Stores.{Builds, Grows, IsFull, IsPlanned, Knows, family};
 ghost use Rattle.pla_reader.specs.Reading.{description};
-ghost use Rattle.point_ideals.specs.Joined.{HoldsBasis, HoldsElements, HoldsJoint, HoldsJointPoints, elements_list, first_phase_list, joined, joint_leads, joint_points_list, second_phase_list};
+ghost use Rattle.point_ideals.specs.Joined.{HoldsBasis, HoldsElements, HoldsJoint};
+ghost use Rattle.point_ideals.specs.Joined.{HoldsJointPoints, elements_list, first_phase_list};
+ghost use Rattle.point_ideals.specs.Joined.{joined, joint_leads, joint_points_list};
+ghost use Rattle.point_ideals.specs.Joined.{second_phase_list};
 
 use crate::cares::care_points;
 use crate::joined::Joining;
@@ -36,8 +40,11 @@ fn joined<S: Store>(
 ) -> Result<Handle, Full>
     requires first { Knows (S.state store.old) first }
     requires second { Knows (S.state store.old) second }
-    requires planned { let s = S.state store.old in IsPlanned s (joined joining s.vars (family s first) (family s second)) }
-    ensures { let s = S.state store.old in Builds s (S.state store.new) result (joined joining s.vars (family s first) (family s second)) }
+    requires planned { let s = S.state store.old in
+        IsPlanned s (joined joining s.vars (family s first) (family s second)) }
+    ensures { let s = S.state store.old in
+        Builds s (S.state store.new) result
+        (joined joining s.vars (family s first) (family s second)) }
 {
     match joining {
         Joining::Union => union(store, first, second),
@@ -54,10 +61,13 @@ fn joint_points<S: Store>(
 ) -> Result<Handle, CubesRefusal>
     requires outputs { p.now.outputs ≡ 2 }
     requires vars { (S.state store.old).vars ≡ p.now.inputs }
-    requires planned { Covers (S.state store.old).plan (working_set p.now.inputs (joint_points_list (description p.now) joining)) }
+    requires planned { Covers (S.state store.old).plan
+        (working_set p.now.inputs (joint_points_list (description p.now) joining)) }
     ensures grows { Grows (S.state store.old) (S.state store.new) }
-    ensures points { IfOk result (HoldsJointPoints (S.state store.new) (description p.now) joining) }
-    ensures full { IsErrOf result CubesRefusal.Full → IsFull (S.state store.old) (S.state store.new) }
+    ensures points { IfOk result (HoldsJointPoints (S.state store.new)
+        (description p.now) joining) }
+    ensures full { IsErrOf result CubesRefusal.Full
+        → IsFull (S.state store.old) (S.state store.new) }
 {
     let first = care_points(alloc, store, p, 1)?;
     let second = care_points(alloc, store, p, 2)?;
@@ -73,17 +83,20 @@ pub(crate) fn first_phase<S: Store>(
 ) -> Result<Joint, CubesRefusal>
     requires outputs { p.now.outputs ≡ 2 }
     requires vars { (S.state store.old).vars ≡ p.now.inputs }
-    requires planned { Covers (S.state store.old).plan (working_set p.now.inputs (first_phase_list (description p.now) joining)) }
+    requires planned { Covers (S.state store.old).plan
+        (working_set p.now.inputs (first_phase_list (description p.now) joining)) }
     ensures grows { Grows (S.state store.old) (S.state store.new) }
     ensures found { IfOk result (HoldsJoint (S.state store.new) (description p.now) joining) }
-    ensures full { IsErrOf result CubesRefusal.Full → IsFull (S.state store.old) (S.state store.new) }
+    ensures full { IsErrOf result CubesRefusal.Full
+        → IsFull (S.state store.old) (S.state store.new) }
 {
     let points = joint_points(alloc, store, p, joining)?;
     let leads = leads_of_points(store, points)?;
     Ok(Joint { points, leads })
 }
 
-/// The elements of the reduced basis of the points with these leads, which go from the greatest to the least, by ascending lead.
+/// The elements of the reduced basis of the points with these leads, which go from the greatest to
+/// the least, by ascending lead.
 #[tactic(auto, using(crate::proofs::JointSteps::elements_rules))]
 fn elements<S: Store>(
     alloc: Global,
@@ -92,11 +105,17 @@ fn elements<S: Store>(
     leads: &[Mono],
 ) -> Result<Vec<Handle>, CubesRefusal>
     requires points { Knows (S.state store.old) points }
-    requires leads { let s = S.state store.old in All (λ m. (m < 2 ^ s.vars) × IsLead s.vars (family s points) m) (reverse leads.now) }
-    requires planned { let s = S.state store.old in Covers s.plan (working_set s.vars (elements_list s.vars (family s points) (reverse leads.now))) }
+    requires leads { let s = S.state store.old in
+        All (λ m. (m < 2 ^ s.vars) × IsLead s.vars (family s points) m) (reverse leads.now) }
+    requires planned { let s = S.state store.old in
+        Covers s.plan (working_set s.vars
+        (elements_list s.vars (family s points) (reverse leads.now))) }
     ensures grows { Grows (S.state store.old) (S.state store.new) }
-    ensures elements { IfOk result (λ found. HoldsElements (S.state store.new) (family (S.state store.old) points) (reverse leads.now) found.items) }
-    ensures full { IsErrOf result CubesRefusal.Full → IsFull (S.state store.old) (S.state store.new) }
+    ensures elements { IfOk result
+        (λ found. HoldsElements (S.state store.new) (family (S.state store.old) points)
+        (reverse leads.now) found.items) }
+    ensures full { IsErrOf result CubesRefusal.Full
+        → IsFull (S.state store.old) (S.state store.new) }
 {
     let mut found = Vec::new(alloc);
     for lead in leads.iter().rev() {
@@ -105,7 +124,8 @@ fn elements<S: Store>(
     Ok(found)
 }
 
-/// Phase 2: phase 1 again, and the elements by ascending lead. The leads go from the greatest to the least.
+/// Phase 2: phase 1 again, and the elements by ascending lead. The leads go from the greatest to
+/// the least.
 pub(crate) fn second_phase<S: Store>(
     alloc: Global,
     store: &mut S,
@@ -116,10 +136,13 @@ pub(crate) fn second_phase<S: Store>(
     requires outputs { p.now.outputs ≡ 2 }
     requires vars { (S.state store.old).vars ≡ p.now.inputs }
     requires leads { reverse leads.now ≡ joint_leads (description p.now) joining }
-    requires planned { Covers (S.state store.old).plan (working_set p.now.inputs (second_phase_list (description p.now) joining)) }
+    requires planned { Covers (S.state store.old).plan
+        (working_set p.now.inputs (second_phase_list (description p.now) joining)) }
     ensures grows { Grows (S.state store.old) (S.state store.new) }
-    ensures elements { IfOk result (λ found. HoldsBasis (S.state store.new) (description p.now) joining found.items) }
-    ensures full { IsErrOf result CubesRefusal.Full → IsFull (S.state store.old) (S.state store.new) }
+    ensures elements { IfOk result
+        (λ found. HoldsBasis (S.state store.new) (description p.now) joining found.items) }
+    ensures full { IsErrOf result CubesRefusal.Full
+        → IsFull (S.state store.old) (S.state store.new) }
 {
     let found = first_phase(alloc, store, p, joining)?;
     elements(alloc, store, found.points, leads)

@@ -21,7 +21,8 @@ fn cache_bits(bits: u32) -> u32
     bits.max(MIN_CACHE_BITS)
 }
 
-/// The key that has this place in the cache of a table of 2^bits slots, and the quotient of the word.
+/// The key that has this place in the cache of a table of 2^bits slots, and the quotient of the
+/// word.
 pub fn key_at(bits: u32, at: u32, word: u64) -> u64
     requires bits { bits ≤ MAX_BITS }
     requires at { at < 2 ^ cache_bits bits }

@@ -5,7 +5,8 @@
 pub enum Event {
     /// The seat looks at the word of the place.
     Load { seat: u32, place: u32 },
-    /// The place takes the word where it is vacant, and the seat sees the word that stands there afterwards.
+    /// The place takes the word where it is vacant, and the seat sees the word that stands there
+    /// afterwards.
     Exchange { seat: u32, place: u32, word: u64 },
     /// The seat looks at the cache word of the place.
     CacheLoad { seat: u32, place: u32 },

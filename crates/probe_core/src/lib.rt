@@ -1,5 +1,5 @@
-//! The shared table of nodes as a pure machine: seats load and exchange its words, load and store those of its cache, split
-//! and join, one event at a time.
+//! The shared table of nodes as a pure machine: seats load and exchange its words, load and store
+//! those of its cache, split and join, one event at a time.
 #![tactic(auto)]
 
 mod cache;

@@ -1,10 +1,12 @@
 //! The machine: a table of node words, and seats that act on it one event at a time.
-ghost use Rattle.std.specs.Prelude.{◌≡◌, ◌<◌, ◌≤◌, ◌^◌, ◌↔◌, false, length, IsTrue, IfOk, OnOk, OnErr};
+ghost use Rattle.std.specs.Prelude.{◌≡◌, ◌<◌, ◌≤◌, ◌^◌, ◌↔◌, false, length, IsTrue, IfOk, OnOk};
+ghost use Rattle.std.specs.Prelude.{OnErr};
 ghost use Rattle.lattice.specs.declared.limits.TheConstants.{MIN_BITS, MAX_BITS, MAX_VARS};
 ghost use Rattle.lattice.specs.NodeWords.{cache_bits};
 ghost use Rattle.lattice.specs.Tables.{var_at, KeepsWords};
 ghost use Rattle.probe_core.specs.Machines.{Machine};
-ghost use Rattle.probe_core.specs.Events.{start, seat_at, IsLive, IsOverKnown, MayExchange, is_store, MayTake, MayTakeAll, after, after_all, seen};
+ghost use Rattle.probe_core.specs.Events.{start, seat_at, IsLive, IsOverKnown, MayExchange};
+ghost use Rattle.probe_core.specs.Events.{is_store, MayTake, MayTakeAll, after, after_all, seen};
 ghost use Rattle.probe_core.specs.Soundness.{IsSoundMachine, IsLawful};
 
 use crate::cache::{cache_size, key_at, result_of};
@@ -29,14 +31,22 @@ pub struct Core {
 impl Model for Core {
     ghost Value = { Machine };
 
-    ghost view = { λ c. record { bits = c.bits; vars = c.vars; words = c.words.items; cache = c.cache.items; seats = c.seats.items } };
+    ghost view = { λ c. record {
+      bits = c.bits;
+      vars = c.vars;
+      words = c.words.items;
+      cache = c.cache.items;
+      seats = c.seats.items;
+    } };
 
-    ghost invariant = { λ c. (MIN_BITS ≤ c.bits) × (c.bits ≤ MAX_BITS) × (1 ≤ c.vars) × (c.vars ≤ MAX_VARS) × (length c.words.items ≡ 2 ^ c.bits) × (length c.cache.items ≡ 2 ^ cache_bits c.bits) };
+    ghost invariant = { λ c. (MIN_BITS ≤ c.bits) × (c.bits ≤ MAX_BITS) × (1 ≤ c.vars)
+        × (c.vars ≤ MAX_VARS) × (length c.words.items ≡ 2 ^ c.bits)
+        × (length c.cache.items ≡ 2 ^ cache_bits c.bits) };
 }
 
 impl Core {
-    /// A machine with a vacant table of 2^bits words over so many variables, a vacant cache of 2^12 words or as many as the table
-    /// where these are more, and a seat that knows the two constants.
+    /// A machine with a vacant table of 2^bits words over so many variables, a vacant cache of 2^12
+    /// words or as many as the table where these are more, and a seat that knows the two constants.
     pub fn make(alloc: Global, bits: u32, vars: u32) -> Result<Core, Memory>
         requires bits { (MIN_BITS ≤ bits) × (bits ≤ MAX_BITS) }
         requires vars { (1 ≤ vars) × (vars ≤ MAX_VARS) }
@@ -71,8 +81,8 @@ impl Core {
         self.cache.as_slice()
     }
 
-    /// Whether the event may be taken now, for an event that stores no cache word: whether a word is that of a result, no look
-    /// at the machine can tell.
+    /// Whether the event may be taken now, for an event that stores no cache word: whether a word
+    /// is that of a result, no look at the machine can tell.
     pub fn may(&self, e: &Event) -> bool
         requires { is_store e.now ≡ false }
         ensures { IsTrue result ↔ MayTake self.now e.now }
@@ -151,7 +161,8 @@ impl Core {
         Ok(Seen { word, won: false })
     }
 
-    // The place takes the word where it is vacant, and the seat meets it there. Else the exchange is a load.
+    // The place takes the word where it is vacant, and the seat meets it there. Else the exchange
+    // is a load.
     fn exchange(&mut self, id: u32, at: u32, word: u64) -> Result<Seen, Memory>
         requires { MayTake self.old (Event.Exchange id at word) }
         ensures after { OnOk result (self.new ≡ after self.old (Event.Exchange id at word)) }
@@ -253,7 +264,8 @@ fn variable_at(vars: u32, words: &[u64], h: Handle) -> u32
     }
 }
 
-/// The machine after the events in turn, from a vacant table of 2^bits words over so many variables and one seat.
+/// The machine after the events in turn, from a vacant table of 2^bits words over so many variables
+/// and one seat.
 #[tactic(auto, using(crate::proofs::EventLemmas::run_lawful))]
 pub fn run(alloc: Global, bits: u32, vars: u32, events: &[Event]) -> Result<Core, Memory>
     requires bits { (MIN_BITS ≤ bits) × (bits ≤ MAX_BITS) }
@@ -261,7 +273,8 @@ pub fn run(alloc: Global, bits: u32, vars: u32, events: &[Event]) -> Result<Core
     requires events { MayTakeAll (start bits vars) events.now }
     ensures after { IfOk result (λ c. c ≡ after_all (start bits vars) events.now) }
 
-    // The state is sound before the first event and after each one, and each filled slot keeps its word.
+    // The state is sound before the first event and after each one, and each filled slot keeps its
+    // word.
     ensures lawful { IsLawful (start bits vars) events.now }
 {
     let mut core = Core::make(alloc, bits, vars)?;

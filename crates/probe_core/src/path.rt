@@ -6,7 +6,8 @@ ghost use Rattle.probe_core.specs.Events.{HasPassed, HasProbed};
 
 use lattice::{Entry, MIXING};
 
-/// The place that stands so many steps after the start of the word's probe path, in a table of 2^bits places.
+/// The place that stands so many steps after the start of the word's probe path, in a table of
+/// 2^bits places.
 pub fn probe_place(bits: u32, word: u64, steps: usize) -> usize
     requires bits { (1 ≤ bits) × (bits ≤ MAX_BITS) }
     requires steps { steps < 2 ^ bits }
@@ -17,7 +18,8 @@ pub fn probe_place(bits: u32, word: u64, steps: usize) -> usize
     (start as usize + steps) % (1usize << bits)
 }
 
-/// Whether the place is on the word's probe path, and each place before it there was met with another word.
+/// Whether the place is on the word's probe path, and each place before it there was met with
+/// another word.
 pub fn has_probed(bits: u32, met: &[Entry], at: u32, word: u64) -> bool
     requires { (1 ≤ bits) × (bits ≤ MAX_BITS) }
     ensures { IsTrue result ↔ HasProbed bits met.now at word }
@@ -40,7 +42,8 @@ fn has_passed(met: &[Entry], at: usize, word: u64) -> bool
     ensures { IsTrue result ↔ HasPassed met.now at word }
 {
     let slot = at as u64 + 2;
-    met.iter().any(
-        |entry| matches!(entry, Entry::Met { handle, word: other } if *handle == slot && *other != word),
-    )
+    met.iter().any(|entry| {
+        matches!(entry, Entry::Met { handle, word: other }
+            if *handle == slot && *other != word)
+    })
 }

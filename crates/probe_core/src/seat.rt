@@ -4,14 +4,16 @@ ghost use Rattle.std.specs.Vec.{vec_capacity};
 ghost use Rattle.lattice.specs.declared.limits.TheConstants.{MAX_BITS};
 ghost use Rattle.lattice.specs.NodeWords.{lo_of, hi_of};
 ghost use Rattle.probe_core.specs.Machines.{SeatState};
-ghost use Rattle.probe_core.specs.Seats.{knows, knows_key, learned, taught, united, met_more, told_more, first_seat, twin, joined, ended};
+ghost use Rattle.probe_core.specs.Seats.{knows, knows_key, learned, taught, united, met_more};
+ghost use Rattle.probe_core.specs.Seats.{told_more, first_seat, twin, joined, ended};
 
 use lattice::{Entry, HANDLE_UNIT, Memory, Op, TOP_UNIT};
 use node_store::Handle;
 use std::alloc::Global;
 use std::marker::Model;
 
-/// A seat: whether it lives, the slots that it has met with their words, and the handles that it knows.
+/// A seat: whether it lives, the slots that it has met with their words, and the handles that it
+/// knows.
 #[derive(Drop)]
 pub struct Seat {
     pub live: bool,
@@ -67,7 +69,8 @@ impl Seat {
         })
     }
 
-    /// The seat meets the slot of a place with its word, and learns what it teaches. After Memory it is as before.
+    /// The seat meets the slot of a place with its word, and learns what it teaches. After Memory
+    /// it is as before.
     pub fn meet(&mut self, at: u32, word: u64) -> Result<(), Memory>
         requires { at < 2 ^ MAX_BITS }
         ensures ok { OnOk result (self.new ≡ met_more self.old at word) }
@@ -82,7 +85,8 @@ impl Seat {
         Ok(())
     }
 
-    /// The seat sees the result of a key, and learns it where it knows the handles of the key. After Memory it is as before.
+    /// The seat sees the result of a key, and learns it where it knows the handles of the key.
+    /// After Memory it is as before.
     pub fn see(&mut self, key: u64, found: Handle) -> Result<(), Memory>
         ensures ok { OnOk result (self.new ≡ told_more self.old key found.0) }
         ensures err { OnErr result (self.new ≡ self.old) }
@@ -119,7 +123,8 @@ pub fn children(word: u64) -> (Handle, Handle)
     (Handle(low as u32), Handle(high as u32))
 }
 
-// Whether the handles of a key are known. The second operand is a family for the operations up to Least, and else none.
+// Whether the handles of a key are known. The second operand is a family for the operations up to
+// Least, and else none.
 fn knows_key(known: &[Handle], key: u64) -> bool
     ensures { result ≡ knows_key known.now key }
 {

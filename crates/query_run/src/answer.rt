@@ -4,7 +4,8 @@ ghost use Rattle.lattice.specs.Rows.{IsConsistent};
 ghost use Rattle.lattice.specs.declared.limits.TheConstants.{MIN_BITS, MAX_BITS};
 ghost use Rattle.pla_reader.specs.Reading.{description};
 ghost use Rattle.query_run.specs.Due.{IsDue, IsDueJoining, IsDueReducing, done, stopped};
-ghost use Rattle.query_run.specs.Parts.{EndsWithout, IsContradiction, undescribed_outcome, unread_outcome, unreduced_outcome};
+ghost use Rattle.query_run.specs.Parts.{EndsWithout, IsContradiction, undescribed_outcome};
+ghost use Rattle.query_run.specs.Parts.{unread_outcome, unreduced_outcome};
 
 use crate::mode::QueryMode;
 use crate::outcome::Outcome;
@@ -83,7 +84,8 @@ fn consistent(p: &Pla) -> Result<(), Outcome>
 fn reduced_text(alloc: Global, bits: u32, p: &Pla, text: &[u8]) -> Result<Text, Outcome>
     requires bits { (MIN_BITS ≤ bits) × (bits ≤ MAX_BITS) }
     requires short { length text.now < 2 ^ 32 }
-    ensures ok { IfOk result (λ answer. IsDueReducing bits (description p.now) text.now (done answer)) }
+    ensures ok { IfOk result (λ answer. IsDueReducing bits (description p.now) text.now
+        (done answer)) }
     ensures err { IfErr result (EndsWithout (IsDueReducing bits (description p.now) text.now)) }
 {
     let queries = match read_queries(alloc, p, text) {
@@ -108,7 +110,8 @@ fn has_two_outputs(p: &Pla) -> bool
     p.outputs == 2
 }
 
-// The text of the basis of the ideal that is made of those of both outputs, or how the run ends without it.
+// The text of the basis of the ideal that is made of those of both outputs, or how the run ends
+// without it.
 #[tactic(auto, using(crate::proofs::Endings::joined_rules))]
 fn joined_text(alloc: Global, bits: u32, p: &Pla, joining: Joining) -> Result<Text, Outcome>
     requires bits { (MIN_BITS ≤ bits) × (bits ≤ MAX_BITS) }

@@ -35,10 +35,13 @@ fn points_for<S: Store>(
 ) -> Result<Handle, CubesRefusal>
     requires output { (1 ≤ output) × (output ≤ p.now.outputs) }
     requires vars { (S.state store.old).vars ≡ p.now.inputs }
-    requires planned { Covers (S.state store.old).plan (working_set p.now.inputs (queries_list (description p.now) queries.now)) }
+    requires planned { Covers (S.state store.old).plan
+        (working_set p.now.inputs (queries_list (description p.now) queries.now)) }
     ensures grows { Grows (S.state store.old) (S.state store.new) }
-    ensures points { IfOk result (λ h. list_any (λ q. q.output == output) queries.now ≡ true → HoldsPoints (S.state store.new) (description p.now) output h) }
-    ensures full { IsErrOf result CubesRefusal.Full → IsFull (S.state store.old) (S.state store.new) }
+    ensures points { IfOk result (λ h. list_any (λ q. q.output == output) queries.now ≡ true
+        → HoldsPoints (S.state store.new) (description p.now) output h) }
+    ensures full { IsErrOf result CubesRefusal.Full
+        → IsFull (S.state store.old) (S.state store.new) }
 {
     if is_named(queries, output) {
         care_points(alloc, store, p, output)
@@ -57,11 +60,14 @@ fn all_points<S: Store>(
 ) -> Result<Vec<Handle>, CubesRefusal>
     requires vars { (S.state store.old).vars ≡ p.now.inputs }
     requires over { All (IsQueryOver p.now.inputs p.now.outputs) queries.now }
-    requires planned { Covers (S.state store.old).plan (working_set p.now.inputs (queries_list (description p.now) queries.now)) }
+    requires planned { Covers (S.state store.old).plan
+        (working_set p.now.inputs (queries_list (description p.now) queries.now)) }
     ensures grows { Grows (S.state store.old) (S.state store.new) }
     ensures many { IfOk result (λ points. length points.items ≡ p.now.outputs) }
-    ensures points { IfOk result (λ points. HoldsAll (S.state store.new) (description p.now) queries.now points.items) }
-    ensures full { IsErrOf result CubesRefusal.Full → IsFull (S.state store.old) (S.state store.new) }
+    ensures points { IfOk result (λ points. HoldsAll (S.state store.new)
+        (description p.now) queries.now points.items) }
+    ensures full { IsErrOf result CubesRefusal.Full
+        → IsFull (S.state store.old) (S.state store.new) }
 {
     let mut points = Vec::new(alloc);
     for before in 0..p.outputs {
@@ -82,10 +88,13 @@ fn answers_on<S: Store>(
     requires over { All (IsQueryOver p.now.inputs p.now.outputs) queries.now }
     requires many { length points.now ≡ p.now.outputs }
     requires points { HoldsAll (S.state store.old) (description p.now) queries.now points.now }
-    requires planned { Covers (S.state store.old).plan (working_set p.now.inputs (queries_list (description p.now) queries.now)) }
+    requires planned { Covers (S.state store.old).plan
+        (working_set p.now.inputs (queries_list (description p.now) queries.now)) }
     ensures grows { Grows (S.state store.old) (S.state store.new) }
-    ensures answers { IfOk result (λ answers. AreAnswered (S.state store.new) (description p.now) queries.now answers.items) }
-    ensures full { IsErrOf result CubesRefusal.Full → IsFull (S.state store.old) (S.state store.new) }
+    ensures answers { IfOk result
+        (λ answers. AreAnswered (S.state store.new) (description p.now) queries.now answers.items) }
+    ensures full { IsErrOf result CubesRefusal.Full
+        → IsFull (S.state store.old) (S.state store.new) }
 {
     let mut answers = Vec::new(alloc);
     for query in queries {
@@ -95,9 +104,9 @@ fn answers_on<S: Store>(
     Ok(answers)
 }
 
-/// The answer to each query, in a store with a variable for each input: the least polynomial that has the values of the query's at
-/// the care points of its output. These are found once for each output. It is Full only where the plan has more families than
-/// the store has slots.
+/// The answer to each query, in a store with a variable for each input: the least polynomial that
+/// has the values of the query's at the care points of its output. These are found once for each
+/// output. It is Full only where the plan has more families than the store has slots.
 pub fn answered<S: Store>(
     alloc: Global,
     store: &mut S,
@@ -106,10 +115,13 @@ pub fn answered<S: Store>(
 ) -> Result<Vec<Handle>, CubesRefusal>
     requires vars { (S.state store.old).vars ≡ p.now.inputs }
     requires over { All (IsQueryOver p.now.inputs p.now.outputs) queries.now }
-    requires planned { Covers (S.state store.old).plan (working_set p.now.inputs (queries_list (description p.now) queries.now)) }
+    requires planned { Covers (S.state store.old).plan
+        (working_set p.now.inputs (queries_list (description p.now) queries.now)) }
     ensures grows { Grows (S.state store.old) (S.state store.new) }
-    ensures answers { IfOk result (λ answers. AreAnswered (S.state store.new) (description p.now) queries.now answers.items) }
-    ensures full { IsErrOf result CubesRefusal.Full → IsFull (S.state store.old) (S.state store.new) }
+    ensures answers { IfOk result
+        (λ answers. AreAnswered (S.state store.new) (description p.now) queries.now answers.items) }
+    ensures full { IsErrOf result CubesRefusal.Full
+        → IsFull (S.state store.old) (S.state store.new) }
 {
     let points = all_points(alloc, store, p, queries)?;
     answers_on(alloc, store, p, queries, &points)

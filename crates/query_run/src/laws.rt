@@ -1,4 +1,5 @@
-//! Functions that do nothing. Their contracts are the laws of `specs/Laws.antt`, so a check proves these.
+//! Functions that do nothing. Their contracts are the laws of `specs/Laws.antt`, so a check proves
+//! these.
 ghost use Rattle.query_run.specs.Laws.{DueForExamples, OneIsDue, SomeIsDue};
 
 use cube_sets::conflict;
@@ -9,14 +10,16 @@ pub fn one_is_due()
     ensures { OneIsDue }
 {}
 
-/// For a mode and bytes that describe the file, one is due at least. Where the bytes have no description, their refusal is due.
+/// For a mode and bytes that describe the file, one is due at least. Where the bytes have no
+/// description, their refusal is due.
 pub fn some_is_due(pla: &Pla)
     ensures { SomeIsDue pla.now }
 {
     let _ = conflict(pla);
 }
 
-/// What is due for worked files in each mode, for a query that is refused, and for a file with one output in a mode that needs two.
+/// What is due for worked files in each mode, for a query that is refused, and for a file with one
+/// output in a mode that needs two.
 pub fn due_for_examples()
     ensures { DueForExamples }
 {}

@@ -1,4 +1,5 @@
-//! Normal forms of given polynomials on the care points of a description, and the top call of the program that finds them.
+//! Normal forms of given polynomials on the care points of a description, and the top call of the
+//! program that finds them.
 #![tactic(auto)]
 
 mod answer;

@@ -5,8 +5,8 @@ ghost use Rattle.query_run.specs.Queries.{query_refusal, query_why_name};
 use lattice::{Monos, Seq};
 use pla_reader::LineRefusal;
 
-/// Asks for the least polynomial with the values of this one at the care points of the output, whose numbers begin with 1. The
-/// terms are given from the greatest to the least.
+/// Asks for the least polynomial with the values of this one at the care points of the output,
+/// whose numbers begin with 1. The terms are given from the greatest to the least.
 #[derive(Drop)]
 pub struct Query {
     pub output: u32,
@@ -40,7 +40,8 @@ impl QueryWhy {
     }
 }
 
-/// Why queries were not read: the first bad line, counted from 1, and the first check that it fails; or there was no memory.
+/// Why queries were not read: the first bad line, counted from 1, and the first check that it
+/// fails; or there was no memory.
 #[derive(Clone, Copy, Debug, PartialEq, Eq)]
 pub enum QueryRefusal {
     Bad { line: u32, why: QueryWhy },

@@ -6,7 +6,8 @@ ghost use Rattle.pla_reader.specs.Lines.{lines_of};
 ghost use Rattle.pla_reader.specs.Parts.{Stops};
 ghost use Rattle.pla_reader.specs.Reading.{description};
 ghost use Rattle.lattice.specs.declared.limits.TheConstants.{MAX_VARS};
-ghost use Rattle.query_run.specs.Queries.{GivesQueries, IsQueryOver, order_refusal, queries_on, query_fault, query_of, query_reading};
+ghost use Rattle.query_run.specs.Queries.{GivesQueries, IsQueryOver, order_refusal, queries_on};
+ghost use Rattle.query_run.specs.Queries.{query_fault, query_of, query_reading};
 
 use crate::queries::{Queries, Query, QueryRefusal, QueryWhy};
 use cert_check::{AnswerWhy, are_known, bare, monomials_of, place_of, sides};
@@ -35,7 +36,8 @@ fn read_query(
     requires few { length ins.now ≤ MAX_VARS }
     requires outputs { length outs.now ≤ 64 }
     ensures query { MatchResult result
-        (λ q. (query_fault ins.now outs.now (words line.now) ≡ None) × (q ≡ query_of ins.now outs.now (words line.now)))
+        (λ q. (query_fault ins.now outs.now (words line.now) ≡ None)
+        × (q ≡ query_of ins.now outs.now (words line.now)))
         (λ e. Stops e (query_fault ins.now outs.now (words line.now))) }
     ensures over { IfOk result (IsQueryOver (length ins.now) (length outs.now)) }
 {
@@ -90,10 +92,11 @@ fn read_lines(
     Ok(queries)
 }
 
-/// Reads queries on the description, one on each line that is not empty: `N = R`, in the form of a line of an answer.
+/// Reads queries on the description, one on each line that is not empty: `N = R`, in the form of a
+/// line of an answer.
 ///
-/// N is the printed name of an output, and R a polynomial. `Bad` has the first bad line and the first check that it fails; empty
-/// lines are counted.
+/// N is the printed name of an output, and R a polynomial. `Bad` has the first bad line and the
+/// first check that it fails; empty lines are counted.
 #[tactic(auto, using(pla_reader::proofs::ArrangedInputs::count_printed))]
 pub fn read_queries(alloc: Global, p: &Pla, text: &[u8]) -> Result<Queries, QueryRefusal>
     requires { length text.now < 2 ^ 32 }

@@ -45,10 +45,11 @@ impl From<CubesRefusal> for ReduceRefusal {
 }
 
 impl From<WalkRefusal> for ReduceRefusal {
-    ghost use Rattle.set_algebra.specs.declared.counted.WalkRefusal.TheVariants.{Over, Memory as NoMemory};
-    ghost use Rattle.query_run.specs.declared.solving.ReduceRefusal.TheVariants.{Terms, Memory as OutOfMemory};
+    ghost use Rattle.set_algebra.specs.declared.counted.WalkRefusal.TheVariants as unlisted;
+    ghost use Rattle.query_run.specs.declared.solving.ReduceRefusal.TheVariants as unreduced;
 
-    ghost from_gives = { λ refusal e. (refusal ≡ Over → e ≡ Terms) × (refusal ≡ NoMemory → e ≡ OutOfMemory) };
+    ghost from_gives = { λ refusal e. (refusal ≡ unlisted.Over → e ≡ unreduced.Terms)
+        × (refusal ≡ unlisted.Memory → e ≡ unreduced.Memory) };
 
     fn from(refusal: WalkRefusal) -> Self {
         match refusal {
@@ -59,9 +60,9 @@ impl From<WalkRefusal> for ReduceRefusal {
 }
 
 impl From<Memory> for ReduceRefusal {
-    ghost use Rattle.query_run.specs.declared.solving.ReduceRefusal.TheVariants.{Memory as OutOfMemory};
+    ghost use Rattle.query_run.specs.declared.solving.ReduceRefusal.TheVariants as unreduced;
 
-    ghost from_gives = { λ _ e. e ≡ OutOfMemory };
+    ghost from_gives = { λ _ e. e ≡ unreduced.Memory };
 
     fn from(_: Memory) -> Self {
         ReduceRefusal::Memory
@@ -73,19 +74,23 @@ impl From<Memory> for ReduceRefusal {
 struct QueryRun<'a>(&'a Pla, &'a [Query]);
 
 impl Planned for QueryRun<'_> {
-    ghost families = { λ r. working_set r.0.now.inputs (queries_list (description r.0.now) r.1.now) };
+    ghost families = { λ r. working_set r.0.now.inputs
+        (queries_list (description r.0.now) r.1.now) };
 
-    ghost node_list = { λ r. working_set_is_node_list r.0.now.inputs (queries_list (description r.0.now) r.1.now) };
+    ghost node_list = { λ r. working_set_is_node_list r.0.now.inputs
+        (queries_list (description r.0.now) r.1.now) };
 }
 
 /// The plan of queries: the working set of their families. It does nothing at run time.
 fn query_plan(p: &Pla, queries: &[Query]) -> Plan
-    ensures { result.families ≡ working_set p.now.inputs (queries_list (description p.now) queries.now) }
+    ensures { result.families ≡ working_set p.now.inputs
+        (queries_list (description p.now) queries.now) }
 {
     plan_of(&QueryRun(p, queries))
 }
 
-/// The answers' terms, each from the greatest to the least, found in a store with the plan of the queries.
+/// The answers' terms, each from the greatest to the least, found in a store with the plan of the
+/// queries.
 fn reduce_in<S: Store>(
     alloc: Global,
     store: &mut S,
@@ -95,12 +100,18 @@ fn reduce_in<S: Store>(
 ) -> Result<MonoLists, ReduceRefusal>
     requires over { All (IsQueryOver p.now.inputs p.now.outputs) queries.now }
     requires vars { (S.state store.old).vars ≡ p.now.inputs }
-    requires plan { (S.state store.old).plan ≡ working_set p.now.inputs (queries_list (description p.now) queries.now) }
-    ensures answers { IfOk result (AllZip (λ q terms. IsAnswerTo (description p.now) q (reverse terms)) queries.now) }
-    ensures fits { OnOk result (query_nodes (description p.now) queries.now ≤ (S.state store.old).capacity) }
+    requires plan { (S.state store.old).plan
+        ≡ working_set p.now.inputs (queries_list (description p.now) queries.now) }
+    ensures answers { IfOk result
+        (AllZip (λ q terms. IsAnswerTo (description p.now) q (reverse terms)) queries.now) }
+    ensures fits { OnOk result (query_nodes (description p.now) queries.now
+        ≤ (S.state store.old).capacity) }
     ensures few { OnOk result (answer_terms (description p.now) queries.now ≤ limit) }
-    ensures exhausted { IsErrOf result ReduceRefusal.Exhausted → (S.state store.old).capacity < query_nodes (description p.now) queries.now }
-    ensures terms { IsErrOf result ReduceRefusal.Terms → (query_nodes (description p.now) queries.now ≤ (S.state store.old).capacity) × (limit < answer_terms (description p.now) queries.now) }
+    ensures exhausted { IsErrOf result ReduceRefusal.Exhausted
+        → (S.state store.old).capacity < query_nodes (description p.now) queries.now }
+    ensures terms { IsErrOf result ReduceRefusal.Terms
+        → (query_nodes (description p.now) queries.now ≤ (S.state store.old).capacity)
+        × (limit < answer_terms (description p.now) queries.now) }
 {
     let found = answered(alloc, store, p, queries)?;
     let mut left = limit;
@@ -117,20 +128,25 @@ fn reduce_on(
 ) -> Result<MonoLists, ReduceRefusal>
     requires bits { (MIN_BITS ≤ bits) × (bits ≤ MAX_BITS) }
     requires over { All (IsQueryOver p.now.inputs p.now.outputs) queries.now }
-    ensures answers { IfOk result (AllZip (λ q terms. IsAnswerTo (description p.now) q (reverse terms)) queries.now) }
+    ensures answers { IfOk result
+        (AllZip (λ q terms. IsAnswerTo (description p.now) q (reverse terms)) queries.now) }
     ensures fits { OnOk result (query_nodes (description p.now) queries.now ≤ 2 ^ bits) }
     ensures few { OnOk result (answer_terms (description p.now) queries.now ≤ limit) }
-    ensures exhausted { IsErrOf result ReduceRefusal.Exhausted → 2 ^ bits < query_nodes (description p.now) queries.now }
-    ensures terms { IsErrOf result ReduceRefusal.Terms → (query_nodes (description p.now) queries.now ≤ 2 ^ bits) × (limit < answer_terms (description p.now) queries.now) }
+    ensures exhausted { IsErrOf result ReduceRefusal.Exhausted
+        → 2 ^ bits < query_nodes (description p.now) queries.now }
+    ensures terms { IsErrOf result ReduceRefusal.Terms
+        → (query_nodes (description p.now) queries.now ≤ 2 ^ bits)
+        × (limit < answer_terms (description p.now) queries.now) }
 {
     let (table, token) = Shared::make(alloc, bits, p.inputs, query_plan(p, queries))?;
     let mut pass = CachedPass::new(table.pass(token));
     reduce_in(alloc, &mut pass, p, queries, limit)
 }
 
-/// Answers the queries on a table of 2^bits slots: for each the terms, from the greatest to the least, of the least polynomial
-/// that has the values of the query's at the care points of its output, where all have at most `limit` terms. The care points of
-/// an output are found once, however many queries are on it. A table is tried first that the description may do with.
+/// Answers the queries on a table of 2^bits slots: for each the terms, from the greatest to the
+/// least, of the least polynomial that has the values of the query's at the care points of its
+/// output, where all have at most `limit` terms. The care points of an output are found once,
+/// however many queries are on it. A table is tried first that the description may do with.
 pub fn reduce(
     alloc: Global,
     bits: u32,
@@ -140,11 +156,15 @@ pub fn reduce(
 ) -> Result<MonoLists, ReduceRefusal>
     requires bits { (MIN_BITS ≤ bits) × (bits ≤ MAX_BITS) }
     requires over { All (IsQueryOver p.now.inputs p.now.outputs) queries.now }
-    ensures answers { IfOk result (AllZip (λ q terms. IsAnswerTo (description p.now) q (reverse terms)) queries.now) }
+    ensures answers { IfOk result
+        (AllZip (λ q terms. IsAnswerTo (description p.now) q (reverse terms)) queries.now) }
     ensures fits { OnOk result (query_nodes (description p.now) queries.now ≤ 2 ^ bits) }
     ensures few { OnOk result (answer_terms (description p.now) queries.now ≤ limit) }
-    ensures exhausted { IsErrOf result ReduceRefusal.Exhausted → 2 ^ bits < query_nodes (description p.now) queries.now }
-    ensures terms { IsErrOf result ReduceRefusal.Terms → (query_nodes (description p.now) queries.now ≤ 2 ^ bits) × (limit < answer_terms (description p.now) queries.now) }
+    ensures exhausted { IsErrOf result ReduceRefusal.Exhausted
+        → 2 ^ bits < query_nodes (description p.now) queries.now }
+    ensures terms { IsErrOf result ReduceRefusal.Terms
+        → (query_nodes (description p.now) queries.now ≤ 2 ^ bits)
+        × (limit < answer_terms (description p.now) queries.now) }
 {
     let first = first_bits(p, bits, false);
     match reduce_on(alloc, first, p, queries, limit) {

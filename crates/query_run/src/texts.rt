@@ -21,7 +21,8 @@ fn answer_lines<'a>(
     answers: &'a [Monos],
 ) -> Result<Vec<Line<'a>>, AllocError>
     requires { length answers.now ≡ length queries.now }
-    ensures { IfOk result (λ lines. map shown_line lines.items ≡ zip (map (λ q. Output q.output) queries.now) (map reverse answers.now)) }
+    ensures { IfOk result (λ lines. map shown_line lines.items
+        ≡ zip (map (λ q. Output q.output) queries.now) (map reverse answers.now)) }
 {
     let mut lines = Vec::new(alloc);
     for (query, terms) in queries.iter().zip(answers) {
@@ -35,7 +36,8 @@ fn answer_lines<'a>(
 
 // A line for each element, with 0 on the left.
 fn basis_lines<'a>(alloc: Global, basis: &'a [Monos]) -> Result<Vec<Line<'a>>, AllocError>
-    ensures { IfOk result (λ lines. map shown_line lines.items ≡ map (λ e. (Zero, e)) (map reverse basis.now)) }
+    ensures { IfOk result (λ lines. map shown_line lines.items
+        ≡ map (λ e. (Zero, e)) (map reverse basis.now)) }
 {
     let mut lines = Vec::new(alloc);
     for terms in basis {
@@ -57,7 +59,8 @@ pub(crate) fn answers_text(
     requires count { length answers.now ≡ length queries.now }
     requires over { All (IsQueryOver p.now.inputs p.now.outputs) queries.now }
     requires families { All (IsFamily p.now.inputs) (map reverse answers.now) }
-    ensures { IfOk result (λ text. text ≡ answers_text (description p.now) queries.now (map reverse answers.now)) }
+    ensures { IfOk result (λ text. text
+        ≡ answers_text (description p.now) queries.now (map reverse answers.now)) }
 {
     let lines = answer_lines(alloc, queries, answers)?;
     lines_text(alloc, p, &lines)

@@ -38,7 +38,8 @@ fn are(lists: &MonoLists, wanted: &[&[Mono]]) -> bool {
     true
 }
 
-// The care points of output 1 are 11 and 00, and those of output 2 are 00 and 10. Over two variables x1 is 2 and x2 is 1.
+// The care points of output 1 are 11 and 00, and those of output 2 are 00 and 10. Over two
+// variables x1 is 2 and x2 is 1.
 const SMALL: &[u8] = b".i 2\n.o 2\n.type fr\n11 1-\n00 00\n10 -1\n";
 
 #[test]
@@ -61,7 +62,8 @@ fn no_points(rt: HostRuntime) -> Result<(), Fail> {
     Ok(())
 }
 
-// The common points are 101, 110 and 111, with 2 leads and 6 terms. Phase 1 needs 12 nodes, and phase 2 just 16.
+// The common points are 101, 110 and 111, with 2 leads and 6 terms. Phase 1 needs 12 nodes, and
+// phase 2 just 16.
 #[test]
 fn limits_of_terms(rt: HostRuntime) -> Result<(), Fail> {
     let file = b".i 3\n.o 2\n-00 -0\n0-- 0-\n";
@@ -75,7 +77,8 @@ fn limits_of_terms(rt: HostRuntime) -> Result<(), Fail> {
     Ok(())
 }
 
-// The common points are 001, 011 and 101, with 2 leads. Phase 1 needs 16 nodes, and phase 2 needs 17.
+// The common points are 001, 011 and 101, with 2 leads. Phase 1 needs 16 nodes, and phase 2 needs
+// 17.
 #[test]
 fn exhausted_second(rt: HostRuntime) -> Result<(), Fail> {
     let file = b".i 3\n.o 2\n11- 0-\n--0 0-\n";

@@ -10,7 +10,8 @@ use std::test::Fail;
 
 const FILE: &[u8] = b".i 2\n.o 2\n.ilb a b\n.ob s c\n.e\n";
 
-// Two care points of one output; and three points, two of which are care points of each of two outputs.
+// Two care points of one output; and three points, two of which are care points of each of two
+// outputs.
 const TWO_POINTS: &str = ".i 2\n.o 1\n.type fr\n11 1\n00 0\n.e\n";
 
 const TWO_OUTPUTS: &str = ".i 2\n.o 2\n.type fr\n11 1-\n00 00\n10 -1\n.e\n";
@@ -23,7 +24,8 @@ fn refused(alloc: Global, text: &[u8]) -> Result<Option<QueryRefusal>, Fail>
     Ok(read_queries(alloc, &p, text).err())
 }
 
-// Queries in any order, with an empty line and a carriage return; and the first check that a bad line fails.
+// Queries in any order, with an empty line and a carriage return; and the first check that a bad
+// line fails.
 #[test]
 fn queries_of_texts(rt: HostRuntime) -> Result<(), Fail> {
     let (p, _) = read(rt.alloc(), FILE)?;
@@ -68,7 +70,8 @@ fn answers_to(alloc: Global, bytes: &[u8]) -> Result<MonoLists, Fail>
     Ok(lists)
 }
 
-// Two care points, 11 with the value 1 and 00 with the value 0: x1 and x2 have the same values there, and x2 is the less.
+// Two care points, 11 with the value 1 and 00 with the value 0: x1 and x2 have the same values
+// there, and x2 is the less.
 #[test]
 fn least_with_the_values(rt: HostRuntime) -> Result<(), Fail> {
     let lists = answers_to(
@@ -100,7 +103,8 @@ fn outputs_in_any_order(rt: HostRuntime) -> Result<(), Fail> {
 
 const NEVER: u64 = 1_000_000;
 
-// A run with the words on a text, where one read and one write may fail: its status, what it wrote and its message are these.
+// A run with the words on a text, where one read and one write may fail: its status, what it wrote
+// and its message are these.
 fn check<R: Abort>(
     rt: &R,
     alloc: Global,

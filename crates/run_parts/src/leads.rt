@@ -8,11 +8,15 @@ ghost use Rattle.run_parts.specs.Found.{point_leads_list};
 use node_store::{Full, Handle, Store};
 use std_monomials::{leads, standard};
 
-/// The leads of the points. The error comes only where the store had no slot left for a family that was needed.
+/// The leads of the points. The error comes only where the store had no slot left for a family that
+/// was needed.
 pub fn leads_of_points<S: Store>(store: &mut S, points: Handle) -> Result<Handle, Full>
     requires known { Knows (S.state store.old) points }
-    requires planned { let s = S.state store.old in Covers s.plan (working_set s.vars (point_leads_list s.vars (family s points))) }
-    ensures { let s = S.state store.old in Gives s (S.state store.new) result (leads_of s.vars (standard_of s.vars (family s points))) (working_set s.vars (point_leads_list s.vars (family s points))) }
+    requires planned { let s = S.state store.old in
+        Covers s.plan (working_set s.vars (point_leads_list s.vars (family s points))) }
+    ensures { let s = S.state store.old in
+        Gives s (S.state store.new) result (leads_of s.vars (standard_of s.vars (family s points)))
+        (working_set s.vars (point_leads_list s.vars (family s points))) }
 {
     let monos = standard(store, points)?;
     leads(store, monos, 1)

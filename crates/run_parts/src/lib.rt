@@ -1,5 +1,5 @@
-//! What each program does: it takes its words, reads a description, chooses the size of its first table, finds, counts and lists
-//! families of its points, and tells in a line how the run ended.
+//! What each program does: it takes its words, reads a description, chooses the size of its first
+//! table, finds, counts and lists families of its points, and tells in a line how the run ended.
 #![tactic(auto)]
 
 mod counts;

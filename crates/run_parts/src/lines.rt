@@ -8,12 +8,14 @@ use itoa::Buffer;
 /// Such a line has at most so many bytes.
 pub const LONGEST_LINE: usize = 92;
 
-/// The line on a text that is refused: its first bad line, which is one of this kind, and the cause.
+/// The line on a text that is refused: its first bad line, which is one of this kind, and the
+/// cause.
 pub fn refusal_line(program: &str, kind: &str, line: u32, why: &str) -> ArrayString<LONGEST_LINE>
     requires program { length program.now ≤ 8 }
     requires kind { length kind.now ≤ 16 }
     requires why { length why.now ≤ 32 }
-    ensures { result.bytes ≡ program.now ++ codes ": " ++ kind.now ++ codes " " ++ decimal line ++ codes ": " ++ why.now ++ codes "\n" }
+    ensures { result.bytes ≡ program.now ++ codes ": " ++ kind.now ++ codes " " ++ decimal line
+        ++ codes ": " ++ why.now ++ codes "\n" }
 {
     let mut digits = Buffer::new();
     let mut text = ArrayString::new();
@@ -31,7 +33,8 @@ pub fn refusal_line(program: &str, kind: &str, line: u32, why: &str) -> ArrayStr
 /// The line on rows that contradict each other.
 pub fn contradiction_line(program: &str, clash: Clash) -> ArrayString<LONGEST_LINE>
     requires program { length program.now ≤ 8 }
-    ensures { result.bytes ≡ program.now ++ codes ": output " ++ decimal clash.output ++ codes ": on line " ++ decimal clash.on_line
+    ensures { result.bytes ≡ program.now ++ codes ": output " ++ decimal clash.output
+        ++ codes ": on line " ++ decimal clash.on_line
         ++ codes ", off line " ++ decimal clash.off_line ++ codes "\n" }
 {
     let mut digits = Buffer::new();
@@ -51,7 +54,8 @@ pub fn contradiction_line(program: &str, clash: Clash) -> ArrayString<LONGEST_LI
 pub fn count_line(program: &str, limit: u64, what: &str) -> ArrayString<LONGEST_LINE>
     requires program { length program.now ≤ 8 }
     requires what { length what.now ≤ 20 }
-    ensures { result.bytes ≡ program.now ++ codes ": more than " ++ decimal limit ++ codes " " ++ what.now ++ codes "\n" }
+    ensures { result.bytes ≡ program.now ++ codes ": more than " ++ decimal limit ++ codes " "
+        ++ what.now ++ codes "\n" }
 {
     let mut digits = Buffer::new();
     let mut text = ArrayString::new();

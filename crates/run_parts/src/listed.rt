@@ -9,8 +9,8 @@ use node_store::{Handle, Store};
 use set_algebra::{WalkRefusal, walk_upto};
 use std::alloc::Global;
 
-/// The terms of a polynomial, from the greatest to the least. `left` is how many terms may be listed, which it lessens by those
-/// that it lists; `Over` exactly where there are more.
+/// The terms of a polynomial, from the greatest to the least. `left` is how many terms may be
+/// listed, which it lessens by those that it lists; `Over` exactly where there are more.
 pub fn terms_of<S: Store>(
     alloc: Global,
     store: &mut S,
@@ -20,16 +20,18 @@ pub fn terms_of<S: Store>(
     requires { Knows (S.state store.old) polynomial }
     ensures reads { Reads (S.state store.old) (S.state store.new) }
     ensures terms { IfOk result (λ terms. terms ≡ reverse (family (S.state store.old) polynomial)) }
-    ensures left { OnOk result (left.new + length (family (S.state store.old) polynomial) ≡ left.old) }
-    ensures over { IsErrOf result WalkRefusal.Over → left.old < length (family (S.state store.old) polynomial) }
+    ensures left { OnOk result (left.new + length (family (S.state store.old) polynomial)
+        ≡ left.old) }
+    ensures over { IsErrOf result WalkRefusal.Over
+        → left.old < length (family (S.state store.old) polynomial) }
 {
     let terms = walk_upto(alloc, store, polynomial, *left)?;
     *left -= terms.len() as u64;
     Ok(terms)
 }
 
-/// The terms of each polynomial, from the greatest to the least. `left` is how many terms all of them may have, which it lessens
-/// by those that it lists; `Over` exactly where they have more.
+/// The terms of each polynomial, from the greatest to the least. `left` is how many terms all of
+/// them may have, which it lessens by those that it lists; `Over` exactly where they have more.
 pub fn lists_of<S: Store>(
     alloc: Global,
     store: &mut S,
@@ -38,9 +40,12 @@ pub fn lists_of<S: Store>(
 ) -> Result<MonoLists, WalkRefusal>
     requires { All (Knows (S.state store.old)) polynomials.now }
     ensures reads { Reads (S.state store.old) (S.state store.new) }
-    ensures lists { IfOk result (λ lists. map reverse lists ≡ map (family (S.state store.old)) polynomials.now) }
-    ensures left { OnOk result (left.new + terms_of (S.state store.old) polynomials.now ≡ left.old) }
-    ensures over { IsErrOf result WalkRefusal.Over → left.old < terms_of (S.state store.old) polynomials.now }
+    ensures lists { IfOk result (λ lists. map reverse lists
+        ≡ map (family (S.state store.old)) polynomials.now) }
+    ensures left { OnOk result (left.new + terms_of (S.state store.old) polynomials.now
+        ≡ left.old) }
+    ensures over { IsErrOf result WalkRefusal.Over
+        → left.old < terms_of (S.state store.old) polynomials.now }
 {
     let mut lists = MonoLists::new(alloc);
     for polynomial in polynomials {
@@ -49,7 +54,8 @@ pub fn lists_of<S: Store>(
     Ok(lists)
 }
 
-/// The terms of each polynomial, from the greatest to the least; `Over` exactly where they have more than `limit` terms in all.
+/// The terms of each polynomial, from the greatest to the least; `Over` exactly where they have
+/// more than `limit` terms in all.
 pub fn lists_upto<S: Store>(
     alloc: Global,
     store: &mut S,
@@ -58,9 +64,11 @@ pub fn lists_upto<S: Store>(
 ) -> Result<MonoLists, WalkRefusal>
     requires { All (Knows (S.state store.old)) polynomials.now }
     ensures reads { Reads (S.state store.old) (S.state store.new) }
-    ensures lists { IfOk result (λ lists. map reverse lists ≡ map (family (S.state store.old)) polynomials.now) }
+    ensures lists { IfOk result (λ lists. map reverse lists
+        ≡ map (family (S.state store.old)) polynomials.now) }
     ensures within { OnOk result (terms_of (S.state store.old) polynomials.now ≤ limit) }
-    ensures over { IsErrOf result WalkRefusal.Over → limit < terms_of (S.state store.old) polynomials.now }
+    ensures over { IsErrOf result WalkRefusal.Over
+        → limit < terms_of (S.state store.old) polynomials.now }
 {
     let mut left = limit;
     lists_of(alloc, store, polynomials, &mut left)

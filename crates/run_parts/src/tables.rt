@@ -4,15 +4,16 @@ ghost use Rattle.lattice.specs.declared.limits.TheConstants.{MIN_BITS};
 
 use pla_reader::Pla;
 
-/// A small table has 2^SMALL_BITS slots. The greater a table is, the longer it takes to make, and the slower it is where it does not
-/// fit the processor's own memory.
+/// A small table has 2^SMALL_BITS slots. The greater a table is, the longer it takes to make, and
+/// the slower it is where it does not fit the processor's own memory.
 pub const SMALL_BITS: u32 = 12;
 
 const MIDDLE_BITS: u32 = 17;
 
-/// The size of the tables that a run begins with whose tables have 2^bits slots at most: small ones, middle ones, or those of
-/// that size. Each row may add a node for each input to the cover of each output: the small ones where all these fit them, and but for
-/// bases, whose elements need the most nodes, the middle ones where these fit an eighth.
+/// The size of the tables that a run begins with whose tables have 2^bits slots at most: small
+/// ones, middle ones, or those of that size. Each row may add a node for each input to the cover of
+/// each output: the small ones where all these fit them, and but for bases, whose elements need the
+/// most nodes, the middle ones where these fit an eighth.
 pub fn first_bits(p: &Pla, bits: u32, is_basis: bool) -> u32
     requires { MIN_BITS ≤ bits }
     ensures { (MIN_BITS ≤ result) × (result ≤ bits) }

@@ -4,7 +4,8 @@ use std::alloc::Global;
 use std::env::{Env, args};
 use std::io::ErrorKind;
 
-/// The words of the command line, or none where they are not all text: a run then answers how it is used.
+/// The words of the command line, or none where they are not all text: a run then answers how it is
+/// used.
 pub fn words_of<R: Env + Alloc>(rt: &R, alloc: Global) -> Result<Words, Memory> {
     let mut words = Words::new(alloc);
     match args(rt) {

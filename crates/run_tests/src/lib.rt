@@ -1,4 +1,5 @@
-//! Tests of whole runs of the program and of what runs are made of, with a module for each crate that is tested.
+//! Tests of whole runs of the program and of what runs are made of, with a module for each crate
+//! that is tested.
 #![tactic(auto)]
 
 #[cfg(test)]

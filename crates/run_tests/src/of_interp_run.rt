@@ -32,8 +32,8 @@ fn words_of(alloc: Global, line: &str) -> Result<Words, Fail> {
     Ok(words)
 }
 
-// Runs the words on a text with a gate, where one read and one write may fail, and compares the status, the answer and the
-// message.
+// Runs the words on a text with a gate, where one read and one write may fail, and compares the
+// status, the answer and the message.
 fn check_at<R: Threads + Abort + Sync>(
     rt: &R,
     alloc: Global,
@@ -171,7 +171,8 @@ fn names_and_many_outputs(rt: HostRuntime) -> Result<(), Fail> {
     answers(&rt, alloc, "interp anf", unknown, "f1 = 1\n")
 }
 
-// The full adder with its rows 98 times over. So many rows do not fit the small tables, on which a run has two workers at most.
+// The full adder with its rows 98 times over. So many rows do not fit the small tables, on which a
+// run has two workers at most.
 fn long_adder(alloc: Global) -> Result<String, AllocError> {
     let mut text = String::from_str(alloc, ".i 3\n.o 2\n.ilb a b cin\n.ob s c\n")?;
     for _ in 0..98 {
@@ -227,10 +228,12 @@ fn generated_files(rt: HostRuntime) -> Result<(), Fail> {
     )
 }
 
-// With two workers the branches of an operation are at their starts at one time: each waits at the gate until it has seen the
-// other. A body that runs both branches on one thread, or that drops the workers or the gate, gives the same text and fails here.
-// The first two files have several jobs, whose workers meet before any operation. The last one has one cover and one polynomial,
-// each of which a worker finds alone: there the branches of the polynomial's operations are the first to meet.
+// With two workers the branches of an operation are at their starts at one time: each waits at the
+// gate until it has seen the other. A body that runs both branches on one thread, or that drops the
+// workers or the gate, gives the same text and fails here. The first two files have several jobs,
+// whose workers meet before any operation. The last one has one cover and one polynomial, each of
+// which a worker finds alone: there the branches of the polynomial's operations are the first to
+// meet.
 #[test]
 fn branches_meet(rt: HostRuntime) -> Result<(), Fail> {
     let parity = ".i 3\n.o 1\n001 1\n010 1\n100 1\n111 1\n";
@@ -302,7 +305,8 @@ fn jobs_of<R: Threads + Abort + Sync>(
     Ok(pool.jobs)
 }
 
-// A job for each polynomial, and in mode basis one for the leads of each output and one for each element besides.
+// A job for each polynomial, and in mode basis one for the leads of each output and one for each
+// element besides.
 #[test]
 fn jobs_are_answered_by_the_pool(rt: HostRuntime) -> Result<(), Fail> {
     assert!(rt; jobs_of(&rt, rt.alloc(), "interp anf", ADDER)? >= 2);
@@ -651,8 +655,8 @@ fn check_workers<R: Threads + Abort + Sync>(
     Ok(())
 }
 
-// One point over 16 inputs. In mode anf phase 1 has 16 nodes. In mode basis it has 31 and phase 2 has 62, and the counts of terms
-// are 17 and 33.
+// One point over 16 inputs. In mode anf phase 1 has 16 nodes. In mode basis it has 31 and phase 2
+// has 62, and the counts of terms are 17 and 33.
 #[test]
 fn limits_of_each_phase(rt: HostRuntime) -> Result<(), Fail> {
     let alloc = rt.alloc();
@@ -692,7 +696,8 @@ fn limits_of_each_phase(rt: HostRuntime) -> Result<(), Fail> {
     Ok(())
 }
 
-// All points that begin with these ones and have nine more inputs, in ascending order: each of four outputs is 1 there.
+// All points that begin with these ones and have nine more inputs, in ascending order: each of four
+// outputs is 1 there.
 fn ascending_points(alloc: Global, inputs: u32, ones: &str) -> Result<String, Fail> {
     let mut text = format!(in alloc; ".i {inputs}\n.o 4\n.type fr\n")?;
     for rest in 0..512u32 {
@@ -702,10 +707,11 @@ fn ascending_points(alloc: Global, inputs: u32, ones: &str) -> Result<String, Fa
     Ok(text)
 }
 
-// The same on tables of 2^13 slots and more, where a run has all its workers. Behind seven ones phase 1 has 8,183 nodes in mode
-// anf: of the numbers over nine inputs 511 but 0 stand alone, and as many with all those below them, and there are seven nodes
-// more for each of 512 cubes and of 511 covers. Behind eight ones it has 9,206. In mode basis it has 8,189 behind seven ones,
-// and phase 2 has 8,202, as another program counts; the counts of terms are 32 and 60.
+// The same on tables of 2^13 slots and more, where a run has all its workers. Behind seven ones
+// phase 1 has 8,183 nodes in mode anf: of the numbers over nine inputs 511 but 0 stand alone, and
+// as many with all those below them, and there are seven nodes more for each of 512 cubes and of
+// 511 covers. Behind eight ones it has 9,206. In mode basis it has 8,189 behind seven ones, and
+// phase 2 has 8,202, as another program counts; the counts of terms are 32 and 60.
 #[test]
 fn limits_with_many_workers(rt: HostRuntime) -> Result<(), Fail> {
     let alloc = rt.alloc();
@@ -854,8 +860,9 @@ fn pair(
     Ok(watchers)
 }
 
-// Runs on two outputs with two watchers, of which one has patience for one output and one for five, where one write may
-// fail, and compares the status, the number of watchers that are left and the terms that the last of them was told.
+// Runs on two outputs with two watchers, of which one has patience for one output and one for five,
+// where one write may fail, and compares the status, the number of watchers that are left and the
+// terms that the last of them was told.
 fn check_told<R: Threads + Abort + Sync>(
     rt: &R,
     alloc: Global,

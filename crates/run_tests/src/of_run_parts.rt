@@ -2,7 +2,8 @@ use pla_reader::Why;
 use run_parts::{DescribeRefusal, MOST_BYTES, described};
 use std::test::Fail;
 
-// A description, the bytes that it takes, and two causes of a refusal; the third is the number of bytes.
+// A description, the bytes that it takes, and two causes of a refusal; the third is the number of
+// bytes.
 #[test]
 fn what_bytes_describe(rt: HostRuntime) -> Result<(), Fail> {
     let (pla, taken) = described(rt.alloc(), b".i 2\n.o 1\n11 1\n.e\nmore")?;

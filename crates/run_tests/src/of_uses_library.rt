@@ -8,8 +8,9 @@ use uses_library::{Refusal, least_terms, run_on};
 
 const TWO_POINTS: &str = ".i 2\n.o 1\n.type fr\n11 1\n00 0\n";
 
-// Over two inputs x1 is 2 and x2 is 1; over three x1 is 4, x2 is 2 and x3 is 1. By hand: 0 at 00 and 1 at 11 is x2, since x1 is
-// greater; the sum of three bits is x1 + x2 + x3, and its carry x1*x2 + x1*x3 + x2*x3.
+// Over two inputs x1 is 2 and x2 is 1; over three x1 is 4, x2 is 2 and x3 is 1. By hand: 0 at 00
+// and 1 at 11 is x2, since x1 is greater; the sum of three bits is x1 + x2 + x3, and its carry
+// x1*x2 + x1*x3 + x2*x3.
 #[test]
 fn points_by_hand(rt: HostRuntime) -> Result<(), Fail> {
     let cases: [(u32, &[u64], &[u64], &[Mono]); 5] = [

@@ -1,5 +1,6 @@
 //! Members counted and listed, up to a limit.
-ghost use Rattle.std.specs.Prelude.{◌≡◌, ◌<◌, ◌≤◌, ◌+◌, ◌^◌, ◌++◌, length, map, reverse, IfSome, IfNone, IfOk, OnOk, IsErrOf};
+ghost use Rattle.std.specs.Prelude.{◌≡◌, ◌<◌, ◌≤◌, ◌+◌, ◌^◌, ◌++◌, length, map, reverse, IfSome};
+ghost use Rattle.std.specs.Prelude.{IfNone, IfOk, OnOk, IsErrOf};
 ghost use Rattle.lattice.specs.Cofactors.{level};
 ghost use Rattle.node_store.specs.Stores.{Knows, family, Reads};
 
@@ -19,16 +20,17 @@ pub enum WalkRefusal {
 }
 
 impl From<Memory> for WalkRefusal {
-    ghost use Rattle.set_algebra.specs.declared.counted.WalkRefusal.TheVariants.{Memory as OutOfMemory};
+    ghost use Rattle.set_algebra.specs.declared.counted.WalkRefusal.TheVariants as refusals;
 
-    ghost from_gives = { λ _ e. e ≡ OutOfMemory };
+    ghost from_gives = { λ _ e. e ≡ refusals.Memory };
 
     fn from(_e: Memory) -> WalkRefusal {
         WalkRefusal::Memory
     }
 }
 
-/// The number of members; None exactly where it passes `limit`. It counts no more than one member past the limit.
+/// The number of members; None exactly where it passes `limit`. It counts no more than one member
+/// past the limit.
 pub fn count_upto<S: Store>(store: &mut S, a: Handle, limit: u64) -> Option<u64>
     requires { Knows (S.state store.old) a }
     ensures reads { Reads (S.state store.old) (S.state store.new) }
@@ -49,7 +51,8 @@ pub fn count_upto<S: Store>(store: &mut S, a: Handle, limit: u64) -> Option<u64>
     }
 }
 
-/// Adds the members, each with `base` more, from the greatest to the least, while there are at most `limit`.
+/// Adds the members, each with `base` more, from the greatest to the least, while there are at most
+/// `limit`.
 fn walk_into<S: Store>(
     store: &mut S,
     a: Handle,
@@ -61,9 +64,11 @@ fn walk_into<S: Store>(
     requires base { let s = S.state store.old in base + 2 ^ level s.vars (family s a) ≤ 2 ^ 63 }
     requires within { length into.old ≤ limit }
     ensures reads { Reads (S.state store.old) (S.state store.new) }
-    ensures members { OnOk result (into.new ≡ into.old ++ map (λ m. base + m) (reverse (family (S.state store.old) a))) }
+    ensures members { OnOk result
+        (into.new ≡ into.old ++ map (λ m. base + m) (reverse (family (S.state store.old) a))) }
     ensures within { OnOk result (length into.new ≤ limit) }
-    ensures over { IsErrOf result WalkRefusal.Over → limit < length into.old + length (family (S.state store.old) a) }
+    ensures over { IsErrOf result WalkRefusal.Over
+        → limit < length into.old + length (family (S.state store.old) a) }
 {
     match split(store, a) {
         None => {
@@ -83,8 +88,8 @@ fn walk_into<S: Store>(
     }
 }
 
-/// The members from the greatest to the least; `Over` exactly where there are more than `limit`. It takes no memory for
-/// members past the limit. After `Memory` the store knows all that it knew.
+/// The members from the greatest to the least; `Over` exactly where there are more than `limit`. It
+/// takes no memory for members past the limit. After `Memory` the store knows all that it knew.
 pub fn walk_upto<S: Store>(
     alloc: Global,
     store: &mut S,

@@ -5,7 +5,8 @@ ghost use Rattle.set_algebra.specs.Halves.{AreHalves};
 
 use node_store::{Handle, Store};
 
-/// The halves of a family at its first variable: the members without it, and those with it, with its weight taken away.
+/// The halves of a family at its first variable: the members without it, and those with it, with
+/// its weight taken away.
 #[derive(Clone, Copy)]
 pub struct Halves {
     pub weight: u64,

@@ -14,7 +14,8 @@ use node_store::{Full, Handle, Store};
 pub fn family_of<S: Store>(store: &mut S, vars: u32, numbers: &[u64]) -> Result<Handle, Full>
     requires any { MayHoldAny vars (S.state store.old) }
     requires below { All (λ m. m < 2 ^ vars) numbers.now }
-    ensures { Builds (S.state store.old) (S.state store.new) result (family_where vars (has numbers.now)) }
+    ensures { Builds (S.state store.old) (S.state store.new) result
+        (family_where vars (has numbers.now)) }
 {
     let mut all = Handle(0);
     for &m in numbers {

@@ -5,7 +5,8 @@ ghost use Rattle.set_algebra.specs.Pairs.{AreCofactors, IsFirstOf};
 
 use node_store::{Handle, Node, Store, parts_of};
 
-/// The parts of two families at the first variable of both: the members without it, and those with it, with it taken away.
+/// The parts of two families at the first variable of both: the members without it, and those with
+/// it, with it taken away.
 #[derive(Clone, Copy)]
 pub struct Cofactors {
     pub var: u32,

@@ -3,7 +3,8 @@ ghost use Rattle.std.specs.Prelude.{◌≡◌, ◌≤◌, ◌⊎◌, ◌-◌, If
 ghost use Rattle.lattice.specs.Family.{combine, union_of, inter_of, minus_of, sum_of};
 ghost use Rattle.lattice.specs.Cofactors.{low_cofactor, high_cofactor};
 ghost use Rattle.lattice.specs.Operations.{test_of, is_pointwise};
-ghost use Rattle.node_store.specs.Stores.{State, Knows, Denotes, family, IsPlanned, Reads, Builds, IsSound};
+ghost use Rattle.node_store.specs.Stores.{State, Knows, Denotes, family, IsPlanned, Reads, Builds};
+ghost use Rattle.node_store.specs.Stores.{IsSound};
 ghost use Rattle.set_algebra.specs.Pairs.{AreInOrder, AreCofactors, IsCutAt, Asks};
 ghost use Rattle.set_algebra.specs.Begins.{IfDone, IfHalves};
 
@@ -42,7 +43,8 @@ fn kept_if(keep: bool, h: Handle) -> Handle
 /// The result where it needs no look at the operands; None only where one of them is no constant.
 fn at_once(op: Op, a: Handle, b: Handle) -> Option<Handle>
     requires { is_pointwise op ≡ true }
-    ensures some { IfSome result (λ r. (s : State) → IsSound s → Knows s a → Knows s b → Denotes s r (combine (test_of op) s.vars (family s a) (family s b))) }
+    ensures some { IfSome result (λ r. (s : State) → IsSound s → Knows s a → Knows s b
+        → Denotes s r (combine (test_of op) s.vars (family s a) (family s b))) }
     ensures none { IfNone result ((2 ≤ a.0) ⊎ (2 ≤ b.0)) }
 {
     if a.0 == b.0 {
@@ -57,7 +59,8 @@ fn at_once(op: Op, a: Handle, b: Handle) -> Option<Handle>
     None
 }
 
-/// The operands, the smaller handle first where their order does not matter, so that one kept result serves both orders.
+/// The operands, the smaller handle first where their order does not matter, so that one kept
+/// result serves both orders.
 fn in_order(op: Op, a: Handle, b: Handle) -> (Handle, Handle)
     ensures { AreInOrder op a b result.0 result.1 }
 {
@@ -76,24 +79,29 @@ pub struct Halved {
     pub cofactors: Cofactors,
 }
 
-/// What there is of an operation before its halves: its result, or the operands whose low parts and whose high parts are combined.
+/// What there is of an operation before its halves: its result, or the operands whose low parts and
+/// whose high parts are combined.
 pub enum Begun {
     Done(Handle),
     Halves(Halved),
 }
 
-/// What there is before the halves of a pointwise operation: its result, where it needs no look at the nodes or is kept, and else
-/// the operands in order, cut at their first variable.
+/// What there is before the halves of a pointwise operation: its result, where it needs no look at
+/// the nodes or is kept, and else the operands in order, cut at their first variable.
 pub fn begin<S: Store>(store: &mut S, op: Op, a: Handle, b: Handle) -> Begun
     requires op { is_pointwise op ≡ true }
     requires asks { Asks op (S.state store.old) a b }
     ensures reads { Reads (S.state store.old) (S.state store.new) }
     ensures done { let s = S.state store.old in
-        IfDone result (λ r. Builds s (S.state store.new) (Ok r) (combine (test_of op) s.vars (family s a) (family s b))) }
+        IfDone result (λ r. Builds s (S.state store.new) (Ok r)
+        (combine (test_of op) s.vars (family s a) (family s b))) }
     ensures order { IfHalves result (λ h. AreInOrder op a b h.x h.y) }
-    ensures cofactors { IfHalves result (λ h. AreCofactors (S.state store.old) (S.state store.new) h.x h.y h.cofactors) }
-    ensures low { IfHalves result (λ h. Asks op (S.state store.new) h.cofactors.a_low h.cofactors.b_low) }
-    ensures high { IfHalves result (λ h. Asks op (S.state store.new) h.cofactors.a_high h.cofactors.b_high) }
+    ensures cofactors { IfHalves result
+        (λ h. AreCofactors (S.state store.old) (S.state store.new) h.x h.y h.cofactors) }
+    ensures low { IfHalves result
+        (λ h. Asks op (S.state store.new) h.cofactors.a_low h.cofactors.b_low) }
+    ensures high { IfHalves result
+        (λ h. Asks op (S.state store.new) h.cofactors.a_high h.cofactors.b_high) }
 {
     if let Some(r) = at_once(op, a, b) {
         return Begun::Done(r);
@@ -106,8 +114,8 @@ pub fn begin<S: Store>(store: &mut S, op: Op, a: Handle, b: Handle) -> Begun
     Begun::Halves(Halved { x, y, cofactors })
 }
 
-/// What there is after the halves of a pointwise operation, `lo` of the low parts and `hi` of the high ones: the result over both,
-/// which is kept.
+/// What there is after the halves of a pointwise operation, `lo` of the low parts and `hi` of the
+/// high ones: the result over both, which is kept.
 pub fn finish<S: Store>(
     store: &mut S,
     op: Op,
@@ -119,11 +127,14 @@ pub fn finish<S: Store>(
     requires asks { Asks op (S.state store.old) halved.x halved.y }
     requires cut { IsCutAt (S.state store.old) halved.x halved.y halved.cofactors.var }
     requires low { let s = S.state store.old in let d = s.vars - halved.cofactors.var in
-        Denotes s lo (combine (test_of op) s.vars (low_cofactor d (family s halved.x)) (low_cofactor d (family s halved.y))) }
+        Denotes s lo (combine (test_of op) s.vars (low_cofactor d (family s halved.x))
+        (low_cofactor d (family s halved.y))) }
     requires high { let s = S.state store.old in let d = s.vars - halved.cofactors.var in
-        Denotes s hi (combine (test_of op) s.vars (high_cofactor d (family s halved.x)) (high_cofactor d (family s halved.y))) }
+        Denotes s hi (combine (test_of op) s.vars (high_cofactor d (family s halved.x))
+        (high_cofactor d (family s halved.y))) }
     ensures { let s = S.state store.old in
-        Builds s (S.state store.new) result (combine (test_of op) s.vars (family s halved.x) (family s halved.y)) }
+        Builds s (S.state store.new) result
+        (combine (test_of op) s.vars (family s halved.x) (family s halved.y)) }
 {
     let r = grow(store, halved.cofactors.var, lo, hi)?;
     store.keep(op, halved.x, halved.y.0, r);
@@ -135,8 +146,11 @@ pub fn combine<S: Store>(store: &mut S, op: Op, a: Handle, b: Handle) -> Result<
     requires op { is_pointwise op ≡ true }
     requires a { Knows (S.state store.old) a }
     requires b { Knows (S.state store.old) b }
-    requires planned { let s = S.state store.old in IsPlanned s (combine (test_of op) s.vars (family s a) (family s b)) }
-    ensures { let s = S.state store.old in Builds s (S.state store.new) result (combine (test_of op) s.vars (family s a) (family s b)) }
+    requires planned { let s = S.state store.old in
+        IsPlanned s (combine (test_of op) s.vars (family s a) (family s b)) }
+    ensures { let s = S.state store.old in
+        Builds s (S.state store.new) result
+        (combine (test_of op) s.vars (family s a) (family s b)) }
 {
     match begin(store, op, a, b) {
         Begun::Done(r) => Ok(r),
@@ -153,8 +167,10 @@ pub fn combine<S: Store>(store: &mut S, op: Op, a: Handle, b: Handle) -> Result<
 pub fn union<S: Store>(store: &mut S, a: Handle, b: Handle) -> Result<Handle, Full>
     requires a { Knows (S.state store.old) a }
     requires b { Knows (S.state store.old) b }
-    requires planned { let s = S.state store.old in IsPlanned s (union_of s.vars (family s a) (family s b)) }
-    ensures { let s = S.state store.old in Builds s (S.state store.new) result (union_of s.vars (family s a) (family s b)) }
+    requires planned { let s = S.state store.old in
+        IsPlanned s (union_of s.vars (family s a) (family s b)) }
+    ensures { let s = S.state store.old in
+        Builds s (S.state store.new) result (union_of s.vars (family s a) (family s b)) }
 {
     combine(store, Op::Union, a, b)
 }
@@ -163,8 +179,10 @@ pub fn union<S: Store>(store: &mut S, a: Handle, b: Handle) -> Result<Handle, Fu
 pub fn inter<S: Store>(store: &mut S, a: Handle, b: Handle) -> Result<Handle, Full>
     requires a { Knows (S.state store.old) a }
     requires b { Knows (S.state store.old) b }
-    requires planned { let s = S.state store.old in IsPlanned s (inter_of s.vars (family s a) (family s b)) }
-    ensures { let s = S.state store.old in Builds s (S.state store.new) result (inter_of s.vars (family s a) (family s b)) }
+    requires planned { let s = S.state store.old in
+        IsPlanned s (inter_of s.vars (family s a) (family s b)) }
+    ensures { let s = S.state store.old in
+        Builds s (S.state store.new) result (inter_of s.vars (family s a) (family s b)) }
 {
     combine(store, Op::Inter, a, b)
 }
@@ -173,8 +191,10 @@ pub fn inter<S: Store>(store: &mut S, a: Handle, b: Handle) -> Result<Handle, Fu
 pub fn minus<S: Store>(store: &mut S, a: Handle, b: Handle) -> Result<Handle, Full>
     requires a { Knows (S.state store.old) a }
     requires b { Knows (S.state store.old) b }
-    requires planned { let s = S.state store.old in IsPlanned s (minus_of s.vars (family s a) (family s b)) }
-    ensures { let s = S.state store.old in Builds s (S.state store.new) result (minus_of s.vars (family s a) (family s b)) }
+    requires planned { let s = S.state store.old in
+        IsPlanned s (minus_of s.vars (family s a) (family s b)) }
+    ensures { let s = S.state store.old in
+        Builds s (S.state store.new) result (minus_of s.vars (family s a) (family s b)) }
 {
     combine(store, Op::Minus, a, b)
 }
@@ -183,8 +203,10 @@ pub fn minus<S: Store>(store: &mut S, a: Handle, b: Handle) -> Result<Handle, Fu
 pub fn xor<S: Store>(store: &mut S, a: Handle, b: Handle) -> Result<Handle, Full>
     requires a { Knows (S.state store.old) a }
     requires b { Knows (S.state store.old) b }
-    requires planned { let s = S.state store.old in IsPlanned s (sum_of s.vars (family s a) (family s b)) }
-    ensures { let s = S.state store.old in Builds s (S.state store.new) result (sum_of s.vars (family s a) (family s b)) }
+    requires planned { let s = S.state store.old in
+        IsPlanned s (sum_of s.vars (family s a) (family s b)) }
+    ensures { let s = S.state store.old in
+        Builds s (S.state store.new) result (sum_of s.vars (family s a) (family s b)) }
 {
     combine(store, Op::Xor, a, b)
 }

@@ -1,4 +1,5 @@
-//! Tests of the public calls that several threads share, with a module for each crate that is tested.
+//! Tests of the public calls that several threads share, with a module for each crate that is
+//! tested.
 #![tactic(auto)]
 
 #[cfg(test)]

@@ -12,8 +12,8 @@ use std::test::Fail;
 use std::thread::{Threads, join};
 use unique_table::{Shared, Token};
 
-// The nodes of the variables 3 and 2 below all numbers. In a table of 16 slots they take Handle(14) and Handle(15), whoever
-// interns them.
+// The nodes of the variables 3 and 2 below all numbers. In a table of 16 slots they take Handle(14)
+// and Handle(15), whoever interns them.
 fn lower<S: Store>(store: &mut S) -> Option<(Handle, Handle)>
     requires { MayHoldAny 3 (S.state store.old) }
     ensures grows { Grows (S.state store.old) (S.state store.new) }
@@ -26,8 +26,8 @@ fn lower<S: Store>(store: &mut S) -> Option<(Handle, Handle)>
     Some((quarter, half))
 }
 
-// The result that is kept of their union is found for these operands in this order, and stands as the one word
-// 719866119483 * 2^24 + 15 + 1 at its place.
+// The result that is kept of their union is found for these operands in this order, and stands as
+// the one word 719866119483 * 2^24 + 15 + 1 at its place.
 #[test]
 fn union_is_kept(rt: HostRuntime) -> Result<(), Fail> {
     let (table, token) = Shared::make(rt.alloc(), 4, 3, any_plan(3))?;
@@ -43,8 +43,9 @@ fn union_is_kept(rt: HostRuntime) -> Result<(), Fail> {
     Ok(())
 }
 
-// The key of the union of handles 14 and 15 is 1 * 2^48 + 14 * 2^24 + 15 = 281475211591695. Its place and quotient are those
-// of its product with 11400714819323198485, modulo 2^52. So there is a word at this place, which begins with this quotient.
+// The key of the union of handles 14 and 15 is 1 * 2^48 + 14 * 2^24 + 15 = 281475211591695. Its
+// place and quotient are those of its product with 11400714819323198485, modulo 2^52. So there is a
+// word at this place, which begins with this quotient.
 #[test]
 fn union_has_its_place(rt: HostRuntime) -> Result<(), Fail> {
     let (table, token) = Shared::make(rt.alloc(), 4, 3, any_plan(3))?;
@@ -107,8 +108,8 @@ fn work_twice<R: Threads + Sync>(
     join(rt, front, back)
 }
 
-// Each of two passes finds the result that the other one's thread kept, and so does one pass after both are joined. The two
-// results have places of their own, so none is written over.
+// Each of two passes finds the result that the other one's thread kept, and so does one pass after
+// both are joined. The two results have places of their own, so none is written over.
 #[test]
 fn results_of_another_thread_are_found(rt: HostRuntime) -> Result<(), Fail> {
     let (table, token) = Shared::make(rt.alloc(), 4, 3, any_plan(3))?;

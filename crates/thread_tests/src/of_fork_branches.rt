@@ -18,8 +18,9 @@ use unique_table::Shared;
 // How often a job or a branch looks whether the others have begun.
 const LOOKS: u64 = 100_000_000;
 
-// Jobs that note their calls. The odd ones give the handle of the family with the monomial 1 alone, and the even ones that of
-// the empty family. The first ones, as many as `waiting` says, wait until `awaited` jobs have begun.
+// Jobs that note their calls. The odd ones give the handle of the family with the monomial 1 alone,
+// and the even ones that of the empty family. The first ones, as many as `waiting` says, wait until
+// `awaited` jobs have begun.
 #[derive(Drop)]
 struct Noted {
     count: u32,
@@ -152,8 +153,8 @@ fn each_job_is_run_once(rt: HostRuntime) -> Result<(), Fail> {
     Ok(())
 }
 
-// The first job waits until the three others have begun, so one of two workers runs these three: no share that is dealt out before
-// the jobs begin does that. The two workers meet at the gate.
+// The first job waits until the three others have begun, so one of two workers runs these three: no
+// share that is dealt out before the jobs begin does that. The two workers meet at the gate.
 #[test]
 fn jobs_are_drawn(rt: HostRuntime) -> Result<(), Fail> {
     let jobs = Noted::new(rt.alloc(), 4, 1, 4)?;
@@ -165,8 +166,8 @@ fn jobs_are_drawn(rt: HostRuntime) -> Result<(), Fail> {
     Ok(())
 }
 
-// As many jobs as workers, each of which waits until all have begun. A worker runs one job at a time, so all workers are at work
-// at one time.
+// As many jobs as workers, each of which waits until all have begun. A worker runs one job at a
+// time, so all workers are at work at one time.
 #[test]
 fn as_many_workers_as_asked(rt: HostRuntime) -> Result<(), Fail> {
     for workers in [2u32, 8, 16] {
@@ -242,7 +243,8 @@ fn given<S: Store, O: SetOps<S>>(
     }
 }
 
-// Its members from the greatest down, by as many workers, and whether two branches met, which look for each other so many times.
+// Its members from the greatest down, by as many workers, and whether two branches met, which look
+// for each other so many times.
 fn given_by<R: Threads + Sync>(
     rt: &R,
     alloc: Global,
@@ -264,8 +266,8 @@ fn given_by<R: Threads + Sync>(
     Ok((gate.met(), members))
 }
 
-// The outputs of a full adder over three inputs: where the sum is 1 and where the carry is 1, and what the operations give of both,
-// by as many workers.
+// The outputs of a full adder over three inputs: where the sum is 1 and where the carry is 1, and
+// what the operations give of both, by as many workers.
 #[test]
 fn operations_by_workers(rt: HostRuntime) -> Result<(), Fail> {
     let cases: [(Op, &[Mono]); 4] = [

@@ -48,11 +48,13 @@ fn work_twice<R: Threads + Sync>(
     let mut drawer = drawer;
     let other = counter.split(&mut drawer);
     let front = move || -> (Drawer, Option<Vec<u64>>)
-        requires { IsOf drawer counter.now × ((drawing drawer).drawn ≡ []) × ((drawing drawer).parts ≡ ALL_PARTS / 2) }
+        requires { IsOf drawer counter.now × ((drawing drawer).drawn ≡ [])
+            × ((drawing drawer).parts ≡ ALL_PARTS / 2) }
         ensures { IsOf result.0 counter.entry.now × ((drawing result.0).parts ≡ ALL_PARTS / 2) }
     { work(counter, drawer, alloc) };
     let back = move || -> (Drawer, Option<Vec<u64>>)
-        requires { IsOf other counter.now × ((drawing other).drawn ≡ []) × ((drawing other).parts ≡ ALL_PARTS / 2) }
+        requires { IsOf other counter.now × ((drawing other).drawn ≡ [])
+            × ((drawing other).parts ≡ ALL_PARTS / 2) }
         ensures { IsOf result.0 counter.entry.now × ((drawing result.0).parts ≡ ALL_PARTS / 2) }
     { work(counter, other, alloc) };
     let ((mut drawer, found), (other, more)) = join(rt, front, back);
@@ -60,8 +62,8 @@ fn work_twice<R: Threads + Sync>(
     (drawer, [found, more])
 }
 
-// Two threads draw the jobs of one counter: each job is drawn once, by one of them, and each thread draws one number past
-// the last.
+// Two threads draw the jobs of one counter: each job is drawn once, by one of them, and each thread
+// draws one number past the last.
 #[test]
 fn two_threads_draw(rt: HostRuntime) -> Result<(), Fail> {
     let (counter, drawer) = Counter::make(rt.alloc())?;

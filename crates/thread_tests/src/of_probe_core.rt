@@ -13,17 +13,20 @@ use std::test::Fail;
 // The word of the node of variable 3 over {0} twice, whose path begins at place 12.
 const FIRST: u64 = 844424946909185;
 
-// The words of three nodes with the places that they take; each path begins at place 12. They are the node of variable 3 over
-// the handles 1 and 1, that of variable 2 over 14 and 14, and that of variable 1 over 0 and 15.
+// The words of three nodes with the places that they take; each path begins at place 12. They are
+// the node of variable 3 over the handles 1 and 1, that of variable 2 over 14 and 14, and that of
+// variable 1 over 0 and 15.
 const NODES: [(u32, u64); 3] = [(12, FIRST), (13, 562950188302350), (14, 281474976710671)];
 
-// The nodes of x3 and of x2*x3, each with the place where its path begins; the second one is over the first, Handle(3).
+// The nodes of x3 and of x2*x3, each with the place where its path begins; the second one is over
+// the first, Handle(3).
 const X3: (u32, u64) = (1, 844424930131969);
 
 const X2X3: (u32, u64) = (13, 562949953421315);
 
-// The product of Handle(3) and variable 2, which is Handle(15), with the place of its key: that and the quotient are the upper
-// and the lower digits of (10 * 2**48 + 3 * 2**24 + 2) * 0x9E3779B97F4A7C15 % 2**52, and the word is quotient * 2**24 + 15 + 1.
+// The product of Handle(3) and variable 2, which is Handle(15), with the place of its key: that and
+// the quotient are the upper and the lower digits of (10 * 2**48 + 3 * 2**24 + 2) *
+// 0x9E3779B97F4A7C15 % 2**52, and the word is quotient * 2**24 + 15 + 1.
 const PRODUCT: (u32, u64) = (3794, 0xE73D_94F8_2A00_0010);
 
 // Whether the event stores a cache word.
@@ -49,7 +52,8 @@ fn take(rt: &impl Abort, core: &mut Core, e: &Event) -> Result<Seen, Memory>
     core.step(e)
 }
 
-// Takes events that may be taken at their turns, and store no cache words, over 16 places and 3 variables.
+// Takes events that may be taken at their turns, and store no cache words, over 16 places and 3
+// variables.
 fn take_all(rt: &impl Abort, alloc: Global, events: &[Event]) -> Result<Core, Memory>
     ensures may { IfOk result (λ _. MayTakeAll (start 4 3) events.now) }
     ensures after { IfOk result (λ c. c ≡ after_all (start 4 3) events.now) }
@@ -61,7 +65,8 @@ fn take_all(rt: &impl Abort, alloc: Global, events: &[Event]) -> Result<Core, Me
     Ok(core)
 }
 
-// Three seats exchange the same nodes twice over, each after all have looked at its place. Then two join the first.
+// Three seats exchange the same nodes twice over, each after all have looked at its place. Then two
+// join the first.
 fn three_seats(alloc: Global) -> Result<Vec<Event>, Fail> {
     let mut events = Vec::new(alloc);
     events.push(Event::Split { seat: 0 })?;
@@ -81,7 +86,8 @@ fn three_seats(alloc: Global) -> Result<Vec<Event>, Fail> {
     Ok(events)
 }
 
-// Of two seats that saw a vacant place and exchange one word there, the first has won, and the other one sees its word.
+// Of two seats that saw a vacant place and exchange one word there, the first has won, and the
+// other one sees its word.
 #[test]
 fn one_exchange_wins(rt: HostRuntime) -> Result<(), Fail> {
     let events = [
@@ -174,7 +180,8 @@ fn refused_events(rt: HostRuntime) -> Result<(), Fail> {
     Ok(())
 }
 
-// Words that the first seat may not exchange at the places given, each for one cause, and one that it may.
+// Words that the first seat may not exchange at the places given, each for one cause, and one that
+// it may.
 #[test]
 fn refused_words(rt: HostRuntime) -> Result<(), Fail> {
     let events = three_seats(rt.alloc())?;
@@ -213,8 +220,9 @@ fn first_at(place: u32) -> Event {
     }
 }
 
-// The first seat makes the nodes of x3 and of x2*x3 and keeps the product of x3 and x2. A seat that knows x3 learns x2*x3 from
-// it, so that it may exchange a node over it, and a seat that does not know x3 learns nothing.
+// The first seat makes the nodes of x3 and of x2*x3 and keeps the product of x3 and x2. A seat that
+// knows x3 learns x2*x3 from it, so that it may exchange a node over it, and a seat that does not
+// know x3 learns nothing.
 #[test]
 fn a_kept_product_is_found(rt: HostRuntime) -> Result<(), Fail> {
     let events = [

@@ -12,7 +12,8 @@ use std::test::Fail;
 use std::thread::{Threads, join};
 use unique_table::{Shared, Token};
 
-// The members of the family of the number that have the first of the last variables, so many of them.
+// The members of the family of the number that have the first of the last variables, so many of
+// them.
 fn upper(count: u32, number: u32) -> u32 {
     match count {
         1 => number >> 1,
@@ -22,7 +23,8 @@ fn upper(count: u32, number: u32) -> u32 {
     }
 }
 
-// The handle of a family over the last variables, so many of them: bit m of the number tells whether m is a member.
+// The handle of a family over the last variables, so many of them: bit m of the number tells
+// whether m is a member.
 fn numbered<S: Store>(store: &mut S, vars: u32, count: u32, number: u32) -> Result<Handle, Full>
     requires any { MayHoldAny vars (S.state store.old) }
     requires count { count ≤ vars }
@@ -141,9 +143,10 @@ fn work_four_times<R: Threads + Sync>(
     (pass.end(), [first, second, third, fourth])
 }
 
-// Two nodes in a table of 16 slots. The first packs to 3 * 2^48 + 1 * 2^24 + 1 = 844424946909185, whose mixing to 4 bits is
-// 12, so slot 12 has it, which is Handle(14). The second packs to 2 * 2^48 + 14 * 2^24 + 14 = 562950188302350, whose mixing
-// is 12 too: it takes slot 13, which is Handle(15).
+// Two nodes in a table of 16 slots. The first packs to 3 * 2^48 + 1 * 2^24 + 1 = 844424946909185,
+// whose mixing to 4 bits is 12, so slot 12 has it, which is Handle(14). The second packs to 2 *
+// 2^48 + 14 * 2^24 + 14 = 562950188302350, whose mixing is 12 too: it takes slot 13, which is
+// Handle(15).
 #[test]
 fn second_node_probes_on(rt: HostRuntime) -> Result<(), Fail> {
     let (table, token) = Shared::make(rt.alloc(), 4, 3, any_plan(3))?;
@@ -228,8 +231,9 @@ fn four_threads_agree(rt: HostRuntime) -> Result<(), Fail> {
     Ok(())
 }
 
-// Each slot takes a node: the families over two variables but the two constants take 14, and those of 16 and 17 the last
-// two. Then the table is full, and the pass still has the handles of the nodes that are there.
+// Each slot takes a node: the families over two variables but the two constants take 14, and those
+// of 16 and 17 the last two. Then the table is full, and the pass still has the handles of the
+// nodes that are there.
 #[test]
 fn full_after_the_last_slot(rt: HostRuntime) -> Result<(), Fail> {
     let (table, token) = Shared::make(rt.alloc(), 4, 3, any_plan(3))?;

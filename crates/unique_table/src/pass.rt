@@ -1,12 +1,15 @@
 //! The table, and the passes over it.
-ghost use Rattle.std.specs.Prelude.{◌≡◌, ◌≢◌, ◌==◌, ℕ, suc, List, ◌+◌, ◌<◌, ◌≤◌, ◌^◌, ◌⊎◌, MatchBool, IsSome, IfSome, IfNone, IfOk, Some, None, true, [], ◌∷◌, ◌++◌};
+ghost use Rattle.std.specs.Prelude.{◌≡◌, ◌≢◌, ◌==◌, ℕ, suc, List, ◌+◌, ◌<◌, ◌≤◌, ◌^◌, ◌⊎◌};
+ghost use Rattle.std.specs.Prelude.{MatchBool, IsSome, IfSome, IfNone, IfOk, Some, None, true, []};
+ghost use Rattle.std.specs.Prelude.{◌∷◌, ◌++◌};
 ghost use Rattle.lattice.specs.Family.{Family};
 ghost use Rattle.lattice.specs.NodeWords.{place, cache_bits};
 ghost use Rattle.lattice.specs.declared.limits.TheConstants.{MAX_VARS, MIN_BITS, MAX_BITS};
 ghost use Rattle.lattice.specs.declared.entry.Entry.TheVariants.{Met};
 ghost use Rattle.unique_table.specs.Views.{known_by};
 ghost use Rattle.unique_table.specs.Rule.{first_view, second_view, joined_view, IsNew, IsSoundView};
-ghost use Rattle.unique_table.specs.Told.{IsAsked, IsNext, EndsPath, Probed, Exchanged, Stands, Passes, Interned, AllOthers, Meets};
+ghost use Rattle.unique_table.specs.Told.{IsAsked, IsNext, EndsPath, Probed, Exchanged, Stands};
+ghost use Rattle.unique_table.specs.Told.{Passes, Interned, AllOthers, Meets};
 ghost use Rattle.unique_table.specs.PassLaws.{IsSoundView-prop};
 
 use crate::plays::{Asked, CacheLoad, CacheStore, Check, Insert, Nodes, Probe, Twin, Union};
@@ -19,13 +22,15 @@ use probe_core::{cache_size, probe_place};
 use std::alloc::Global;
 use std::marker::Brand;
 
-/// A table of nodes that threads share. Its words change in single atomic steps, and nothing stands under a lock.
+/// A table of nodes that threads share. Its words change in single atomic steps, and nothing stands
+/// under a lock.
 #[derive(Drop)]
 pub struct Shared {
     table: Table<(), View, About, Nodes, Global>,
 }
 
-/// A seat of a table, with all that it knows. It has no lifetime, so that a thread can be handed one.
+/// A seat of a table, with all that it knows. It has no lifetime, so that a thread can be handed
+/// one.
 #[derive(Drop)]
 pub struct Token {
     seat: Seat<(), View>,
@@ -33,7 +38,8 @@ pub struct Token {
     vars: u32,
     ghost bare: { seat.me.1 ≡ [] },
     ghost bits_range: { (MIN_BITS ≤ bits) × (bits ≤ MAX_BITS) },
-    ghost sizes: { (seat.me.0.terms.bits ≡ bits) × (seat.me.0.terms.vars ≡ vars) × (seat.table_id.words ≡ 2 ^ bits + 2 ^ cache_bits bits) },
+    ghost sizes: { (seat.me.0.terms.bits ≡ bits) × (seat.me.0.terms.vars ≡ vars)
+        × (seat.table_id.words ≡ 2 ^ bits + 2 ^ cache_bits bits) },
     ghost sound: { IsSoundView seat.me.0 } by { IsSoundView-prop seat.me.0 },
 }
 
@@ -47,21 +53,25 @@ pub struct Pass<'t> {
     ghost of: { seat.table_id ≡ table.now.table.shared.table_id },
     ghost bare: { seat.me.1 ≡ [] },
     ghost bits_range: { (MIN_BITS ≤ bits) × (bits ≤ MAX_BITS) },
-    ghost sizes: { (seat.me.0.terms.bits ≡ bits) × (seat.me.0.terms.vars ≡ vars) × (seat.table_id.words ≡ 2 ^ bits + 2 ^ cache_bits bits) },
+    ghost sizes: { (seat.me.0.terms.bits ≡ bits) × (seat.me.0.terms.vars ≡ vars)
+        × (seat.table_id.words ≡ 2 ^ bits + 2 ^ cache_bits bits) },
     ghost sound: { IsSoundView seat.me.0 } by { IsSoundView-prop seat.me.0 },
 }
 
 impl Shared {
-    ghost use Rattle.unique_table.specs.Passes.{token_state, token_steps, token_table, first_state, no_steps, IsUntouched, IsOf};
+    ghost use Rattle.unique_table.specs.Passes.{token_state, token_steps, token_table, first_state};
+    ghost use Rattle.unique_table.specs.Passes.{no_steps, IsUntouched, IsOf};
     ghost use Rattle.unique_table.specs.PassOf.{pass_state, pass_steps};
 
-    /// A vacant table of 2^bits slots and as many kept results, or 2^12 where these are more, over so many variables, and
-    /// the token of its first seat, with which nothing was done to the table yet.
+    /// A vacant table of 2^bits slots and as many kept results, or 2^12 where these are more, over
+    /// so many variables, and the token of its first seat, with which nothing was done to the table
+    /// yet.
     pub fn make(alloc: Global, bits: u32, vars: u32, plan: Plan) -> Result<(Shared, Token), Memory>
         requires bits { (MIN_BITS ≤ bits) × (bits ≤ MAX_BITS) }
         requires vars { (1 ≤ vars) × (vars ≤ MAX_VARS) }
         ensures of { IfOk result (λ r. IsOf r.1 r.0) }
-        ensures state { IfOk result (λ r. token_state r.1 ≡ first_state (token_table r.1) bits vars plan.families) }
+        ensures state { IfOk result (λ r. token_state r.1
+            ≡ first_state (token_table r.1) bits vars plan.families) }
         ensures steps { IfOk result (λ r. token_steps r.1 ≡ no_steps) }
         ensures vacant { IfOk result (λ r. IsUntouched (token_state r.1) (token_steps r.1)) }
     {
@@ -101,7 +111,8 @@ impl<'t> Pass<'t> {
     ghost use Rattle.node_store.specs.Stores.{Reads};
     ghost use Rattle.unique_table.specs.Kept.{IsShown, IsKept};
     ghost use Rattle.unique_table.specs.Views.{after_load, after_store, after_split};
-    ghost use Rattle.unique_table.specs.Passes.{token_state, token_steps, table_name, IsJoined, IsUntouched, twin_of};
+    ghost use Rattle.unique_table.specs.Passes.{token_state, token_steps, table_name, IsJoined};
+    ghost use Rattle.unique_table.specs.Passes.{IsUntouched, twin_of};
     ghost use Rattle.unique_table.specs.PassOf.{pass_state, pass_steps, bits_of, AreOfOne};
 
     /// Gives the token back with all that it knows.
@@ -151,17 +162,21 @@ impl<'t> Pass<'t> {
         table.compare_exchange::<Insert<J>>(&mut self.seat, place, 0, word)
     }
 
-    // Looks at the place that stands so many steps along the word's path, and puts the word there where it is vacant. None
-    // where another word stands there.
+    // Looks at the place that stands so many steps along the word's path, and puts the word there
+    // where it is vacant. None where another word stands there.
     fn visit<J: Asked>(&mut self, word: u64, steps: usize) -> Option<usize>
         requires word { J.asked ≡ word }
         requires last { J.last ≡ (steps + 1 == 2 ^ self.old.bits) }
         requires asked { IsAsked self.old.seat.me.0 word }
         requires next { IsNext self.old.seat.me.0 word steps (place self.old.bits word steps) }
         ensures same { AreOfOne self.old self.new }
-        ensures some { IfSome result (λ at. (at ≡ place self.old.bits word steps) × Stands self.old.seat.me.0 at word self.new.seat.me.0) }
+        ensures some { IfSome result
+            (λ at. (at ≡ place self.old.bits word steps)
+            × Stands self.old.seat.me.0 at word self.new.seat.me.0) }
         ensures vacant { IsNew self.old.seat.me.0 → IsSome result }
-        ensures none { IfNone result ((other : ℕ) × Passes self.old.seat.me.0 J.last (place self.old.bits word steps) other word self.new.seat.me.0) }
+        ensures none { IfNone result
+            ((other : ℕ) × Passes self.old.seat.me.0 J.last (place self.old.bits word steps) other
+            word self.new.seat.me.0) }
     {
         let place = probe_place(self.bits, word, steps);
         let found = self.probe::<J>(place);
@@ -185,12 +200,14 @@ impl<'t> Pass<'t> {
         1usize << self.bits
     }
 
-    // The slot of the word, which is looked for along its path and put where the path is vacant first. None where all slots
-    // have other words.
+    // The slot of the word, which is looked for along its path and put where the path is vacant
+    // first. None where all slots have other words.
     fn find(&mut self, word: u64) -> Option<usize>
         requires { IsAsked self.old.seat.me.0 word }
         ensures same { AreOfOne self.old self.new }
-        ensures some { IfSome result (λ at. (at < 2 ^ self.old.bits) × Interned self.old.seat.me.0 word at self.new.seat.me.0) }
+        ensures some { IfSome result
+            (λ at. (at < 2 ^ self.old.bits)
+            × Interned self.old.seat.me.0 word at self.new.seat.me.0) }
         ensures none { IfNone result (AllOthers self.old.seat.me.0 word self.new.seat.me.0) }
         ensures vacant { IsNew self.old.seat.me.0 → result ≡ Some (place self.old.bits word 0) }
     {
@@ -207,7 +224,8 @@ impl<'t> Pass<'t> {
     fn word_at(&mut self, slot: usize) -> u64
         requires { (f : Family) × (known_by self.old.seat.me.0.known (suc (suc slot)) ≡ Some f) }
         ensures same { AreOfOne self.old self.new }
-        ensures meets { Meets self.old.seat.me.0 (Met (suc (suc slot)) result ∷ []) slot result self.new.seat.me.0 }
+        ensures meets { Meets self.old.seat.me.0 (Met (suc (suc slot)) result ∷ []) slot result
+            self.new.seat.me.0 }
     {
         self.probe::<Brand>(slot)
     }
@@ -221,14 +239,15 @@ impl<'t> Pass<'t> {
         self.bits
     }
 
-    /// Loads the cache word of the place. It is vacant, as all are in a new table, or that of a key at this place: where the pass
-    /// knows the handles of the key, it knows the result afterwards.
+    /// Loads the cache word of the place. It is vacant, as all are in a new table, or that of a key
+    /// at this place: where the pass knows the handles of the key, it knows the result afterwards.
     pub fn cache_load(&mut self, place: u32) -> u64
         requires { place < 2 ^ cache_bits (bits_of self.old) }
         ensures reads { Reads (pass_state self.old) (pass_state self.new) }
         ensures history { (pass_state self.new).history ≡ (pass_state self.old).history }
         ensures vacant { IsUntouched (pass_state self.old) (pass_steps self.old) → result ≡ 0 }
-        ensures word { (result ≡ 0) ⊎ IsKept (pass_state self.old) (pass_state self.new) (bits_of self.old) place result }
+        ensures word { (result ≡ 0) ⊎ IsKept (pass_state self.old) (pass_state self.new)
+            (bits_of self.old) place result }
         ensures steps { pass_steps self.new ≡ after_load (pass_steps self.old) place result }
         ensures bits { bits_of self.new ≡ bits_of self.old }
     {
@@ -258,7 +277,8 @@ impl<'t> Pass<'t> {
     pub fn split(&mut self) -> Pass<'t>
         ensures same { pass_state self.new ≡ pass_state self.old }
         ensures twin { pass_state result ≡ twin_of (pass_state self.old) }
-        ensures steps { (pass_steps self.new ≡ after_split (pass_steps self.old)) × (pass_steps result ≡ after_split (pass_steps self.old)) }
+        ensures steps { (pass_steps self.new ≡ after_split (pass_steps self.old))
+            × (pass_steps result ≡ after_split (pass_steps self.old)) }
     {
         let seat = self.table.table.shared.split_seat::<Twin>(&mut self.seat);
         Pass {
@@ -272,7 +292,8 @@ impl<'t> Pass<'t> {
     /// Takes in all that the other pass of this table knows, and its history.
     pub fn join(&mut self, other: Pass<'t>)
         requires { (pass_state other).table ≡ (pass_state self.old).table }
-        ensures joined { IsJoined (pass_state self.old) (pass_state other.entry) (pass_state self.new) }
+        ensures joined { IsJoined (pass_state self.old) (pass_state other.entry)
+            (pass_state self.new) }
         ensures steps { pass_steps self.new ≡ pass_steps self.old }
     {
         let Pass {
@@ -291,8 +312,10 @@ impl<'t> Pass<'t> {
 impl<'t> Store for Pass<'t> {
     ghost use Rattle.std.specs.Prelude.{MatchResult, IsNone, IfSome, ◌↔◌};
     ghost use Rattle.lattice.specs.Family.{Has};
-    ghost use Rattle.node_store.specs.Stores.{IsNode, node_family, family, Knows, AreOperands, IsResult, Builds, Reads};
-    ghost use Rattle.unique_table.specs.Passes.{IsUntouched, IsInterned, FindsFull, HasMet, word_of};
+    ghost use Rattle.node_store.specs.Stores.{IsNode, node_family, family, Knows, AreOperands};
+    ghost use Rattle.node_store.specs.Stores.{IsResult, Builds, Reads};
+    ghost use Rattle.unique_table.specs.Passes.{IsUntouched, IsInterned, FindsFull, HasMet};
+    ghost use Rattle.unique_table.specs.Passes.{word_of};
     ghost use Rattle.unique_table.specs.PassOf.{pass_state, pass_steps, pass_sound, bits_of};
 
     ghost state = { pass_state };
@@ -305,19 +328,27 @@ impl<'t> Store for Pass<'t> {
 
     fn intern(&mut self, n: &Node) -> Result<Handle, Full>
         requires node { IsNode (pass_state self.old) n.now }
-        requires planned { Has (pass_state self.old).plan (node_family (pass_state self.old) n.now) }
-        ensures builds { Builds (pass_state self.old) (pass_state self.new) result (node_family (pass_state self.old) n.now) }
+        requires planned { Has (pass_state self.old).plan
+            (node_family (pass_state self.old) n.now) }
+        ensures builds { Builds (pass_state self.old) (pass_state self.new) result
+            (node_family (pass_state self.old) n.now) }
 
         // A family that had a handle keeps it.
-        ensures same { IfOk result (λ h. (k : ℕ) → (pass_state self.old).known k ≡ Some (node_family (pass_state self.old) n.now) → h.0 ≡ k) }
+        ensures same { IfOk result (λ h. (k : ℕ)
+            → (pass_state self.old).known k ≡ Some (node_family (pass_state self.old) n.now)
+            → h.0 ≡ k) }
 
         ensures steps { pass_steps self.new ≡ pass_steps self.old }
 
         // In a new table a node takes the first slot of its path.
-        ensures vacant { IsUntouched (pass_state self.old) (pass_steps self.old) → MatchResult result (λ h. h.0 ≡ suc (suc (place (bits_of self.old) (word_of n.now) 0))) (λ _. ⊥) }
+        ensures vacant { IsUntouched (pass_state self.old) (pass_steps self.old)
+            → MatchResult result (λ h. h.0 ≡ suc (suc (place (bits_of self.old) (word_of n.now) 0)))
+            (λ _. ⊥) }
 
         // What it adds to the history.
-        ensures history { MatchResult result (IsInterned (pass_state self.old) (pass_state self.new) n.now) (λ _. FindsFull (pass_state self.old) (pass_state self.new) n.now) }
+        ensures history { MatchResult result
+            (IsInterned (pass_state self.old) (pass_state self.new) n.now)
+            (λ _. FindsFull (pass_state self.old) (pass_state self.new) n.now) }
     {
         let word = pack(n);
         match self.find(word) {
@@ -331,7 +362,8 @@ impl<'t> Store for Pass<'t> {
         ensures reads { Reads (pass_state self.old) (pass_state self.new) }
         ensures constant { IsNone result ↔ (h.0 < 2) }
         ensures node { IfSome result (IsNode (pass_state self.new)) }
-        ensures family { IfSome result (λ n. node_family (pass_state self.new) n ≡ family (pass_state self.old) h) }
+        ensures family { IfSome result
+            (λ n. node_family (pass_state self.new) n ≡ family (pass_state self.old) h) }
 
         ensures steps { pass_steps self.new ≡ pass_steps self.old }
 

@@ -1,6 +1,7 @@
 //! The rule of the table, and what each step tells. These types are for the proofs alone.
 ghost use Rattle.std.specs.Prelude.{ℕ, Bool, false};
-ghost use Rattle.unique_table.specs.Rule.{Rule, first_view, split_view, second_view, joined_view, no_view};
+ghost use Rattle.unique_table.specs.Rule.{Rule, first_view, split_view, second_view, joined_view};
+ghost use Rattle.unique_table.specs.Rule.{no_view};
 ghost use Rattle.unique_table.specs.Told.{Probed, Exchanged, Checked, Looked, Stored};
 
 use crate::view::{About, View};

@@ -1,5 +1,5 @@
-//! Two callers of the libraries, which `docs/LIBRARY.md` shows: one solves points of its own, and one does in memory what the
-//! program does.
+//! Two callers of the libraries, which `docs/LIBRARY.md` shows: one solves points of its own, and
+//! one does in memory what the program does.
 #![tactic(auto)]
 
 mod listed;

@@ -46,8 +46,8 @@ impl From<Full> for Refusal {
     }
 }
 
-/// The monomials, from the greatest down, of the least polynomial that is 0 at the zeros and 1 at the ones, if it has no more
-/// than `limit`.
+/// The monomials, from the greatest down, of the least polynomial that is 0 at the zeros and 1 at
+/// the ones, if it has no more than `limit`.
 pub fn least_terms(
     alloc: Global,
     inputs: u32,
@@ -60,8 +60,10 @@ pub fn least_terms(
     requires ones { All (λ a. a < 2 ^ inputs) ones.now }
     requires apart { AreDisjoint zeros.now ones.now }
     ensures least { IfOk result (λ terms. IsLeast inputs zeros.now ones.now (reverse terms)) }
-    ensures long { IsErrOf result Refusal.Long → (p : List ℕ) → IsLeast inputs zeros.now ones.now p → limit < length p }
-    ensures full { IsErrOf result Refusal.Full → 2 ^ BITS < length (working_set inputs (every_family inputs)) }
+    ensures long { IsErrOf result Refusal.Long → (p : List ℕ) → IsLeast inputs zeros.now ones.now p
+        → limit < length p }
+    ensures full { IsErrOf result Refusal.Full
+        → 2 ^ BITS < length (working_set inputs (every_family inputs)) }
 {
     let mut store = PlainStore::make(alloc, BITS, inputs, any_plan(inputs))?;
     let zeros = family_of(&mut store, inputs, zeros)?;

@@ -20,8 +20,8 @@ pub struct Ended {
     pub out: MemSink,
 }
 
-/// Does what the program does when it is called with these words, the program's name first, on a file of these bytes. There is
-/// room for a text of so many bytes; messages are dropped.
+/// Does what the program does when it is called with these words, the program's name first, on a
+/// file of these bytes. There is room for a text of so many bytes; messages are dropped.
 pub fn run_on<R: Threads + Sync>(
     rt: &R,
     alloc: Global,
@@ -29,9 +29,12 @@ pub fn run_on<R: Threads + Sync>(
     file: &[u8],
     room: usize,
 ) -> Result<Ended, Memory>
-    ensures due { IfOk result (λ e. (job : Job) (due : Due) → IsAsked words.now job → IsDue job file.now due → HasText due.outcome
-        → e.out.faults ≡ 0 → (e.status ≡ 7) ⊎ ((e.status ≡ status_of due.outcome) × (e.out.held ≡ concat due.pages))) }
-    ensures nothing { IfOk result (λ e. e.status ≢ 0 → e.status ≢ 1 → e.status ≢ 9 → e.out.held ≡ []) }
+    ensures due { IfOk result (λ e. (job : Job) (due : Due) → IsAsked words.now job
+        → IsDue job file.now due → HasText due.outcome
+        → e.out.faults ≡ 0 → (e.status ≡ 7)
+        ⊎ ((e.status ≡ status_of due.outcome) × (e.out.held ≡ concat due.pages))) }
+    ensures nothing { IfOk result
+        (λ e. e.status ≢ 0 → e.status ≢ 1 → e.status ≢ 9 → e.out.held ≡ []) }
 {
     let mut source = SureSource::new(file);
     let mut out = MemSink::make(alloc, room, 4096, &[])?;

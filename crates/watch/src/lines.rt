@@ -42,7 +42,11 @@ impl<K: Sink + Drop> Model for Lines<K> {
 
     ghost Value = { LinesState K };
 
-    ghost view = { λ l. record { told = l.tally.told; patience = l.tally.patience; sink = l.sink } };
+    ghost view = { λ l. record {
+      told = l.tally.told;
+      patience = l.tally.patience;
+      sink = l.sink;
+    } };
 }
 
 impl<K: Sink + Drop> Lines<K> {
@@ -75,9 +79,11 @@ impl<K: Sink + Drop> Watch for Lines<K> {
         ensures patience { self.new.patience ≡ self.old.patience - 1 }
         ensures answer { IsTrue result ↔ (1 ≤ self.old.patience) }
 
-        // A note that is answered with true adds its line to the sink, or a part of it where a write
-        // fails; another adds nothing.
-        ensures line { OnTrue result (GainsUnlessRose (K.held self.old.sink) (K.held self.new.sink) (line_of n.now) (K.faults self.old.sink) (K.faults self.new.sink)) }
+        // A note that is answered with true adds its line to the sink, or a part of it where a
+        // write fails; another adds nothing.
+        ensures line { OnTrue result
+            (GainsUnlessRose (K.held self.old.sink) (K.held self.new.sink) (line_of n.now)
+            (K.faults self.old.sink) (K.faults self.new.sink)) }
         ensures silent { OnFalse result (self.new.sink ≡ self.old.sink) }
     {
         let patient = self.tally.note(n);

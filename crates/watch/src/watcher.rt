@@ -1,5 +1,6 @@
 // The trait of watchers, and telling all of them.
-ghost use Rattle.std.specs.Prelude.{◌≡◌, ◌<◌, ◌≤◌, ◌-◌, ◌↔◌, ◌++◌, ◌∷◌, [], All, IsTrue, List, ℕ, length};
+ghost use Rattle.std.specs.Prelude.{◌≡◌, ◌<◌, ◌≤◌, ◌-◌, ◌↔◌, ◌++◌, ◌∷◌, [], All, IsTrue, List, ℕ};
+ghost use Rattle.std.specs.Prelude.{length};
 ghost use Rattle.watch.specs.Notes.{left_after, states_by, total_terms};
 ghost use Rattle.watch.specs.declared.note.Note.{Note};
 
@@ -29,8 +30,10 @@ pub trait Watch: Drop {
 /// Tells every watcher once, in order, and drops those that had no patience left. The others keep
 /// their order.
 pub fn tell(watchers: &mut Vec<Box<dyn Watch>>, n: &Note)
-    requires room { All (λ s. length s.told < MOST_NOTES) (states_by told patience watchers.old.items) }
-    ensures left { states_by told patience watchers.new.items ≡ left_after n.now (states_by told patience watchers.old.items) }
+    requires room { All (λ s. length s.told < MOST_NOTES)
+        (states_by told patience watchers.old.items) }
+    ensures left { states_by told patience watchers.new.items
+        ≡ left_after n.now (states_by told patience watchers.old.items) }
 {
     let mut kept = 0;
     for at in 0..watchers.len() {
