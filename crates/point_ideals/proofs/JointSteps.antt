@@ -11,7 +11,7 @@ use Rattle.run_parts.specs.Found.{point_leads_list, terms_of}
 use Rattle.point_ideals.specs.Cares.{HoldsPoints, points_list}
 use Rattle.point_ideals.specs.Joined.{HoldsJoint, HoldsJointPoints, first_phase_list, joined, joint_points, joint_points_list, HoldsBasis}
 use Rattle.point_ideals.specs.Joined.{HoldsElements, elements_list, joint_leads, second_phase_list, FindsBasis, FindsLeads, IsJointBasis}
-use Rattle.point_ideals.specs.Joined.{first_refused, joint_basis_of, PhaseGives, refusal_by}
+use Rattle.point_ideals.specs.Joined.{first_nodes, first_refused, joint_basis_of, PhaseGives, refusal_by}
 use Rattle.point_ideals.specs.declared.joined.Joining.{Joining}
 use Rattle.point_ideals.proofs.HeldPoints.{points_later}
 use Rattle.std.specs.List.{All, sum_by}
@@ -237,12 +237,22 @@ module _ (bits limit : ℕ) (d : Description) (joining : Joining) where
   abbrev refusal : List Family → Option BasisRefusal
   refusal = first_refused bits limit d joining
 
-  pub stopped_first : (e : BasisRefusal) → FindsLeads (2 ^ bits) limit d joining (Err e) → e ≢ Memory → Refuses e
+  many_leads : {planned : ℕ} → FindsLeads planned (2 ^ bits) limit d joining (Err Terms) → Refuses Terms
+  many_leads h = of_each refusal (Some Terms) (grind (arith, nat_tests, h.terms refl, leads_counted))
+
+  -- phase 1 was stopped on a table of its own, or on one that is not full
+  pub stopped_first : (e : BasisRefusal) → FindsLeads (first_nodes d joining) (2 ^ bits) limit d joining (Err e) → e ≢ Memory → Refuses e
   stopped_first Exhausted h other = of_each refusal (Some Exhausted) (grind (arith, nat_tests, h.exhausted refl))
-  stopped_first Terms h other = of_each refusal (Some Terms) (grind (arith, nat_tests, h.terms refl, leads_counted))
+  stopped_first Terms h other = many_leads h
   stopped_first Memory h other = absurd (other refl)
 
-  module _ (found : Family) (first : FindsLeads (2 ^ bits) limit d joining (Ok found)) where
+  pub stopped_early : {planned : ℕ} (e : BasisRefusal) → FindsLeads planned (2 ^ bits) limit d joining (Err e) → e ≢ Memory
+      → e ≢ Exhausted → Refuses e
+  stopped_early Exhausted h other others = absurd (others refl)
+  stopped_early Terms h other others = many_leads h
+  stopped_early Memory h other others = absurd (other refl)
+
+  module _ {planned : ℕ} (found : Family) (first : FindsLeads planned (2 ^ bits) limit d joining (Ok found)) where
     stopped_last : (e : BasisRefusal) → FindsBasis (2 ^ bits) limit d joining (Err e) → e ≢ Memory → Refuses e
     stopped_last Exhausted h other = of_each refusal (Some Exhausted)
         (grind (arith, nat_tests, first.fits, first.few, leads_counted, h.exhausted refl))
@@ -279,16 +289,33 @@ module _ (small bits limit : ℕ) (more : 2 ^ small ≤ 2 ^ bits) (d : Descripti
       → first_refused small limit d joining basis ≡ Some e → first_refused bits limit d joining basis ≡ Some e
   refused_with_more e other basis over = grind (arith, nat_tests, other, over, more)
 
+-- ---- both phases in one store
+
+-- the plan of phase 2 has what phase 1 needs
+pub first_covered : {plan : List Family} (d : Description) (joining : Joining)
+    → plan ≡ working_set d.inputs (second_phase_list d joining) → Covers plan (working_set d.inputs (first_phase_list d joining))
+first_covered d joining is = rw is (covers_left d.inputs _ (first_phase_list d joining) _ (λ f i. i))
+
+-- what a phase gives is told of its store's slots, and so of as many
+module _ (d : Description) (joining : Joining) {slots others limit : ℕ} (is : slots ≡ others) where
+  pub leads_by : {planned : ℕ} {r : Result Family BasisRefusal} → FindsLeads planned slots limit d joining r
+      → FindsLeads planned others limit d joining r
+  leads_by found = rw (← is) found
+
+  pub basis_by : {r : Result (List Family) BasisRefusal} → FindsBasis slots limit d joining r → FindsBasis others limit d joining r
+  basis_by found = rw (← is) found
+
 -- ---- what a phase gives
 
-module _ {T : Type 0} (slots limit nodes count : ℕ) (IsAnswer : T → Type 0) (r : Result T BasisRefusal) where
+module _ {T : Type 0} (slots limit planned nodes count : ℕ) (IsAnswer : T → Type 0) (r : Result T BasisRefusal) where
   -- where all were listed
-  pub phase_listed : {x : T} → r ≡ Ok x → IsAnswer x → nodes ≤ slots → count ≤ limit → PhaseGives slots limit nodes count IsAnswer r
+  pub phase_listed : {x : T} → r ≡ Ok x → IsAnswer x → nodes ≤ slots → count ≤ limit
+      → PhaseGives slots limit planned nodes count IsAnswer r
   phase_listed is answer fits few = rw is (record { answer = answer; fits = fits; few = few; exhausted = λ e. cc; terms = λ e. cc })
 
   -- where there were too many members, or memory ran out
   pub phase_unlisted : (x : WalkRefusal) → IsErrAnd r (λ e. e ≡ refusal_by x) → nodes ≤ slots → (x ≡ unlisted.Over → limit < count)
-      → PhaseGives slots limit nodes count IsAnswer r
+      → PhaseGives slots limit planned nodes count IsAnswer r
   phase_unlisted unlisted.Over named fits over =
       let p = err_from_is_err_and r named in
       rw (p.1, p.2) (record { answer = tt; fits = tt; few = tt; exhausted = λ e. cc; terms = λ _. (fits, over refl) })

@@ -123,21 +123,23 @@ abbrev pub refusal_by : WalkRefusal → BasisRefusal
 refusal_by unlisted.Over = Terms
 refusal_by unlisted.Memory = Memory
 
--- ---- what a phase gives that needs so many nodes and counts so many leads or terms: an answer, where these are no more than the slots
--- and the limit, or the refusal of the first that is more, or want of memory
-pub record PhaseGives {T : Type 0} (slots limit nodes count : ℕ) (IsAnswer : T → Type 0) (result : Result T BasisRefusal) : Type 0 where
+-- ---- what a phase gives that needs so many nodes, in a store with so many planned families, and counts so many leads or terms: an
+-- answer, where the nodes and the count are no more than the slots and the limit, or the refusal of the first that is more, or want of
+-- memory. Where more than the needed families are planned, it may be exhausted by those.
+pub record PhaseGives {T : Type 0} (slots limit planned nodes count : ℕ) (IsAnswer : T → Type 0) (result : Result T BasisRefusal)
+    : Type 0 where
   pub answer : IfOk result IsAnswer
   pub fits : OnOk result (nodes ≤ slots)
   pub few : OnOk result (count ≤ limit)
-  pub exhausted : IsErrOf result Exhausted → slots < nodes
+  pub exhausted : IsErrOf result Exhausted → slots < planned
   pub terms : IsErrOf result Terms → (nodes ≤ slots) × (limit < count)
 
 -- phase 1: the leads, from the greatest to the least
-abbrev pub FindsLeads : (slots limit : ℕ) → Description → Joining → Result Family BasisRefusal → Type 0
-FindsLeads slots limit d joining = PhaseGives slots limit (first_nodes d joining) (length (joint_leads d joining))
+abbrev pub FindsLeads : (planned slots limit : ℕ) → Description → Joining → Result Family BasisRefusal → Type 0
+FindsLeads planned slots limit d joining = PhaseGives slots limit planned (first_nodes d joining) (length (joint_leads d joining))
     (λ leads. reverse leads ≡ joint_leads d joining)
 
 -- phase 2: the basis, with the terms of each element from the greatest to the least
 abbrev pub FindsBasis : (slots limit : ℕ) → Description → Joining → Result (List Family) BasisRefusal → Type 0
-FindsBasis slots limit d joining = PhaseGives slots limit (last_nodes d joining) (sum_by length (joint_basis_of d joining))
-    (λ lists. map reverse lists ≡ joint_basis_of d joining)
+FindsBasis slots limit d joining = let nodes = last_nodes d joining in
+    PhaseGives slots limit nodes nodes (sum_by length (joint_basis_of d joining)) (λ lists. map reverse lists ≡ joint_basis_of d joining)

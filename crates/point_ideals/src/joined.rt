@@ -1,14 +1,16 @@
-//! The reduced basis of the intersection or the sum of the ideals of two outputs' care points, each
-//! phase on a table of its own.
+//! The reduced basis of the intersection or the sum of the ideals of two outputs' care points, with
+//! both phases on one table, or each on its own.
 ghost use Rattle.std.specs.Prelude.{◌≡◌, ◌≢◌, ◌<◌, ◌≤◌, ◌^◌, List, None, Some, IfErr, IfOk, map};
-ghost use Rattle.std.specs.Prelude.{reverse};
-ghost use Rattle.lattice.specs.Family.{Family};
+ghost use Rattle.std.specs.Prelude.{length, reverse};
+ghost use Rattle.lattice.specs.Family.{Covers, Family};
 ghost use Rattle.lattice.specs.WorkingLists.{working_set};
 ghost use Rattle.lattice.specs.declared.limits.TheConstants.{MIN_BITS, MAX_BITS};
 ghost use Rattle.lattice.proofs.Diagrams.{working_set_is_node_list};
+ghost use Rattle.node_store.specs.Stores.{Grows};
 ghost use Rattle.pla_reader.specs.Reading.{description};
-ghost use Rattle.point_ideals.specs.Joined.{FindsBasis, FindsLeads, IsJointBasis, first_phase_list};
-ghost use Rattle.point_ideals.specs.Joined.{first_refused, joint_leads, second_phase_list};
+ghost use Rattle.point_ideals.specs.Joined.{FindsBasis, FindsLeads, IsJointBasis, first_nodes};
+ghost use Rattle.point_ideals.specs.Joined.{first_phase_list, first_refused, joint_leads};
+ghost use Rattle.point_ideals.specs.Joined.{second_phase_list};
 ghost use Rattle.point_ideals.specs.declared.joined.BasisRefusal.TheVariants as refusals;
 
 use crate::phases::{first_phase, second_phase};
@@ -17,7 +19,7 @@ use cube_build::CubesRefusal;
 use lattice::{Memory, Mono, MonoLists, Monos, Plan, Planned, plan_of};
 use node_store::Store;
 use pla_reader::Pla;
-use run_parts::{first_bits, lists_upto};
+use run_parts::{first_bits, lists_upto, next_bits};
 use set_algebra::{WalkRefusal, walk_upto};
 use std::alloc::Global;
 use unique_table::Shared;
@@ -118,7 +120,7 @@ fn second_plan(p: &Pla, joining: Joining) -> Plan
     plan_of(&SecondPhase(p, joining))
 }
 
-/// Phase 1 in a store with its plan: the leads, from the greatest to the least.
+/// Phase 1 in a store whose plan has its families: the leads, from the greatest to the least.
 fn leads_in<S: Store>(
     alloc: Global,
     store: &mut S,
@@ -128,9 +130,11 @@ fn leads_in<S: Store>(
 ) -> Result<Monos, BasisRefusal>
     requires outputs { p.now.outputs ≡ 2 }
     requires vars { (S.state store.old).vars ≡ p.now.inputs }
-    requires plan { (S.state store.old).plan
-        ≡ working_set p.now.inputs (first_phase_list (description p.now) joining) }
-    ensures { FindsLeads (S.state store.old).capacity limit (description p.now) joining result }
+    requires planned { Covers (S.state store.old).plan
+        (working_set p.now.inputs (first_phase_list (description p.now) joining)) }
+    ensures grows { Grows (S.state store.old) (S.state store.new) }
+    ensures leads { let s = S.state store.old in
+        FindsLeads (length s.plan) s.capacity limit (description p.now) joining result }
 {
     let found = first_phase(alloc, store, p, joining)?;
     Ok(walk_upto(alloc, store, found.leads, limit)?)
@@ -167,7 +171,8 @@ fn leads_on(
 ) -> Result<Monos, BasisRefusal>
     requires bits { (MIN_BITS ≤ bits) × (bits ≤ MAX_BITS) }
     requires outputs { p.now.outputs ≡ 2 }
-    ensures { FindsLeads (2 ^ bits) limit (description p.now) joining result }
+    ensures { FindsLeads (first_nodes (description p.now) joining) (2 ^ bits) limit
+        (description p.now) joining result }
 {
     let (table, token) = Shared::make(alloc, bits, p.inputs, first_plan(p, joining))?;
     let mut pass = CachedPass::new(table.pass(token));
@@ -216,12 +221,38 @@ fn joint_basis_on(
     basis_on(alloc, bits, p, joining, leads.as_slice(), limit)
 }
 
+/// Both phases on one table of 2^bits slots, where phase 2 finds what phase 1 kept. Where it is
+/// full, this says only that both phases together need more.
+fn joint_basis_at_once(
+    alloc: Global,
+    bits: u32,
+    p: &Pla,
+    joining: Joining,
+    limit: u64,
+) -> Result<MonoLists, BasisRefusal>
+    requires bits { (MIN_BITS ≤ bits) × (bits ≤ MAX_BITS) }
+    requires outputs { p.now.outputs ≡ 2 }
+    ensures basis { IfOk result (λ lists. IsJointBasis (description p.now) joining
+        (map reverse lists)) }
+    ensures within { IfOk result (λ lists. first_refused bits limit (description p.now) joining
+        (map reverse lists) ≡ None) }
+    ensures refused { IfErr result
+        (λ e. e ≢ refusals.Memory → e ≢ refusals.Exhausted → (basis : List Family)
+        → IsJointBasis (description p.now) joining basis
+        → first_refused bits limit (description p.now) joining basis ≡ Some e) }
+{
+    let (table, token) = Shared::make(alloc, bits, p.inputs, second_plan(p, joining))?;
+    let mut pass = CachedPass::new(table.pass(token));
+    let leads = leads_in(alloc, &mut pass, p, joining, limit)?;
+    basis_in(alloc, &mut pass, p, joining, leads.as_slice(), limit)
+}
+
 /// The reduced basis of the intersection or of the sum of two ideals, those of the care points of
 /// outputs 1 and 2: the terms of each element from the greatest to the least, the elements by
 /// ascending lead. Each of two phases works on a table of 2^bits slots of its own: the first finds
 /// the leads, which are counted and listed, and the second the elements, whose terms are counted.
-/// The refusal is that of the first limit that is passed, or want of memory. Tables are tried first
-/// that the description may do with.
+/// The refusal is that of the first limit that is passed, or want of memory. Smaller tables are
+/// tried first that the description may do with, each for both phases.
 pub fn joint_basis(
     alloc: Global,
     bits: u32,
@@ -240,11 +271,12 @@ pub fn joint_basis(
         → IsJointBasis (description p.now) joining basis
         → first_refused bits limit (description p.now) joining basis ≡ Some e) }
 {
-    let first = first_bits(p, bits, true);
-    match joint_basis_on(alloc, first, p, joining, limit) {
-        Err(BasisRefusal::Exhausted) if first < bits => {
-            joint_basis_on(alloc, bits, p, joining, limit)
+    let mut tried = first_bits(p, bits, true);
+    while tried < bits {
+        match joint_basis_at_once(alloc, tried, p, joining, limit) {
+            Err(BasisRefusal::Exhausted) => tried = next_bits(tried, bits),
+            basis => return basis,
         }
-        basis => basis,
     }
+    joint_basis_on(alloc, bits, p, joining, limit)
 }

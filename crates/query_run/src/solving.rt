@@ -15,7 +15,7 @@ use cube_build::CubesRefusal;
 use lattice::{Memory, MonoLists, Plan, Planned, plan_of};
 use node_store::Store;
 use pla_reader::Pla;
-use run_parts::{first_bits, lists_of};
+use run_parts::{first_bits, lists_of, next_bits};
 use set_algebra::WalkRefusal;
 use std::alloc::Global;
 use unique_table::Shared;
@@ -146,7 +146,7 @@ fn reduce_on(
 /// Answers the queries on a table of 2^bits slots: for each the terms, from the greatest to the
 /// least, of the least polynomial that has the values of the query's at the care points of its
 /// output, where all have at most `limit` terms. The care points of an output are found once,
-/// however many queries are on it. A table is tried first that the description may do with.
+/// however many queries are on it. Smaller tables are tried first that the description may do with.
 pub fn reduce(
     alloc: Global,
     bits: u32,
@@ -166,11 +166,12 @@ pub fn reduce(
         → (query_nodes (description p.now) queries.now ≤ 2 ^ bits)
         × (limit < answer_terms (description p.now) queries.now) }
 {
-    let first = first_bits(p, bits, false);
-    match reduce_on(alloc, first, p, queries, limit) {
-        Err(ReduceRefusal::Exhausted) if first < bits => {
-            reduce_on(alloc, bits, p, queries, limit)
+    let mut tried = first_bits(p, bits, false);
+    while tried < bits {
+        match reduce_on(alloc, tried, p, queries, limit) {
+            Err(ReduceRefusal::Exhausted) => tried = next_bits(tried, bits),
+            answers => return answers,
         }
-        answers => answers,
     }
+    reduce_on(alloc, bits, p, queries, limit)
 }

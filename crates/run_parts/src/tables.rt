@@ -1,5 +1,5 @@
-//! The size of the tables that a run begins with.
-ghost use Rattle.std.specs.Prelude.{◌≤◌};
+//! The sizes of the tables that a run tries.
+ghost use Rattle.std.specs.Prelude.{◌<◌, ◌≤◌};
 ghost use Rattle.lattice.specs.declared.limits.TheConstants.{MIN_BITS};
 
 use pla_reader::Pla;
@@ -9,6 +9,10 @@ use pla_reader::Pla;
 pub const SMALL_BITS: u32 = 12;
 
 const MIDDLE_BITS: u32 = 17;
+
+/// The next tables have 2^STEP_BITS times as many slots. What was tried on smaller ones takes
+/// little beside a run that needs the greater ones, and a run that needs few takes no great ones.
+const STEP_BITS: u32 = 4;
 
 /// The size of the tables that a run begins with whose tables have 2^bits slots at most: small
 /// ones, middle ones, or those of that size. Each row may add a node for each input to the cover of
@@ -26,4 +30,13 @@ pub fn first_bits(p: &Pla, bits: u32, is_basis: bool) -> u32
     } else {
         bits
     }
+}
+
+/// The size of the tables that are tried after those of 2^bits slots, where the last ones have
+/// 2^most.
+pub fn next_bits(bits: u32, most: u32) -> u32
+    requires { bits < most }
+    ensures { (bits < result) × (result ≤ most) }
+{
+    bits + STEP_BITS.min(most - bits)
 }

@@ -13,7 +13,7 @@ returns-in_err-lists_upto g c =
     let is = c.in_ok-elements.ensures in
     let nodes = fits t d.inputs (second_phase_list d c.args.joining) (g.met.S.Store.sound c.second_phase.new.store) is.elements.held in
     let counted = ap (terms_of t) c.deref.ensures.value ∙ elements_counted t d c.args.joining c.in_ok-elements.elements.items is.elements in
-    phase_unlisted _ c.args.limit _ _ _ c.from_residual-in_err-lists_upto.result c.in_err-lists_upto.field-0.0
+    phase_unlisted _ c.args.limit _ _ _ _ c.from_residual-in_err-lists_upto.result c.in_err-lists_upto.field-0.0
     c.from_residual-in_err-lists_upto.ensures.1 (omega (arith, is.grows.capacity, nodes))
     (λ e. let over = c.in_err-lists_upto.ensures.over (ap Err e) in omega (arith, over, counted))
 
@@ -23,5 +23,5 @@ returns g c =
     let is = c.in_ok-elements.ensures in
     let nodes = fits t d.inputs (second_phase_list d c.args.joining) (g.met.S.Store.sound c.second_phase.new.store) is.elements.held in
     let counted = ap (terms_of t) c.deref.ensures.value ∙ elements_counted t d c.args.joining c.in_ok-elements.elements.items is.elements in
-    phase_listed _ _ _ _ _ _ refl (c.in_ok-lists_upto.ensures.lists ∙ (ap (map (family t)) c.deref.ensures.value ∙ is.elements.are))
+    phase_listed _ _ _ _ _ _ _ refl (c.in_ok-lists_upto.ensures.lists ∙ (ap (map (family t)) c.deref.ensures.value ∙ is.elements.are))
     (omega (arith, is.grows.capacity, nodes)) (omega (arith, c.in_ok-lists_upto.ensures.within, counted))
