@@ -1,0 +1,3 @@
+mod Streams
+pub mod Written
+pub mod Endings

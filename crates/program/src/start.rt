@@ -1,0 +1,73 @@
+//! What a program's `main` does.
+ghost use Rattle.std.specs.Prelude.{◌≡◌, ◌⊎◌, ◌+◌, All, List, [], ℕ};
+ghost use Rattle.std.specs.Io.KnownBytes.{Keeps};
+ghost use Rattle.outside.specs.Causes.{LosesAtMost};
+ghost use Rattle.watch.specs.Notes.{states_by};
+ghost use Rattle.program.specs.Outcomes.{status_of};
+ghost use Rattle.program.specs.Runs.{Ran};
+ghost use Rattle.program.specs.declared.outcome.Outcome.{Outcome};
+
+use crate::outcome::Outcome;
+use crate::programs::Program;
+use crate::runs::{report, run};
+use lattice::{Memory, Words};
+use outside::{Sink, Source};
+use std::alloc::Global;
+use std::env::{Env, args};
+use std::io::ErrorKind;
+use watch::Watch;
+
+/// The words of the command line, or none where they are not all text: a run then answers how it is
+/// used.
+pub fn words_of<R: Env + Alloc>(rt: &R, alloc: Global) -> Result<Words, Memory> {
+    let mut words = Words::new(alloc);
+    match args(rt) {
+        Ok(args) => {
+            for word in args {
+                words.push(word.as_str())?;
+            }
+        }
+        Err(error) => {
+            if error.kind() == ErrorKind::OutOfMemory {
+                return Err(Memory);
+            }
+        }
+    }
+    Ok(words)
+}
+
+/// Runs the program on the words of the command line, and answers its status. Where there is no
+/// memory for them, the run ends as one that is out of memory.
+pub fn start_program<R: Env + Alloc, G: Program, S: Source, K: Sink, E: Sink>(
+    rt: &R,
+    alloc: Global,
+    program: &mut G,
+    source: &mut S,
+    out: &mut K,
+    err: &mut E,
+    watchers: &mut Vec<Box<dyn Watch>>,
+) -> u8
+    requires ready { G.ready program.old }
+    requires untold { All (λ s. s.told ≡ []) (states_by told patience watchers.old.items) }
+
+    // There are words for which the run was as is due, or there was no memory for them.
+    ensures ran { ((words : List (List ℕ)) × (outcome : Outcome G.Ends)
+        × (result ≡ status_of (G.duty program.old).way outcome)
+        × Ran (G.duty program.old) (λ job due. G.earned job due program.new) words
+        (S.left source.old) (K.held out.old) (K.held out.new)
+        (states_by told patience watchers.old.items) (states_by told patience watchers.new.items)
+        outcome)
+        ⊎ ((result ≡ 7) × Keeps (K.held out.old) (K.held out.new)
+        × (S.left source.new ≡ S.left source.old)
+        × (states_by told patience watchers.new.items
+        ≡ states_by told patience watchers.old.items)) }
+    ensures keeps { G.keeps program.old program.new }
+    ensures few { LosesAtMost (S.left source.old) (S.left source.new)
+        ((G.duty program.old).limit + 1) }
+{
+    let Ok(words) = words_of(rt, alloc) else {
+        let outcome: Outcome<G::Ends> = Outcome::Memory;
+        return report(err, program.name(), program.usage(), outcome);
+    };
+    run(alloc, program, &words, source, out, err, watchers)
+}
