@@ -264,3 +264,23 @@ pub asked_not_usage : {Job E : Type 0} (duty : Duty Job E) (lawful : IsLawful du
     → duty.IsAsked words job → Ends duty earned words bytes old new before after o → o ≢ ends.Usage
 asked_not_usage duty lawful {words = words} {job = job} asked ended is =
     lawful.apart words job ((said duty lawful ended refl).usage (ap (status_of duty.way) is)) asked
+
+-- ---- a program that has no watchers
+
+left_alone : {Job E : Type 0} {duty : Duty Job E} {earned : Job → Due E → Type 0} {words : List (List ℕ)} {bytes : List ℕ}
+    {old new : Option (List ℕ)} {after : List WatcherState} {o : Outcome E} → Ends duty earned words bytes old new [] after o → after ≡ []
+left_alone (no_job o none keeps left) = left
+left_alone (read_fault job asked reads keeps left) = left
+left_alone (answered job o asked (as_due due is gained left earns)) = left
+left_alone (answered job o asked (out_of_memory keeps left)) = left
+left_alone (answered job o asked (cut_off due is text less told earns)) = told.left
+
+-- has none after the run.
+pub ran_alone : {Job E : Type 0} {duty : Duty Job E} {earned : Job → Due E → Type 0} {words : List (List ℕ)}
+    {left old new : Option (List ℕ)} {after : List WatcherState} {o : Outcome E} → Ran duty earned words left old new [] after o
+    → Ran duty earned words left old new [] [] o
+ran_alone {duty = duty} {earned = earned} {words = words} {old = old} {new = new} {o = o} ran = record {
+  bytes = ran.bytes;
+  told = ran.told;
+  ended = subst (λ (after : List WatcherState). Ends duty earned words ran.bytes old new [] after o) (left_alone ran.ended) ran.ended;
+}
