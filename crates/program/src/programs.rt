@@ -38,6 +38,11 @@ pub trait Program {
     /// What is true of each job that words ask for.
     ghost fits: { Self.Job → Type 0 };
 
+    /// Does nothing. Its contract is a law: the words ask for one job at most, and one thing at most
+    /// is due for it.
+    fn lawful(&self)
+        ensures { IsLawful (duty self.now) };
+
     /// Its name, with which its line begins.
     fn name(&self) -> &'static str
         ensures name { result.now ≡ (duty self.now).name }
@@ -84,9 +89,6 @@ pub trait Program {
             (states_by told patience watchers.new.items) result }
         ensures keeps { keeps self.old self.new }
         ensures write { result ≡ outcomes.WriteFault → Rose (K.faults out.old) (K.faults out.new) };
-
-    /// The words ask for one job at most, and one thing at most is due for it.
-    ghost lawful: { (s : Self) → IsLawful (duty s) };
 
     /// Its own ends are told as they are.
     ghost ways: { (s : Self) → (duty s).way ≡ Self.Ends.way };

@@ -6,7 +6,7 @@ ghost use Rattle.std.specs.Io.KnownBytes.{Appends, Keeps};
 ghost use Rattle.lattice.specs.Counts.{Rose};
 ghost use Rattle.outside.specs.Causes.{GainsUnlessRose, LosesAtMost};
 ghost use Rattle.watch.specs.Notes.{states_by};
-ghost use Rattle.program.specs.Duties.{Due, IsDueFor};
+ghost use Rattle.program.specs.Duties.{Due, IsDueFor, IsLawful};
 ghost use Rattle.program.specs.Outcomes.{HasText, line_of, status_of};
 ghost use Rattle.program.specs.Runs.{Ran};
 ghost use Rattle.program.specs.declared.lines.TheConstants.{LONGEST_MESSAGE, LONGEST_NAME};
@@ -32,6 +32,7 @@ fn answer_of_source<G: Program, S: Source, K: Sink>(
 ) -> Outcome<G::Ends>
     requires ready { G.ready program.old }
     requires untold { All (λ s. s.told ≡ []) (states_by told patience watchers.old.items) }
+    requires lawful { IsLawful (G.duty program.old) }
     requires fits { G.fits job.now }
     requires reads { (G.duty program.old).reads job.now ≡ true }
     ensures ran { (words : List (List ℕ)) → (G.duty program.old).IsAsked words job.now
@@ -68,6 +69,7 @@ fn outcome_of<G: Program, S: Source, K: Sink>(
 ) -> Outcome<G::Ends>
     requires ready { G.ready program.old }
     requires untold { All (λ s. s.told ≡ []) (states_by told patience watchers.old.items) }
+    requires lawful { IsLawful (G.duty program.old) }
     ensures ran { Ran (G.duty program.old) (λ job due. G.earned job due program.new) words.now
         (S.left source.old) (K.held out.old) (K.held out.new)
         (states_by told patience watchers.old.items)
@@ -171,6 +173,7 @@ pub fn run<G: Program, S: Source, K: Sink, E: Sink>(
         → (G.duty program.old).reads job ≡ false
         → (S.left source.new ≡ S.left source.old) × (S.faults source.new ≡ S.faults source.old) }
 {
+    program.lawful();
     let name = program.name();
     let usage = program.usage();
     let outcome = outcome_of(alloc, program, words, source, out, watchers);

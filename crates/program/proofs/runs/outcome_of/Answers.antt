@@ -11,7 +11,7 @@ returns-in-Err-clause-ran g c = ran_short (g.S.Source.left c.args.source.now) (Î
 pub returns-then-reads-clause-untouched : goal.returns-then-reads-clause-untouched
 returns-then-reads-clause-untouched g c = Î» usage.
     let asked = c.in-Ok.ensures.asked in
-    absurd (asked_not_usage (g.G.Program.duty c.args.program.now) (g.met.G.Program.lawful c.args.program.now) asked
+    absurd (asked_not_usage (g.G.Program.duty c.args.program.now) c.requires.lawful asked
     (c.answer_of_source.ensures.ran c.args.words.now asked).ended usage)
 
 pub returns-clause-ran : goal.returns-clause-ran
