@@ -1,7 +1,8 @@
 """Queries and bases of nfq on files that need many nodes, how long these runs take, and how nfq ends where calls fail.
 
 A run on such a file ends: by its answer, or by the count of nodes or terms that is due, in a time that is told here. On
-random files no mode takes more than twice the processor time that `interp basis` takes for the same points.
+random files no mode takes more than twice the processor time that `interp basis` takes on the same file, or more than it
+takes on one of the joined points, where their basis is the larger one.
 Where memory is refused a run ends with status 7, where a read fails with 8, and where a write fails with 9. The other
 statuses are in test_queries.
 """
@@ -19,10 +20,11 @@ from tests.test_devices import Trial
 NO_MEMORY = Ended(7, "", "nfq: out of memory\n")
 MANY_NODES = "nfq: more than 524288 nodes are needed\n"
 
-# The files that are compared, and what a run may take beside twice the time of interp, in seconds: for its start,
-# and for the terms of its queries, which interp is not asked.
-COMPARED = 20
-BESIDE = 0.05
+# The files that are compared, the runs of each of which the least counts, and what a run may take beside, in seconds:
+# for its start, and for the terms of its queries, which interp is not asked.
+COMPARED = 60
+MOST_RUNS = 3
+BESIDE = 0.005
 
 MODES = ("reduce", "union", "meet")
 
@@ -145,7 +147,7 @@ class Ends(Test):
         (one, first), (all_of_them, last) = (timed([program("nfq"), "reduce"], text + n * asked) for n in (1, 1000))
         with self.case("1 and 1,000 queries"):
             self.assertEqual((one.status, all_of_them.out), (0, 1000 * one.out))
-            self.assertLessEqual(last, 2 * first + BESIDE)
+            self.assertLessEqual(last, 2 * first + 10 * BESIDE)
 
 
 class Memory(Test):
@@ -159,29 +161,51 @@ class Memory(Test):
                 self.assertEqual(run([program("nfq"), mode], text, preexec_fn=confined), wanted)
 
 
+class Timed:
+    """A run, how it ended, and what it took: the least processor time of each time that it was run."""
+
+    def __init__(self, words, text):
+        self.words, self.text, self.seconds = words, text, []
+        self.again()
+
+    def again(self):
+        self.ended, seconds = timed(self.words, self.text)
+        self.seconds.append(seconds)
+
+    def is_within(self, factor, other):
+        """Whether it takes at most so many times what the other takes. Both are run again while it does not."""
+        while min(self.seconds) > factor * min(other.seconds) + BESIDE:
+            if len(self.seconds) >= MOST_RUNS:
+                return False
+            self.again()
+            other.again()
+        return True
+
+
 class Compared(Test):
     """Random files: what each mode takes and answers, beside interp."""
 
     def test_times(self):
         for seed in range(COMPARED):
             file = RandomFile(seed)
-            _, whole = timed([program("interp"), "basis"], file.text)
+            whole = Timed([program("interp"), "basis"], file.text)
             for mode in MODES:
                 with self.case(f"file {seed}, {mode}"):
                     self.compare(file, mode, whole)
 
-    def compare(self, file, mode, most):
-        """The time is at most twice what interp takes for the bases of both outputs, or for the one of the joined
-        points, whose elements may be many more. The answer is this one."""
-        ended, seconds = timed([program("nfq"), mode], file.text + file.queries)
-        self.assertIn(ended.status, (0, 5, 6))
+    def compare(self, file, mode, whole):
+        """It takes at most twice what interp takes for the bases of both outputs, or at most what interp takes for the
+        one basis of the joined points, a quarter more or less. The answer is this one."""
+        asked = Timed([program("nfq"), mode], file.text + file.queries)
+        self.assertIn(asked.ended.status, (0, 5, 6))
+        is_fast = asked.is_within(2, whole)
         joined = file.joined(mode)
-        if joined is not None:
-            wanted, other = timed([program("interp"), "basis"], joined)
-            most = max(most, other)
-            if (ended.status, wanted.status) == (0, 0):
-                self.assertEqual(ended.out, wanted.out.partition("\n")[2])
-        self.assertLessEqual(seconds, 2 * most + BESIDE)
+        if joined is not None and (asked.ended.status == 0 or not is_fast):
+            other = Timed([program("interp"), "basis"], joined)
+            if (asked.ended.status, other.ended.status) == (0, 0):
+                self.assertEqual(asked.ended.out, other.ended.out.partition("\n")[2])
+            is_fast = is_fast or asked.is_within(1.25, other)
+        self.assertTrue(is_fast, f"{asked.seconds} s, where interp takes {whole.seconds} s")
 
 
 class Refused(test_refused.Refused):

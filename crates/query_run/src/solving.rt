@@ -15,7 +15,7 @@ use cube_build::CubesRefusal;
 use lattice::{Memory, MonoLists, Plan, Planned, plan_of};
 use node_store::Store;
 use pla_reader::Pla;
-use run_parts::{first_bits, lists_of, next_bits};
+use run_parts::{SMALL_BITS, first_bits, lists_of, next_bits};
 use set_algebra::WalkRefusal;
 use std::alloc::Global;
 use unique_table::Shared;
@@ -143,6 +143,30 @@ fn reduce_on(
     reduce_in(alloc, &mut pass, p, queries, limit)
 }
 
+/// Whether the terms of the queries may need more nodes than a small table has: the points where a
+/// polynomial is 1 may need twice as many for each term more.
+fn need_many(p: &Pla, queries: &[Query]) -> bool {
+    let mut nodes = 0u64;
+    for query in queries {
+        let terms = query.terms.len().min(32);
+        nodes = nodes.saturating_add(u64::from(p.inputs) << terms);
+    }
+    nodes >= 1 << (SMALL_BITS - 1)
+}
+
+/// The size of the tables that queries begin with where the last ones have 2^bits slots.
+fn first_bits_for(p: &Pla, queries: &[Query], bits: u32) -> u32
+    requires { MIN_BITS ≤ bits }
+    ensures { (MIN_BITS ≤ result) × (result ≤ bits) }
+{
+    let first = first_bits(p, bits, false);
+    if first == SMALL_BITS && first < bits && need_many(p, queries) {
+        next_bits(first, bits)
+    } else {
+        first
+    }
+}
+
 /// Answers the queries on a table of 2^bits slots: for each the terms, from the greatest to the
 /// least, of the least polynomial that has the values of the query's at the care points of its
 /// output, where all have at most `limit` terms. The care points of an output are found once,
@@ -166,7 +190,7 @@ pub fn reduce(
         → (query_nodes (description p.now) queries.now ≤ 2 ^ bits)
         × (limit < answer_terms (description p.now) queries.now) }
 {
-    let mut tried = first_bits(p, bits, false);
+    let mut tried = first_bits_for(p, queries, bits);
     while tried < bits {
         match reduce_on(alloc, tried, p, queries, limit) {
             Err(ReduceRefusal::Exhausted) => tried = next_bits(tried, bits),
