@@ -97,8 +97,9 @@ def common(cube, other):
 
 
 def confined():
-    """What a child does that may have 16 MiB. The zeros of the program's file take 8, and so does a great table."""
-    resource.setrlimit(resource.RLIMIT_AS, (2**24, 2**24))
+    """What a child does that may have 8 MiB beside the program's file. A great table takes as much."""
+    most = pathlib.Path(program("nfq")).stat().st_size + 2**23
+    resource.setrlimit(resource.RLIMIT_AS, (most, most))
 
 
 def timed(words, text, **how):
