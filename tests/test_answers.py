@@ -16,8 +16,9 @@ from tests.plain_descriptions import names, read
 sys.path.insert(0, str(TOP / "tools"))
 
 from leastanf import answers
-from leastanf.answers import AnswerError, Monomials, Polynomial
+from leastanf.answers import AnswerError
 from leastanf.formats import FORMATS
+from leastanf.polynomials import Monomials, Polynomial
 
 ANSWER_AS = [sys.executable, TOP / "tools/answer_as"]
 
@@ -43,6 +44,22 @@ REFUSED = [
     ("f = a + b + a\n", 1, "a term stands twice"),
     ("f = a*b + b*a\n", 1, "a term stands twice"),
     ("0 = a\nf = b\n", 2, "behind the elements"),
+]
+
+
+# The same of an answer over the inputs a, b of the outputs f, g, whose form is looked at as that of interp.
+REFUSED_OF_INTERP = [
+    ("f = b + a\ng = a\n", 1, "'a' does not stand in the order"),
+    ("f = a\n0 = b*a\ng = a\n", 2, "'b*a' does not stand in the order"),
+    ("f = a\ng = 1 + a\n", 2, "'a' does not stand in the order"),
+    ("f = a\ng = a + a*b\n", 2, "'a*b' does not stand in the order"),
+    ("f = ~b + ~a\ng = a\n", 1, "'~a' does not stand in the order"),
+    ("f = a\nf = b\n", 2, "output f stands twice"),
+    ("f = a\n0 = b\nf = a\ng = b\n", 3, "output f stands twice"),
+    ("f = a\ng = b\nf = a\n", 3, "output f stands twice"),
+    ("g = a\nf = b\n", 1, "output g stands where output f is wanted"),
+    ("f = a\n", 2, "has nothing of output g"),
+    ("f = a\n\n0 = b\n", 4, "has nothing of output g"),
 ]
 
 
@@ -104,7 +121,6 @@ class Reading(Test):
                         found = self.read(file, text)
                         self.assertIsNone(found.ideal)
                         self.assertEqual(str(found), text)
-                        self.assertTrue(found.is_in_order())
                         lefts = [line.split(" = ")[0] for line in text.splitlines()]
                         self.assertEqual([output.name for output in found], [left for left in lefts if left != "0"])
                         self.assertEqual(sum(len(output.basis) for output in found), lefts.count("0"))
@@ -113,7 +129,7 @@ class Reading(Test):
         """Answers of nfq: an output for each query, and an ideal without an output."""
         with self.case("reduce"):
             text = (EXAMPLES / "relations.reduced").read_text()
-            found = self.read(EXAMPLES / "relations.pla", text)
+            found = self.read(EXAMPLES / "relations.pla", text, whole=False)
             self.assertEqual([output.name for output in found], ["graph"] * 3)
             self.assertEqual(str(found), text)
         for mode in ("union", "meet"):
@@ -125,10 +141,11 @@ class Reading(Test):
                 self.assertEqual(str(found), text)
 
     @staticmethod
-    def read(file, text):
+    def read(file, text, whole=True):
         source = file.read_text()
         inputs, outputs, _, _ = read(source)
-        return answers.parse(text, names(source, ".ilb", "x", inputs), names(source, ".ob", "f", outputs))
+        given = names(source, ".ilb", "x", inputs), names(source, ".ob", "f", outputs)
+        return answers.parse(text, *given, ordered=True, whole=whole)
 
     def test_refused(self):
         for text, line, said in REFUSED:
@@ -137,6 +154,20 @@ class Reading(Test):
                     answers.parse(text, ["a", "b"], ["f"])
                 self.assertEqual(caught.exception.line, line)
                 self.assertIn(said, str(caught.exception))
+
+    def test_refused_of_interp(self):
+        """Where the form of an answer of interp is asked for, it is looked at; elsewhere these are answers."""
+        for text, line, said in REFUSED_OF_INTERP:
+            with self.case(repr(text)):
+                answers.parse(text, ["a", "b"], ["f", "g"])
+                with self.assertRaises(AnswerError) as caught:
+                    answers.parse(text, ["a", "b"], ["f", "g"], ordered=True, whole=True)
+                self.assertEqual(caught.exception.line, line)
+                self.assertIn(said, str(caught.exception))
+        with self.case("an element before the only output"), self.assertRaises(AnswerError):
+            answers.parse("0 = a\n", ["a"], ["f"], whole=True)
+        with self.case("an ideal in another order"), self.assertRaises(AnswerError):
+            answers.parse_ideal("0 = 1 + a\n", ["a"], ordered=True)
 
     def test_ideals(self):
         self.assertEqual(answers.parse_ideal("", ["a"]).ideal, ())
@@ -194,18 +225,43 @@ class AnswerAs(Test):
             ended = self.answer_as(["verilog", EXAMPLES / "two_ideals.pla", "--ideal"], b"")
             self.assertEqual((ended.status, ended.out), (3, ""))
 
+    def test_outputs(self):
+        """An answer has each output once, or those that are named, or those of queries."""
+        file = EXAMPLES / "full_adder.pla"
+        one, other = (EXAMPLES / "full_adder.anf").read_text().splitlines(keepends=True)
+        cases = [
+            ((), one, 3, "answer line 2: the answer ends, and has nothing of output c"),
+            ((), other, 3, "answer line 1: output c stands where output s is wanted"),
+            ((), one + one, 3, "answer line 2: output s stands twice"),
+            (("--outputs", "c"), other, 0, ""),
+            (("--outputs", "c,s"), other + one, 0, ""),
+            (("--outputs", "c,s"), one + other, 3, "answer line 1: output s stands where output c is wanted"),
+            (("--outputs", "q"), one, 12, "'q' is none of them"),
+            (("--queries",), one + one, 0, ""),
+            (("--queries",), one.replace("a + b", "b + a"), 3, "answer line 1: 'a' does not stand in the order"),
+            (("--queries", "--ideal"), one, 2, "exclude each other"),
+        ]
+        for words, text, status, said in cases:
+            with self.case((words, text)):
+                ended = self.answer_as(["json", file, *words], text)
+                self.assertEqual(ended.status, status, ended)
+                self.assertIn(said, ended.err)
+                self.assertEqual(ended.out != "", status == 0)
+
     def test_orders(self):
-        """The ring has the order that is asked for, and a missing one is told."""
+        """The ring has the order that is asked for, and an answer in another one is refused."""
         file, text = EXAMPLES / "half_adder.pla", "graph = 1\n0 = b + sum*a\n"
-        ended = self.answer_as(["singular", file], text)
-        self.assertIn("--order", ended.err)
+        for name in FORMATS:
+            with self.case(name):
+                ended = self.answer_as([name, file], text)
+                self.assertEqual((ended.status, ended.out), (3, ""))
+                self.assertIn("answer line 2: 'sum*a' does not stand in the order of the inputs", ended.err)
+                self.assertIn("--order", ended.err)
         ended = self.answer_as(["singular", file, "--order", "b,sum,a,carry"], text)
         self.assertEqual((ended.status, ended.err), (0, ""))
         self.assertIn("ring r = 2, (b, sum, a, carry), lp;\n", ended.out)
         ended = self.answer_as(["singular", file, "--order", "b,sum,a"], text)
         self.assertEqual((ended.status, ended.out), (12, ""))
-        ended = self.answer_as(["verilog", file], text)
-        self.assertEqual((ended.status, ended.err), (0, ""))
 
     def test_names_that_are_not_printed(self):
         """The program's names and those of the file are both taken."""

@@ -28,7 +28,6 @@ SHAPES = [
     ("comment behind symbol", ".i 1\n.o 1\n1 1#\u00e9\n", ".i 1\n.o 1\n.type fd\n1 1\n.e\n"),
     ("byte order mark", "\ufeff.i 1\n.o 1\n", ".i 1\n.o 1\n.type fd\n.e\n"),
     ("symbol 3", ".i 1\n.o 2\n.type fr\n1 13\n", ".i 1\n.o 2\n.type fr\n1 10\n.e\n"),
-    ("row without points", ".i 2\n.o 1\n1? 1\n11 1\n", ".i 2\n.o 1\n.type fd\n11 1\n.e\n"),
     ("late type", ".i 1\n.o 1\n1 1\n.type fr\n0 0\n", ".i 1\n.o 1\n.type fr\n1 1\n0 0\n.e\n"),
     ("phases of one", ".i 1\n.o 2\n.phase 11\n", ".i 1\n.o 2\n.type fd\n.e\n"),
     ("binary variables", ".mv 3 2 1\n11 1\n", ".i 2\n.o 1\n.type fd\n11 1\n.e\n"),
@@ -86,7 +85,13 @@ REFUSED = [
     (".i 2\n.o 1\n1x 1\n", 3, "BadSymbol"),
     (".i 2\n.o 1\n11 x\n", 3, "BadSymbol"),
     (".i 2\n.o 1\n3- 1\n", 3, "BadSymbol"),
+    (".i 2\n.o 1\n1? 1\n11 1\n", 3, "BadSymbol"),
+    (".i 2\n.o 1\n11 ?\n", 3, "BadSymbol"),
+    (".i 2\n.o 1\n1?\n1\n", 3, "RowLength"),
+    (".i 3\n.o 1\n.ilb a b\n?11 1\n", 3, "NameCount"),
     (".i 2\n.e\n", 2, "NoSize"),
+    ("# only\n\n# comments\n", 3, "NoSize"),
+    (".i 2\n.o 0\n11\n", 2, "SizeRange"),
     ("", None, "NoSize"),
 ]
 

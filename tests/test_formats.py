@@ -21,8 +21,9 @@ from tests.plain_descriptions import meets, names, read
 sys.path.insert(0, str(TOP / "tools"))
 
 from leastanf import answers, formats, tables
-from leastanf.answers import Answer, Output, Polynomial
+from leastanf.answers import Answer, Output
 from leastanf.formats import circuits, naming, rings
+from leastanf.polynomials import Monomials, Polynomial
 
 PLAIN = ["a", "b", "c", "d"]
 # Names that a language keeps for itself, that are no word in it, that begin with a sign, or that the writer uses
@@ -235,7 +236,7 @@ class Circuits(Folder):
         inputs = [f"x{place}" for place in range(60)]
         draws = random.Random(3)
         masks = {draws.getrandbits(60) & draws.getrandbits(60) for _ in range(2000)}
-        given = Answer(inputs, [Output("s", answers.Monomials(inputs).polynomial(masks))])
+        given = Answer(inputs, [Output("s", Monomials(inputs).polynomial(masks))])
         self.assertLess(max(map(len, given.text("verilog").splitlines())), 65535)
         self.write("f.v", given.text("verilog"))
         self.write("f.blif", given.text("blif"))
@@ -246,7 +247,7 @@ class Circuits(Folder):
     @staticmethod
     def in_order(polynomial, order):
         masks = {sum(1 << (len(order) - 1 - order[name]) for name in monomial) for monomial in polynomial}
-        return answers.Monomials(order).polynomial(masks)
+        return Monomials(order).polynomial(masks)
 
     def test_nothing_to_write(self):
         """An ideal without elements is no circuit."""
@@ -280,7 +281,7 @@ class Rings(Folder):
         self.expect_all(ended.out.split())
 
     def singular_values(self, given):
-        variables = rings.singular_names(given.inputs, len(given.outputs or ()))
+        variables = rings.SINGULAR.names(given.inputs, len(given.outputs or ()))
         for number in range(1, max(1, len(given.outputs or ())) + 1):
             elements = len(given.ideal) if given.ideal is not None else len(given.outputs[number - 1].basis)
             names_of = [f"f{number}"] if given.ideal is None else []
@@ -293,7 +294,7 @@ class Rings(Folder):
     def test_macaulay2(self):
         lines = []
         for _, given in SAMPLES:
-            variables = rings.macaulay2_names(given.inputs, len(given.outputs or ()))
+            variables = rings.MACAULAY2.names(given.inputs, len(given.outputs or ()))
             lines.append(given.text("macaulay2"))
             for number, (polynomials, elements) in enumerate(self.parts(given), 1):
                 names_of = [f"f{number}"] * polynomials + [f"(I{number}_*)_{place}" for place in range(elements)]
@@ -575,7 +576,7 @@ class Names(Test):
         ended = run([installed("Singular"), "-q"], "reservedName();\n")
         words = {word for word in ended.out.split() if re.fullmatch("[A-Za-z_]+", word)}
         self.assertGreater(len(words), 100)
-        self.assertEqual({word for word in words if rings.is_singular(word)}, set())
+        self.assertEqual({word for word in words if rings.SINGULAR.keeps(word)}, set())
 
     def test_words_of_macaulay2(self):
         """No name of two letters or more that Macaulay2 has itself is kept for an input."""
@@ -585,7 +586,7 @@ class Names(Test):
             file.write_text(script)
             words = run([installed("M2"), "--script", file]).out.split()
         self.assertGreater(len(words), 1000)
-        kept = {word for word in words if rings.is_macaulay2(word)}
+        kept = {word for word in words if rings.MACAULAY2.keeps(word)}
         self.assertEqual({word for word in kept if len(word) > 1}, set())
 
     def test_words_of_verilog(self):
@@ -600,18 +601,36 @@ class Names(Test):
 
 
 class Large(Folder):
-    """An answer of 500,000 terms over 20 inputs is written in time that grows with its length."""
+    """Answers of 500,000 terms over 40 inputs are written in time that grows with their length."""
 
-    TERMS = 500_000
-    # A multiple of what was measured on an idle machine, for machines that are slower or busy.
-    SECONDS = 30
+    TERMS, INPUTS = 500_000, 40
+    # A multiple of the three seconds that each took on an idle machine, for machines that are slower or busy.
+    SECONDS = 12
 
-    def test_all(self):
-        inputs = [f"in{place}" for place in range(20)]
-        masks = sorted(random.Random(2).sample(range(2**20), self.TERMS), reverse=True)
-        text = answers.Monomials(inputs).polynomial(masks)
-        file = self.write("f.pla", description(20, 1, "fr", [("1" * 20, "1")], names=inputs, results=["f"]))
-        given = self.write("f.anf", f"f = {text}\n")
+    def scattered(self):
+        """Random products of 20 of the inputs."""
+        return [mask << 10 for mask in random.Random(2).sample(range(2**20), self.TERMS)]
+
+    def carries(self):
+        """The first terms of the carry of a sum of two numbers, which has many factors in each."""
+        carry, place = set(), self.INPUTS
+        while len(carry) < self.TERMS:
+            place -= 2
+            one, other = 2 << place, 1 << place
+            carry = {mask | one for mask in carry} ^ {mask | other for mask in carry} ^ {one | other}
+        return sorted(carry)[: self.TERMS]
+
+    def test_scattered(self):
+        self.measure(self.scattered())
+
+    def test_carries(self):
+        self.measure(self.carries())
+
+    def measure(self, masks):
+        inputs = [f"in{place}" for place in range(self.INPUTS)]
+        rows = [("1" * self.INPUTS, "1")]
+        file = self.write("f.pla", description(self.INPUTS, 1, "fr", rows, names=inputs, results=["f"]))
+        given = self.write("f.anf", f"f = {Monomials(inputs).polynomial(masks)}\n")
         for name in formats.FORMATS:
             with self.case(name), open(given, encoding="ascii") as source:
                 before = os.times()

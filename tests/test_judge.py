@@ -5,6 +5,7 @@ The right answers come from plain elimination at the points, by tests/plain_poly
 
 import os
 import pathlib
+import pty
 import random
 import sys
 import tempfile
@@ -16,7 +17,7 @@ from tests.plain_descriptions import care_points, meets
 
 sys.path.insert(0, str(TOP / "tools"))
 
-from leastanf import descriptions, judging, queries, relations, transcripts
+from leastanf import descriptions, judging, queries, relations, solving, transcripts
 
 JUDGE = [sys.executable, TOP / "tools/judge"]
 AGREES = [sys.executable, TOP / "tools/agrees"]
@@ -372,6 +373,30 @@ class Command(Test):
                 self.assertNotIn("Traceback", ended.err)
                 self.assertEqual(len(ended.err.splitlines()), 1)
 
+    def test_refusals_have_a_place(self):
+        """A term or an output twice, an unknown name, and an output that is missing are refused with their line."""
+        half, full = EXAMPLES / "half_adder.pla", EXAMPLES / "full_adder.pla"
+        cases = [
+            (half, "graph = a + b + a\n", 1, "the term 'a' stands twice"),
+            (half, "graph = 1\n0 = b*a + sum + a*b\n", 2, "the term 'a*b' stands twice"),
+            (half, "\ngraph = 1 + z\n", 2, "'z' is no input"),
+            (half, "graph = 1\n\ngrahp = 1\n", 3, "'grahp' is no output"),
+            (half, "graph = 1\n0 = a\ngraph = 1\n", 3, "has a polynomial already"),
+            (full, "s = a\nI1 = ideal(a)\nc = b\nI1 = ideal(b)\n", 4, "has a list of elements already"),
+            (full, "s = a\n", 2, "has nothing of output c"),
+            (full, "c = a\n\n", 3, "has nothing of output s"),
+            (half, "0 = a\n0 = (\n", 2, "the line goes on, and the text ends"),
+        ]
+        for file, text, line, said in cases:
+            for name, words in (("judge", JUDGE), ("agrees", AGREES)):
+                if name == "agrees" and "has nothing" in said:
+                    continue
+                with self.case(f"{name} {text!r}"):
+                    ended = run([*words, file], text)
+                    self.assertEqual((ended.status, ended.out), (3, ""), ended)
+                    self.assertTrue(ended.err.startswith(f"{name}: answer line {line}: "), ended.err)
+                    self.assertIn(said, ended.err)
+
     def script(self, name, text):
         """A program that stands for one of this repository."""
         path = self.here / name
@@ -593,6 +618,47 @@ class Agrees(Test):
                     lasts = [max(relation, key=lambda mask: (bin(mask).count("1"), mask)) for relation in masks]
                     for place, relation in enumerate(masks):
                         self.assertEqual([last for last in lasts if last in relation], [lasts[place]])
+
+    def test_no_relations(self):
+        """Where there is none, this is said."""
+        ended = run([*AGREES, EXAMPLES / "half_adder.pla", "--relations", "0"])
+        self.assertEqual((ended.status, ended.out), (0, ""))
+        self.assertEqual(ended.err, "agrees: output graph has no relation of at most degree 0\n")
+
+    def test_limits_of_relations(self):
+        """There is a limit of time and one of monomials, each with a message and what to do."""
+        with tempfile.TemporaryDirectory() as folder:
+            path = pathlib.Path(folder) / "nfq"
+            path.write_text("#!/bin/sh\nexec sleep 20\n")
+            path.chmod(0o755)
+            words = [*AGREES, EXAMPLES / "half_adder.pla", "--relations", "2", "--seconds", "1"]
+            ended = run(words, env={**os.environ, "NFQ": str(path)})
+        self.assertEqual((ended.status, ended.out), (14, ""))
+        self.assertEqual(
+            ended.err, "agrees: no relations after 1 s: give more time by --seconds, or ask for a lower degree\n"
+        )
+        ended = run([*AGREES, EXAMPLES / "one_hot.pla", "--relations", "7"])
+        self.assertEqual((ended.status, ended.out), (6, ""))
+        self.assertIn("536155 monomials of 24 inputs have at most degree 7, and at most 100000 are asked", ended.err)
+        self.assertIn("ask for a lower degree", ended.err)
+        with self.case("elimination"), self.assertRaises(solving.TimeUp):
+            clock = relations.Clock(1, lambda text: None)
+            clock.deadline = 0
+            relations.vanishing_sums([0], [{0}], clock)
+
+    def test_progress(self):
+        """On a terminal it is told how far the search is, and nothing stands there in the end."""
+        for words, said in ((["--relations", "2"], ["0 of 11 normal forms", "0 of 11 monomials eliminated"]), ([], [])):
+            with self.case(words):
+                ours, theirs = pty.openpty()
+                ended = run([*AGREES, EXAMPLES / "half_adder.pla", *words], "graph = 1\n", stderr=theirs)
+                os.close(theirs)
+                told = os.read(ours, 10000).decode() if said else ""
+                os.close(ours)
+                self.assertEqual(ended.status, 0)
+                for part in said:
+                    self.assertIn(f"agrees: {EXAMPLES / 'half_adder.pla'}: {part}", told)
+                self.assertTrue(told.endswith("\r\x1b[K") or not said, repr(told))
 
     def test_advanced_encryption_standard(self):
         """The S-box of the Advanced Encryption Standard has 39 quadratic relations, found here by plain arithmetic."""

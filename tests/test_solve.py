@@ -21,6 +21,7 @@ sys.path.insert(0, str(TOP / "tools"))
 
 import leastanf
 from leastanf import descriptions, orders, points, remedies, solving
+from leastanf.polynomials import Monomials
 from leastanf.commands import solve as command
 
 SOLVE = [sys.executable, str(TOP / "tools/solve")]
@@ -36,7 +37,6 @@ FORMS = [
     ("names over lines", ".i 2\n.o 1\n.ilb a \\\nb\n.type f\n11 1\n", "f1 = a*b\n", ":3:"),
     ("phases of one", ".i 2\n.o 1\n.phase 1\n.type f\n11 1\n", "f1 = x1*x2\n", ":3:"),
     ("binary variables", ".mv 3 2 1\n.type f\n11 1\n", "f1 = x1*x2\n", ":1:"),
-    ("row without points", ".i 2\n.o 1\n.type f\n1? 1\n11 1\n", "f1 = x1*x2\n", ":4:"),
     ("byte order mark", "\ufeff.i 2\n.o 1\n.type f\n11 1\n", "f1 = x1*x2\n", ":1:"),
     ("symbol 3", ".i 2\n.o 1\n.type fr\n11 1\n00 3\n", "f1 = x2\n", ":5:"),
     ("outputs", ".i 1\n.o 65\n.type f\n1 " + "1" * 65 + "\n", "".join(f"f{i} = x1\n" for i in range(1, 66)), ":2:"),
@@ -180,7 +180,7 @@ class Messages(Solving):
 
     def test_words(self):
         words = """--nodes 3|--nodes 24|--terms x|--workers 17|--seconds 0|--foo|--node 5|--order|--as pascal
--- --nodes 99|--nodes 9 --nodes 9|--order b,a --order=a,b
+--nodes 99|--nodes 9 --nodes 9|--order b,a --order=a,b|--text --order b,a|--text --as json|--text --polarity auto
 --terms 1_0|--terms \u0661|-o a ../f.pla"""
         for options in words.replace("\n", "|").split("|"):
             with self.case(options):
@@ -216,10 +216,20 @@ class Messages(Solving):
             self.assertEqual(ended.returncode, 9)
         with self.case("9, a folder that is a file"):
             self.expect(self.solve(XOR, "-o", "f.pla"), 9, "", "f.pla: the answer cannot be written: File exists")
+        with self.case(10):
+            data = XOR.encode() + b"#" * descriptions.MOST_BYTES + b"\n"
+            run = self.run_words([program("interp"), "anf"], input=data)
+            self.assertEqual((run.returncode, run.stdout), (10, b""))
+            self.expect(self.solve(data), 0, "f1 = a + b\n", descriptions.FORMS["bytes"])
+            self.assertEqual(command.meaning(run.stderr.decode()), command.STATUSES[10])
+        with self.case("10, by a name that makes the file as long as it may be"):
+            front, back = ".i 1\n.o 1\n.ilb ", "\n1 1\n"
+            name = "a" * (descriptions.MOST_BYTES - len(front) - len(back))
+            self.expect(self.solve(front + name + back), 0, f"f1 = {name}\n")
         with self.case(12):
             for order in ("a", "a,b,a", "a, b", "", "a,c"):
                 self.expect(self.solve(XOR, "--order", order), 12, "", "a,b")
-            self.expect(self.solve(XOR, "--", "--order=a"), 12, "", "leaves out b")
+            self.expect(self.solve(XOR, "--order=a"), 12, "", "leaves out b")
             self.expect(self.solve(XOR, "--polarity", "c"), 12, "", "'c' is none of them")
             self.expect(self.solve(XOR, "--outputs", "g"), 12, "", "'g' is none of them")
         with self.case(14):
@@ -238,6 +248,25 @@ class Messages(Solving):
                 self.expect(ended, 71, "")
             self.expect(self.solve(XOR, program="cat > /dev/null"), 71, "")
 
+    def test_every_status_is_tried(self):
+        """Each status has its example, in a test of this file."""
+        others = {2: "test_words", 3: "test_causes", 13: "test_outputs_apart", 141: "test_closed_pipe"}
+        others.update(dict.fromkeys((129, 130, 143), "test_signals"))
+        source = pathlib.Path(__file__).read_text(encoding="utf-8")
+        tried = set(map(int, re.findall(r"with self\.case\(([0-9]+)\)", source)))
+        self.assertEqual(tried | set(others), set(command.STATUSES))
+        for name in others.values():
+            self.assertIn(f"def {name}(", source)
+
+    def test_meanings(self):
+        """Each meaning is one sentence, in small letters, and no two statuses have the same."""
+        for table in (descriptions.CAUSES, descriptions.FORMS, solving.REMEDIES, command.STATUSES):
+            for word, text in table.items():
+                with self.case(word):
+                    self.assertNotRegex(text, r"^[A-Z][a-z]|\. [a-z]|\.$")
+        self.assertEqual(len(set(command.STATUSES.values())), len(command.STATUSES))
+        self.assertIn("some outputs have an answer and some have none", command.STATUSES[13])
+
     def test_why(self):
         words = [*descriptions.CAUSES, *descriptions.FORMS, *solving.REMEDIES, *map(str, command.STATUSES)]
         for word in [*words, *MESSAGES]:
@@ -247,6 +276,9 @@ class Messages(Solving):
                 self.assertGreater(len(ended.stdout), len(word) + 10)
         ended = subprocess.run([*SOLVE, "--why", "nonsense"], capture_output=True, text=True, check=False)
         self.assertEqual((ended.returncode, ended.stdout), (2, ""))
+        ended = subprocess.run([*SOLVE, "--why"], capture_output=True, text=True, check=False)
+        for word in words:
+            self.assertIn(f"\n  {word}: {command.meaning(word)}\n", ended.stdout)
 
     def test_help(self):
         """The examples of the help run."""
@@ -559,11 +591,11 @@ class Looking(Test):
         draws = random.Random(str(care))
         for _ in range(20):
             masks = [mask for mask in range(1 << inputs) if draws.random() < 0.5]
-            text = solving._Writer(names).text(masks)
+            text = str(Monomials(names).polynomial(masks))
             right = all(sum(mask & point == mask for mask in masks) % 2 == value for point, value in care.items())
             zero = all(sum(mask & point == mask for mask in masks) % 2 == 0 for point in care)
             self.assertEqual(points.fault(description, 0, text, [], names) is None, right)
-            right = solving._Writer(names).text(interpolated(care))
+            right = str(Monomials(names).polynomial(interpolated(care)))
             self.assertEqual(points.fault(description, 0, right, [text], names) is None, zero)
 
 
@@ -601,11 +633,10 @@ class Files(Solving):
         self.assertEqual((ended.returncode, ended.stdout), (2, b""))
 
     def test_options(self):
-        self.expect(self.solve(XOR, "--", "--order", "b,a"), 0, "f1 = b + a\n")
         self.expect(self.solve(XOR, "--order=b,a", "--nodes", "8", "--terms", "2", "--workers", "2"), 0, "f1 = b + a\n")
         text = ".i 63\n.o 1\n.type f\n" + "-" * 61 + "11 1\n"
         order = ",".join(f"x{place}" for place in range(63, 0, -1))
-        self.expect(self.solve(text, "--", "--order", order), 0, "f1 = x63*x62\n")
+        self.expect(self.solve(text, "--order", order), 0, "f1 = x63*x62\n")
         text = (TOP / "examples/seven_segments.pla").read_text()
         ended = self.solve(text, "--outputs", "g,b")
         self.expect(ended, 0, "g = d8 + d4*d2*d1 + d4*d2 + d4 + d2\nb = d4*d2 + d4*d1 + 1\n")

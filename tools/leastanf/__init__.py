@@ -3,7 +3,7 @@
     import leastanf
     answer = leastanf.solve("f.pla")            # a path, the bytes of a file, or a Description
     for output in answer:                       # answers.Output, in the order of the file
-        output.name, output.polynomial          # a name, an answers.Polynomial
+        output.name, output.polynomial          # a name, a polynomials.Polynomial
         output.polynomial.monomials             # tuples of names, the greatest monomial first
         output.polynomial.degree, output.polynomial.terms
         output.polynomial({"a": 1, "b": 0})     # the value at a point
@@ -77,11 +77,12 @@ def solve(source, mode="anf", order=None, polarity=None, **limits):
         raise ValueError(f"the modes are anf and basis, and not {mode!r}")
     description = describe(source)
     settings = solving.Settings(mode, **limits)
-    named_inputs = (description.shown_input_names, description.input_names)
     if order is not None and order not in ("auto", "each"):
-        settings.order, order = solving.order_of(order, *named_inputs), None
-    if polarity is not None and polarity not in ("auto", "each", "all"):
-        polarity = solving.places_of(polarity, *named_inputs, "polarity")
+        settings.order, order = solving.order_of(description, order), None
+    if polarity == "all":
+        polarity = list(range(description.inputs))
+    elif polarity is not None and polarity not in ("auto", "each"):
+        polarity = solving.inputs_of(description, polarity, "polarity")
     if order is None and polarity is None:
         solution, choices = solving.solve(description, settings), []
     else:

@@ -1,9 +1,11 @@
-"""Answers of the programs: polynomials, outputs and ideals, read from what `interp` and `nfq` print."""
+"""Answers of the programs: outputs and ideals, read from what `interp` and `nfq` print."""
 
-import itertools
+import math
+import operator
 
 from . import formats
-from .factors import COMPLEMENT, factors_of, input_of, is_complement
+from .factors import COMPLEMENT, factors_of
+from .polynomials import Monomials, Polynomial, bits_of
 
 
 class AnswerError(Exception):
@@ -14,96 +16,6 @@ class AnswerError(Exception):
     def __init__(self, line, text):
         super().__init__(text if line is None else f"answer line {line}: {text}")
         self.line = line
-
-
-class Polynomial:
-    """A Boolean polynomial: the sum modulo 2 of its monomials, each the product of its factors, a tuple of names.
-
-    Two polynomials are equal where they have the same monomials, in whichever order.
-    """
-
-    __slots__ = ("monomials", "_factors", "_masks")
-
-    def __init__(self, monomials=()):
-        self.monomials = tuple(map(tuple, monomials))
-        self._factors = self._masks = None
-
-    @property
-    def terms(self):
-        """The number of monomials."""
-        return len(self.monomials)
-
-    @property
-    def degree(self):
-        """The greatest number of factors of a monomial, and -1 for the polynomial 0."""
-        return max(map(len, self.monomials), default=-1)
-
-    def __call__(self, point):
-        """The value, 0 or 1, at a point: a mapping of the names of inputs to 0 and 1. A KeyError names an input of a
-        monomial that has no value."""
-        missing = set(map(input_of, set().union(*self.monomials))) - set(point)
-        if missing:
-            raise KeyError(min(missing))
-        ones = {name if value else COMPLEMENT + name for name, value in point.items()}
-        return sum(map(ones.issuperset, self.monomials)) % 2
-
-    def masks(self, factors):
-        """The monomials as numbers in which the first of the factors is the greatest bit; a KeyError names another
-        factor."""
-        if self._factors != factors:
-            bit = {factor: 1 << place for place, factor in enumerate(reversed(factors))}.__getitem__
-            self._masks = [sum(map(bit, monomial)) for monomial in self.monomials]
-            self._factors = factors
-        return self._masks
-
-    def has_complement(self):
-        """Whether a factor is the complement of an input."""
-        factors = set().union(*self.monomials) if self._factors is None else self._factors
-        return any(map(is_complement, factors)) and any(map(is_complement, set().union(*self.monomials)))
-
-    def __str__(self):
-        """The text as the programs print it."""
-        return " + ".join(["*".join(monomial) or "1" for monomial in self.monomials]) or "0"
-
-    def __repr__(self):
-        return f"Polynomial({self})"
-
-    def __eq__(self, other):
-        return isinstance(other, Polynomial) and self.as_set() == other.as_set()
-
-    def __hash__(self):
-        return hash(self.as_set())
-
-    def as_set(self):
-        """The monomials as a set of sets of factors."""
-        return frozenset(map(frozenset, self.monomials))
-
-
-# So many factors of a monomial are found at once.
-CHUNK = 8
-
-
-class Monomials:
-    """Monomials of numbers in which the first of some factors is the greatest bit."""
-
-    def __init__(self, factors):
-        self.factors = tuple(factors)
-        self.chunks = []
-        for shift in range(0, len(self.factors), CHUNK):
-            parts = [()]
-            for factor in reversed(self.factors[max(0, len(self.factors) - shift - CHUNK) : len(self.factors) - shift]):
-                parts += [(factor, *part) for part in parts]
-            self.chunks.insert(0, (shift, parts))
-
-    def of(self, mask):
-        """The monomial of a number."""
-        last = (1 << CHUNK) - 1
-        return tuple(itertools.chain.from_iterable([parts[mask >> shift & last] for shift, parts in self.chunks]))
-
-    def polynomial(self, masks):
-        """The polynomial of a set of numbers, its terms from the greatest to the least."""
-        ordered = sorted(masks, reverse=True)
-        return Polynomial(map(self.of, ordered))
 
 
 class Output:
@@ -143,12 +55,6 @@ class Answer:
         """The factors that its monomials may have, in its order; complements only where some monomial has one."""
         return factors_of(self.inputs, any(polynomial.has_complement() for polynomial in self.polynomials()))
 
-    def is_in_order(self):
-        """Whether the terms of each polynomial descend by the order of the inputs."""
-        factors = self.factors()
-        masks = [polynomial.masks(factors) for polynomial in self.polynomials()]
-        return all(part == sorted(part, reverse=True) for part in masks)
-
     def text(self, name=None):
         """The text in a format of the table `formats.FORMATS`, or as the programs print it."""
         if name is not None:
@@ -163,47 +69,95 @@ class Answer:
     __str__ = text
 
 
-class Reader:
-    """Reads polynomials, as the programs print them, over given inputs. `aliases` are other names for some of them."""
+def monomials_of(text):
+    """The monomials of a polynomial's text, each a tuple of factors."""
+    if text == "0":
+        return []
+    return [() if term == "1" else tuple(term.split("*")) for term in text.split(" + ")]
 
-    def __init__(self, inputs, aliases, text):
-        self.factors = factors_of(inputs, COMPLEMENT in text)
-        self.aliases = {before: after for before, after in (aliases or {}).items() if before not in self.factors}
+
+def masks_of(text, bits):
+    """The monomials of a polynomial's text, each the sum of the bits of its factors, or an AnswerError. The halves of
+    terms are kept, as most of them come again."""
+    if text == "0":
+        return []
+    bit, kept, found = bits.__getitem__, {"": 0}, []
+    try:
+        for term in text.split(" + "):
+            middle = term.find("*", len(term) // 2) + 1
+            front, back = term[:middle], term[middle:]
+            high, low = kept.get(front), kept.get(back) if back else None
+            if high is None:
+                high = kept[front] = sum(map(bit, front[:-1].split("*")))
+            if low is None:
+                low = 0 if term == "1" else kept.setdefault(back, sum(map(bit, back.split("*"))))
+            found.append(high + low)
+    except KeyError as error:
+        raise AnswerError(None, f"{error.args[0][:60]!r} is no input of the file") from None
+    return found
+
+
+class Reader:
+    """Reads polynomials, as the programs print them, over given inputs. `aliases` are other names for some of them, and
+    `ordered` says whether factors and terms have to stand in the order of the inputs."""
+
+    def __init__(self, inputs, aliases, text, ordered=False):
+        factors = factors_of(inputs, COMPLEMENT in text)
+        self.monomials = Monomials(factors)
+        self.bits = bits_of(factors)
+        self.aliases = {before: after for before, after in (aliases or {}).items() if before not in self.bits}
+        self.bits.update((before, self.bits[after]) for before, after in self.aliases.items() if after in self.bits)
+        self.ordered = ordered
 
     def polynomial(self, line, text):
         """The polynomial of a text on a line."""
-        if text == "0":
-            return Polynomial()
-        monomials = [() if term == "1" else tuple(term.split("*")) for term in text.split(" + ")]
-        if self.aliases:
-            monomials = [tuple(self.aliases.get(factor, factor) for factor in monomial) for monomial in monomials]
-        polynomial = Polynomial(monomials)
         try:
-            masks = polynomial.masks(self.factors)
-        except KeyError as error:
-            raise AnswerError(line, f"{error.args[0]!r} is no input of the file") from None
-        if "".join(map(bin, masks)).count("1") != sum(map(len, polynomial.monomials)):
+            masks = masks_of(text, self.bits)
+        except AnswerError as error:
+            raise AnswerError(line, str(error)) from None
+        factors = text.count("*") + len(masks) - masks.count(0)
+        if "".join(map(bin, masks)).count("1") != factors:
             raise AnswerError(line, "a term has an input twice")
+        found = Polynomial.of_masks(self.monomials, masks)
+        if self.aliases or str(found) != text or not all(map(operator.gt, masks, masks[1:])):
+            named = ([self.aliases.get(factor, factor) for factor in monomial] for monomial in monomials_of(text))
+            found = Polynomial(named)
+            self.refuse_faults(line, found.monomials, masks)
+        return found
+
+    def refuse_faults(self, line, monomials, masks):
+        """Refuses a polynomial with a term twice, and where order is asked for one in another order."""
         if len(set(masks)) != len(masks):
             raise AnswerError(line, "a term stands twice")
-        return polynomial
+        before = math.inf
+        for monomial, mask in zip(monomials, masks):
+            if self.ordered and (mask > before or monomial != self.monomials.of(mask)):
+                term = "*".join(monomial)[:60] or "1"
+                raise AnswerError(line, f"{term!r} does not stand in the order of the inputs: name it by --order")
+            before = mask
 
 
-def parse(text, inputs, outputs, aliases=None):
+def parse(text, inputs, outputs, aliases=None, ordered=False, whole=False):
     """The answer that a text is, by the names of the inputs in its order and of the outputs, or else an AnswerError.
 
-    An output may stand in several lines, as queries ask for it. Of an empty text it is not known what it answers, so it
-    is refused: `parse_ideal` takes it for a basis without elements. `aliases` are other names for some inputs and
-    outputs.
+    An output may be missing, or stand in several lines, as queries ask for it, but where the answer has to be `whole`:
+    there each output stands once, in this order. Of an empty text it is not known what it answers, so it is refused:
+    `parse_ideal` takes it for a basis without elements. `aliases` are other names for some inputs and outputs, and
+    `ordered` says whether factors and terms have to stand in the order of the inputs.
     """
-    reader = Reader(inputs, aliases, text)
+    reader = Reader(inputs, aliases, text, ordered)
     found, ideal = [], []
+    number = 0
     for number, left, right in lines_of(text):
         name = left if left in outputs else (aliases or {}).get(left, left)
         if name != "0" and name not in outputs:
-            raise AnswerError(number, f"{left!r} is no output of the file")
+            raise AnswerError(number, f"{left[:60]!r} is no output of the file")
         if name != "0" and ideal:
             raise AnswerError(number, "an output stands behind the elements of an ideal")
+        if name != "0" and whole:
+            refuse_place(number, name, found, outputs)
+        if name == "0" and not found and whole and len(outputs) < 2:
+            raise AnswerError(number, f"an element stands before output {outputs[0]}")
         polynomial = reader.polynomial(number, right)
         if name != "0":
             found.append(Output(name, polynomial))
@@ -213,12 +167,22 @@ def parse(text, inputs, outputs, aliases=None):
             ideal.append(polynomial)
     if not found and not ideal:
         raise AnswerError(None, "the answer is empty")
+    if whole and found and len(found) < len(outputs):
+        raise AnswerError(number + 1, f"the answer ends, and has nothing of output {outputs[len(found)]}")
     return Answer(inputs, outputs=found) if found else Answer(inputs, ideal=tuple(ideal))
 
 
-def parse_ideal(text, inputs, aliases=None):
+def refuse_place(line, name, found, outputs):
+    """Refuses an output that was found already, or that is not the next one."""
+    if any(name == output.name for output in found):
+        raise AnswerError(line, f"output {name} stands twice")
+    if name != outputs[len(found)]:
+        raise AnswerError(line, f"output {name} stands where output {outputs[len(found)]} is wanted")
+
+
+def parse_ideal(text, inputs, aliases=None, ordered=False):
     """The answer of `nfq union` or `nfq meet` that a text is: lines of elements alone, of which there may be none."""
-    reader = Reader(inputs, aliases, text)
+    reader = Reader(inputs, aliases, text, ordered)
     elements = []
     for number, left, right in lines_of(text):
         if left != "0":

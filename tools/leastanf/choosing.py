@@ -23,8 +23,8 @@ class Choice:
 
 
 def solve(description, settings, wanted_order=None, wanted_polarity=None, progress=None):
-    """Solves with the best order (auto, or each: for each output its own), the best polarity (auto, each, all, or a
-    list of places), or both. Gives the solution and the choices."""
+    """Solves with the best order (auto, or each: for each output its own), the best polarity (auto, each, or a list of
+    places), or both. Gives the solution and the choices."""
     choosing = _Choosing(description, settings, wanted_order, wanted_polarity, progress or (lambda text: None))
     choices = choosing.choose()
     found, missing, notes = [], [], []
@@ -74,8 +74,6 @@ class _Choosing:
         asked = self.settings.order or list(range(part.inputs))
         if self.wanted_polarity in ("auto", "each"):
             tried = polarity.candidates(part)
-        elif self.wanted_polarity == "all":
-            tried = [("all", list(range(part.inputs)))]
         else:
             tried = [("as asked", list(self.wanted_polarity or []))]
         trials = [(name, asked, flips) for name, flips in tried]

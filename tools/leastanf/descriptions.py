@@ -5,6 +5,7 @@ tools write (FORMS), and notes each that it met. Everything else it refuses, wit
 program names.
 """
 
+import errno
 import re
 import sys
 
@@ -28,7 +29,6 @@ FORMS = {
     "comment behind symbol": "a comment stands right behind a symbol",
     "byte order mark": "the file begins with a byte order mark",
     "symbol 3": "the output symbol 3 is read as 0",
-    "row without points": "a row with the input symbol ? has no point and is left out",
     "late type": "the type stands behind rows, and is taken for all of them",
     "phases of one": "a line .phase without zeros says nothing",
     "binary variables": "a line .mv without variables of more than two values gives the sizes",
@@ -54,7 +54,8 @@ CAUSES = {
     "Unsupported": "write the function without this command",
     "RowBeforeSize": "a row stands before .i and .o: is this a PLA file?",
     "RowLength": "a row has one symbol for each input and each output; in mode check the description ends with .e",
-    "BadSymbol": "symbols of inputs are 0 1 - 2, and those of outputs 0 1 - ~ 2 4",
+    "BadSymbol": "symbols of inputs are 0 1 - 2, and those of outputs 0 1 - ~ 2 4; a row with an input ? has no point, "
+    "so leave it out",
     "TooManyRows": f"the program takes {MOST_ROWS} rows; solve makes them fewer, or cuts the file by outputs",
     "NoSize": "there is no .i or no .o: was a file given?",
 }
@@ -65,7 +66,8 @@ _PLAIN = re.compile(r"[A-Za-z_][A-Za-z0-9_.\[\]<>]{0,31}\Z")
 _BAD_BYTE = re.compile(r"[^\t\x20-\x7e]")
 _COMMENT = re.compile(r"(?:^|(?<=[ \t]))#.*", re.DOTALL)
 _INPUT_SYMBOLS, _OUTPUT_SYMBOLS = frozenset("012-"), frozenset("0124-~")
-_ROW_SYMBOLS = frozenset("01234-~?|")
+# The symbols of rows here, and those by which a line is a row and no list of names.
+_TAKEN_SYMBOLS, _ROW_SYMBOLS = frozenset("01234-~"), frozenset("01234-~?|")
 
 
 class DescriptionError(Exception):
@@ -178,7 +180,7 @@ def is_tellable(name):
 
 def read(path, kinds=KINDS):
     """The description in a file, or on standard input where the path is -, or else a DescriptionError."""
-    return parse(read_bytes(path), "standard input" if path == "-" else path, kinds)
+    return parse(read_bytes(path), called(path), kinds)
 
 
 def read_bytes(path):
@@ -189,12 +191,18 @@ def read_bytes(path):
         else:
             with open(path, "rb") as file:
                 data = file.read(MOST_READ + 1)
-        if len(data) > MOST_READ:
-            raise DescriptionError(shown_path(path), None, None, f"it has more than {MOST_READ} bytes")
-        return data
     except (OSError, ValueError) as error:
-        text = getattr(error, "strerror", None) or str(error)
-        raise DescriptionError(shown_path(path), None, None, text) from None
+        closed = path == "-" and getattr(error, "errno", None) in (errno.EBADF, errno.EISDIR)
+        why = "it is closed, or a folder" if closed else getattr(error, "strerror", None) or str(error)
+        raise DescriptionError(called(path), None, None, why) from None
+    if len(data) > MOST_READ:
+        raise DescriptionError(called(path), None, None, f"it has more than {MOST_READ} bytes")
+    return data
+
+
+def called(path):
+    """How messages call a file."""
+    return "standard input" if path == "-" else shown_path(path)
 
 
 def shown_path(path):
@@ -209,12 +217,16 @@ def parse(data, path, kinds=KINDS):
     return _Reader(shown_path(path), kinds).read(data)
 
 
-def text(description):
-    """A description as the program takes it, a row on each line, with the names that were given."""
+def text(description, all_names=True):
+    """A description as the program takes it, a row on each line, with the names that were given: all of them, or those
+    that the program prints."""
     lines = [f".i {description.inputs}", f".o {description.outputs}", f".type {description.kind}"]
-    for command, names in ((".ilb", description.given_input_names), (".ob", description.given_output_names)):
-        if names:
-            lines.append(" ".join([command, *names]))
+    for command, given, printed in (
+        (".ilb", description.given_input_names, description.input_names),
+        (".ob", description.given_output_names, description.output_names),
+    ):
+        if given and (all_names or given == printed):
+            lines.append(" ".join([command, *given]))
     lines += [f"{row.inputs} {row.outputs}" for row in description.rows]
     return "\n".join([*lines, ".e", ""])
 
@@ -303,7 +315,7 @@ class _Reader:
         wanted = description.inputs + description.outputs
         unfinished.symbols += symbols
         have = len(unfinished.symbols)
-        if have < wanted and not set(symbols) - _ROW_SYMBOLS:
+        if have < wanted and not set(symbols) - _TAKEN_SYMBOLS:
             self.unfinished = unfinished
             return
         self.unfinished = None
@@ -319,19 +331,14 @@ class _Reader:
         if "3" in outputs:
             self.note("symbol 3", line)
             outputs = outputs.replace("3", "0")
-        pointless = "?" in inputs
-        if pointless:
-            self.note("row without points", line)
-            inputs = inputs.replace("?", "-")
         for part, taken in ((inputs, _INPUT_SYMBOLS), (outputs, _OUTPUT_SYMBOLS)):
             for symbol in part:
                 if symbol not in taken:
                     of = "an input" if part is inputs else "an output"
                     self.fail("BadSymbol", f"'{symbol}' is no symbol of {of}")
-        if not pointless:
-            description.rows.append(Row(line, inputs, outputs))
-            if len(description.rows) > MOST_ROWS:
-                self.note("rows", line)
+        description.rows.append(Row(line, inputs, outputs))
+        if len(description.rows) > MOST_ROWS:
+            self.note("rows", line)
 
     def command(self, command, words):
         if command in (".e", ".end"):

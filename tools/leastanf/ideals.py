@@ -9,7 +9,7 @@ polynomial that is too long for a run is asked in parts.
 """
 
 from . import answers, programs, remedies, solving
-from .answers import Monomials
+from .polynomials import Monomials, Polynomial
 from .descriptions import MOST_BYTES
 
 # The output of these descriptions, which have no names, and the sign between terms.
@@ -25,9 +25,10 @@ class Ideal:
         self.problem = problem
         self.order = list(order)
 
-    def normal_forms(self, polynomials):
-        """The normal forms of polynomials, or an Unsolved of the run that gave none."""
-        queries = Queries(self, set().union(*polynomials))
+    def normal_forms(self, polynomials, seconds=None):
+        """The normal forms of polynomials, or an Unsolved of the run that gave none. Where seconds are given, each run
+        may take so many."""
+        queries = Queries(self, set().union(*polynomials), seconds)
         parts = [part for polynomial in polynomials for part in queries.parts(polynomial)]
         found = []
         for (is_first, _), answer in zip(parts, queries.answers([terms for _, terms in parts])):
@@ -41,7 +42,8 @@ class Ideal:
 class Queries:
     """Runs of nfq on an ideal, with the inputs alone that some row fixes or that are in some monomial."""
 
-    def __init__(self, ideal, masks):
+    def __init__(self, ideal, masks, seconds=None):
+        self.seconds = seconds
         problem, width = ideal.problem, len(ideal.order)
         used = set(remedies.without_unused_inputs(problem).inputs)
         union = 0
@@ -55,13 +57,13 @@ class Queries:
         self.text = found.text(kept)
         self.monomials = Monomials([f"x{ranks.get(place, 0)}" for place in ideal.order])
         bits = {place: 1 << (width - 1 - at) for at, place in enumerate(ideal.order)}
-        self.bits = {"1": 0, **{f"x{rank}": bits[place] for place, rank in ranks.items()}}
+        self.bits = {f"x{rank}": bits[place] for place, rank in ranks.items()}
         self.is_small = None
 
     def parts(self, polynomial):
         """A polynomial in lists of terms of which each fits a run, and of each whether it is the first one."""
         room = MOST_BYTES // 2 - len(self.text)
-        terms = ["*".join(self.monomials.of(mask)) or "1" for mask in sorted(polynomial, reverse=True)] or ["0"]
+        terms = self.monomials.text(sorted(polynomial, reverse=True)).split(PLUS)
         start = size = 0
         for place, term in enumerate(terms):
             size += len(term) + len(PLUS)
@@ -86,7 +88,7 @@ class Queries:
         """The answers of one run. Where queries need too much together, each half of them has a run of its own, and
         where one needs too many nodes, each half of its terms."""
         data = self.text + "".join(f"{OUTPUT} = {PLUS.join(terms)}\n" for terms in parts).encode()
-        run = programs.run("nfq", ["reduce"], data)
+        run = programs.run("nfq", ["reduce"], data, self.seconds)
         if run.status == 0:
             return self.read(run.output.decode("utf-8", "replace"), len(parts))
         half = len(parts) // 2
@@ -108,15 +110,13 @@ class Queries:
     def read(self, text, count):
         """The monomials of so many answers."""
         found = []
-        for line in text.splitlines():
-            left, _, right = line.partition(" = ")
-            try:
-                terms = [] if right == "0" else right.split(PLUS)
-                found.append({sum(self.bits[name] for name in term.split("*")) for term in terms})
-            except KeyError:
-                left = None
-            if left != OUTPUT:
-                raise solving.Failed(f"nfq printed {line[:60]!r}, which is no answer to a query")
+        try:
+            for number, left, right in answers.lines_of(text):
+                if left != OUTPUT:
+                    raise answers.AnswerError(number, f"{left[:60]!r} stands on the left")
+                found.append(set(answers.masks_of(right, self.bits)))
+        except answers.AnswerError as error:
+            raise solving.Failed(f"nfq printed what is no answer to a query: {error}") from None
         if len(found) != count:
             raise solving.Failed(f"nfq printed {len(found)} answers to {count} queries")
         return found
@@ -174,7 +174,7 @@ def problem_of(description, output):
 
 
 def joint_basis(description, mode, order):
-    """The reduced basis of the ideals of a description's two outputs, as a list of answers.Polynomial: of their
+    """The reduced basis of the ideals of a description's two outputs, as a list of Polynomials: of their
     intersection in mode union, and of their sum in mode meet. No element has an input that no row fixes."""
     found = remedies.without_unused_inputs(remedies.with_fewer_rows(remedies.problem(description, [0, 1])))
     kept = [place for place in order if place in set(found.inputs)]
@@ -189,4 +189,4 @@ def joint_basis(description, mode, order):
         basis = answers.parse_ideal(run.output.decode("utf-8", "replace"), names).ideal
     except answers.AnswerError as error:
         raise solving.Failed(f"nfq printed what is no basis: {error}") from None
-    return [answers.Polynomial(map(shown.__getitem__, monomial) for monomial in element.monomials) for element in basis]
+    return [Polynomial(map(shown.__getitem__, monomial) for monomial in element.monomials) for element in basis]

@@ -16,7 +16,7 @@ the reduced basis is found by interp and compared, as a set: it is the one right
 """
 
 from . import ideals, polarity, programs, remedies, solving
-from .answers import Monomials
+from .polynomials import Monomials
 from .descriptions import MOST_BYTES
 
 MOST_CHECKED = 14

@@ -47,8 +47,8 @@ class Names:
         self._add(enumerate(description.shown_input_names))
         self._add(enumerate(description.input_names))
         other = Aliases()
-        for names_of in rings.NAMES:
-            other.add(enumerate(names_of(description.shown_input_names, description.outputs)))
+        for system in rings.SYSTEMS:
+            other.add(enumerate(system.names(description.shown_input_names, description.outputs)))
         if not any(has_other_number(place, name) for place, name in enumerate(description.shown_input_names)):
             for form in ("x({})", "x_{}", "x[{}]", "x{}"):
                 other.add((place, form.format(place + 1)) for place in range(self.width))
@@ -93,10 +93,11 @@ class Aliases:
         return [(next(iter(places)), name) for name, places in self.found.items() if len(places) == 1]
 
 
-def parse(text, names):
-    """The polynomial of a text, or a QueryError."""
+def parse(text, names, twice=True):
+    """The polynomial of a text, or a QueryError. `twice` says whether a term may stand twice in a sum of products, as
+    no program prints it."""
     if not _SIGNS.search(text):
-        found = _sum_of_products(text, names)
+        found = _sum_of_products(text, names, twice)
         if found is not None:
             return found
     try:
@@ -105,7 +106,7 @@ def parse(text, names):
         raise QueryError("the brackets are nested too deep") from None
 
 
-def _sum_of_products(text, names):
+def _sum_of_products(text, names, twice):
     """The polynomial of a plain sum of products, or None where it is none."""
     bits = {**names.factor_bits(), "1": 0}
     found = set()
@@ -116,6 +117,8 @@ def _sum_of_products(text, names):
             if bit is None:
                 return None
             mask |= bit
+        if mask in found and not twice:
+            raise QueryError(f"the term {term.strip()[:60]!r} stands twice")
         found ^= {mask}
     return found
 

@@ -12,9 +12,9 @@ import threading
 import time
 
 from . import answers, descriptions, orders, points, programs, remedies
-from .descriptions import MOST_BYTES
+from .polynomials import Monomials, Polynomial
 
-DEFAULT_SLOTS, MOST_SLOTS = 19, 23
+MOST_SLOTS = 23
 # Of each limit that a caller may give, the least and the greatest.
 LIMITS = {
     "nodes": (4, MOST_SLOTS),
@@ -23,7 +23,8 @@ LIMITS = {
     "seconds": (1, 10**6),
     "processors": (1, 1024),
 }
-# How many seconds the remedies may take together, where the caller does not say, and which part of it an output in parts.
+# How many seconds the remedies may take together, where the caller does not say, and which part of it an output in
+# parts.
 SECONDS = 300
 _FOR_PARTS = 0.4
 # How many parts an output has at the most.
@@ -92,10 +93,10 @@ class BadOrder(Unsolved):
 
 
 class SomeMissing(Unsolved):
-    """Some outputs have an answer and some have none. `solution` has those that have one."""
+    """Some outputs have an answer and some have none."""
 
     status = 13
-    remedy = "the answer has the other outputs; each one that is missing has its own message"
+    remedy = "those that have one are given; each of the others has its own message, with what to do"
 
 
 class TimeUp(Unsolved):
@@ -113,7 +114,7 @@ class Failed(Unsolved):
 
 
 class WrongAnswer(Unsolved):
-    """The answer that was found does not take the values of the rows: a fault of this tool or of the program."""
+    """The answer that was found does not take the values of the rows."""
 
     status = 71
     remedy = (
@@ -222,8 +223,28 @@ def answer(solution, description, settings, choices=()):
     return answers.parse(solution.text(), [names[place] for place in order], description.shown_output_names)
 
 
-def places_of(names, shown, printed, option):
-    """The places that a list of names has, as they are shown or printed by the program."""
+def inputs_of(description, names, option):
+    """The places of the inputs that a list names, as they are shown or printed by the program."""
+    return _places_of(names, description.shown_input_names, description.input_names, option)
+
+
+def outputs_of(description, names, option):
+    """The places of the outputs that a list names."""
+    return _places_of(names, description.shown_output_names, description.output_names, option)
+
+
+def order_of(description, names):
+    """The places of the inputs that an order names."""
+    found = inputs_of(description, names, "--order")
+    shown = description.shown_input_names
+    if len(found) != len(shown):
+        missing = [name for place, name in enumerate(shown) if place not in set(found)]
+        raise BadOrder(f"--order leaves out {_few(missing, ', ')}", told_names(shown))
+    return found
+
+
+def _places_of(names, shown, printed, option):
+    """The places that a list of names has among some that are shown, or that the program prints."""
     places = {name: place for place, name in [*enumerate(printed), *enumerate(shown)]}
     found = []
     for name in names:
@@ -231,15 +252,6 @@ def places_of(names, shown, printed, option):
             fault = "stands twice" if name in places else "is none of them"
             raise BadOrder(f"{option}: '{name}' {fault}", told_names(shown))
         found.append(places[name])
-    return found
-
-
-def order_of(names, shown, printed):
-    """The places of the inputs that an order names."""
-    found = places_of(names, shown, printed, "--order")
-    if len(found) != len(shown):
-        missing = [name for place, name in enumerate(shown) if place not in set(found)]
-        raise BadOrder(f"--order leaves out {_few(missing, ', ')}", told_names(shown))
     return found
 
 
@@ -364,7 +376,8 @@ class _Solving:
         names = description.input_names
         asked = [names[place] for place in self.order] if settings.order else None
         self.progress("the file as it is")
-        return self.run(settings.words(asked), descriptions.text(description).encode(), settings.given_seconds)
+        data = descriptions.text(description, all_names=False).encode()
+        return self.run(settings.words(asked), data, settings.given_seconds)
 
     def run(self, words, data, seconds):
         """A run of the program, which may take so many seconds."""
@@ -374,8 +387,6 @@ class _Solving:
     def run_remedy(self, found, order, slots=None, group=None):
         """A run of the program on a problem by an order of its inputs, as long as the remedies may take."""
         data = found.text(order)
-        if len(data) > MOST_BYTES:
-            return programs.Run(10, b"", f"interp: longer than {MOST_BYTES} bytes", 0.0)
         with self.seats:
             left = self.deadline - time.monotonic()
             if left <= 0:
@@ -504,10 +515,10 @@ class _Solving:
         """The outputs of a run on a problem by an order of some inputs."""
         bits = self.bits_of(order)
         same = list(bits) == [self.names[place] for place in order]
-        write = _Writer([self.names[place] for place in self.order])
+        write = Monomials([self.names[place] for place in self.order])
         found = []
         for place, lines in zip(outputs, answer_lines(run, descriptions.numbered_names("f", len(outputs)))):
-            texts = [text if same else write.text(masks_of(text, bits)) for text in lines]
+            texts = [text if same else write.text(sorted(masks_of(text, bits), reverse=True)) for text in lines]
             found.append(Solved(place, self.output_names[place], texts[0], texts[1:]))
         return found
 
@@ -580,15 +591,15 @@ class _Solving:
 
     def solve_complete(self, place, found):
         """An output without free points."""
-        write = _Writer([self.names[other] for other in self.order])
+        write = Monomials([self.names[other] for other in self.order])
         terms = self.complete_terms(place, found)
         if len(terms) > (self.settings.terms or 1_000_000):
             raise TooManyTerms(f"output {self.output_names[place]}: {len(terms)} terms")
-        return Solved(place, self.output_names[place], write.text(terms), [])
+        return Solved(place, self.output_names[place], write.text(sorted(terms, reverse=True)), [])
 
     def complete_terms(self, place, found):
-        """The terms of an output without free points: by the asked order, by other orders, with more slots, in parts, and
-        with the most slots."""
+        """The terms of an output without free points: by the asked order, by other orders, with more slots, in parts,
+        and with the most slots."""
         if not found.fits():
             return self.terms_by_parts(place, found, self.deadline)
         asked = self.asked_order(found)
@@ -628,7 +639,8 @@ class _Solving:
         return masks_of(polynomial, self.bits_of(order))
 
     def by_orders(self, place, found, tried, slots):
-        """The terms by the first of some orders that has an answer, or None. Those that had one before are tried first."""
+        """The terms by the first of some orders that has an answer, or None. Those that had one before are tried
+        first."""
         known = [entry for entry in tried if entry[0] in self.winners]
         won = self.first_of(found, known, slots) or self.first_of(found, tried, slots)
         if won is None:
@@ -700,14 +712,16 @@ def _few(words, between):
 def answer_lines(run, names):
     """For each output of a run the text of its polynomial, and those of the elements behind it."""
     found, left = [], iter(names)
-    for line in run.output.decode("ascii", "replace").splitlines():
-        name, _, right = line.partition(" = ")
-        if name == "0" and found and right:
-            found[-1].append(right)
-        elif name == next(left, None) and right:
-            found.append([right])
-        else:
-            raise WrongAnswer(f"the program wrote a line that is no line of its answer: {line[:60]!r}")
+    try:
+        for number, name, right in answers.lines_of(run.output.decode("ascii", "replace")):
+            if name == "0" and found:
+                found[-1].append(right)
+            elif name == next(left, None):
+                found.append([right])
+            else:
+                raise answers.AnswerError(number, f"{name[:60]!r} stands on the left")
+    except answers.AnswerError as error:
+        raise WrongAnswer(f"the program wrote what is no answer: {error}") from None
     if len(found) != len(names):
         raise WrongAnswer(f"the program wrote an answer of {len(found)} outputs, and there are {len(names)}")
     return found
@@ -715,47 +729,13 @@ def answer_lines(run, names):
 
 def renamed(text, named):
     """The text of a polynomial with other names."""
-    if text in ("0", "1"):
-        return text
-    return " + ".join("*".join(named.get(name, name) for name in term.split("*")) for term in text.split(" + "))
+    monomials = answers.monomials_of(text)
+    return str(Polynomial([named.get(factor, factor) for factor in monomial] for monomial in monomials))
 
 
 def masks_of(text, bits):
     """The terms of a polynomial's text, by the bits of its names."""
-    if text == "0":
-        return []
-    found = []
-    for term in text.split(" + "):
-        mask = 0
-        for name in term.split("*") if term != "1" else ():
-            if name not in bits:
-                raise WrongAnswer(f"the program wrote {name[:60]!r}, which is no input")
-            mask |= bits[name]
-        found.append(mask)
-    return found
-
-
-class _Writer:
-    """Writes terms with names, of which the first is the greatest bit."""
-
-    _STEP = 8
-
-    def __init__(self, names):
-        step = self._STEP
-        self.chunks = []
-        for shift in range(0, len(names), step):
-            part = names[len(names) - shift - step if len(names) > shift + step else 0 : len(names) - shift]
-            words = [""]
-            for name in reversed(part):
-                words += [f"{name}*{word}" if word else name for word in words]
-            self.chunks.append((shift, words))
-        self.chunks.reverse()
-
-    def text(self, terms):
-        """The terms from the greatest to the least."""
-        step = (1 << self._STEP) - 1
-        found = []
-        for mask in sorted(terms, reverse=True):
-            parts = [words[mask >> shift & step] for shift, words in self.chunks if mask >> shift & step]
-            found.append("*".join(parts) or "1")
-        return " + ".join(found) or "0"
+    try:
+        return answers.masks_of(text, bits)
+    except answers.AnswerError as error:
+        raise WrongAnswer(f"the program wrote what is no answer: {error}") from None

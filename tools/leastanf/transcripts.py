@@ -5,7 +5,8 @@ A line gives a polynomial to an output, by its name or as `poly f2 = ..` of outp
 was named last. In a script, which makes a ring, f2 is output 2 too, whatever the outputs are called. Of a list of
 elements the brackets and the word before them are left out, and so are the marks o1, o2 of Macaulay2. Elements with a
 power that are 0 where x^2 is x are the polynomials of the field and are left out too. A 0 that is not on a line `0 = 0`
-says that a list has no elements, as these programs have no other way to say it.
+says that a list has no elements, as these programs have no other way to say it. A term that stands twice in a sum of
+products is refused, as no program prints it.
 """
 
 import re
@@ -45,8 +46,9 @@ class Claim:
 
 def parse(text, description, names):
     """What a text says of each output of a description, a list of Claims, or a TranscriptError."""
-    claims = [Claim() for _ in range(description.outputs)]
-    numbers = {f"{letter}{place + 1}": (place, letter == "f") for letter in "If" for place in range(description.outputs)}
+    places = range(description.outputs)
+    claims = [Claim() for _ in places]
+    numbers = {f"{letter}{place + 1}": (place, letter == "f") for letter in "If" for place in places}
     names_of_outputs = {}
     for given in (description.output_names, description.shown_output_names):
         names_of_outputs.update((name, (place, True)) for place, name in enumerate(given))
@@ -62,6 +64,8 @@ def parse(text, description, names):
             raise TranscriptError(line, f"{left or right[:20]!r} is no output of the file, and none was named before")
         if found and left not in lefts and not _is_label(left, lefts):
             raise TranscriptError(line, f"{left!r} is no output of the file")
+        if left in lefts and not is_polynomial and claims[place].has_list:
+            raise TranscriptError(line, "the output has a list of elements already")
         current = place
         polynomials = [_parse(line, piece, names) for piece in pieces(right)]
         if is_polynomial:
@@ -98,7 +102,7 @@ def _add_elements(claim, line, elements):
 
 def _parse(line, text, names):
     try:
-        return queries.parse(text, names)
+        return queries.parse(text, names, twice=False)
     except queries.QueryError as error:
         raise TranscriptError(line, str(error)) from None
 

@@ -2,11 +2,14 @@
 
 import functools
 import os
+import pathlib
 import signal
 import sys
+import traceback
 
 from ..descriptions import DescriptionError, shown_path
 from ..programs import ProgramMissing
+from ..solving import OutOfMemory, WrongAnswer
 
 # The statuses that the commands have and the programs have not: no program, and 128 and the number of a signal.
 WORDS, WRITE_FAULT, MISSING = 2, 9, 69
@@ -62,21 +65,32 @@ def command(name):
                 return stopped.status
             except MemoryError:
                 say(name, "out of memory")
-                return 7
+                return OutOfMemory.status
+            except Exception as error:
+                _drop_output()
+                say(name, f"{_told_fault(error)}: this is a fault of the tool: please keep the files and report it")
+                return WrongAnswer.status
 
         return main
 
     return guard
 
 
+def _told_fault(error):
+    """An exception that nothing expects, on one line, with the place where it was raised."""
+    *_, (frame, line) = traceback.walk_tb(error.__traceback__)
+    place = f"{pathlib.Path(frame.f_code.co_filename).name}:{line}"
+    return shown_path(f"{place}: {type(error).__name__}: {str(error)[:200]}")
+
+
 def _set_streams():
-    """Texts are UTF-8, and what is no UTF-8 of a path is written with backslashes. A stream that is closed has nothing
-    to read, and what is written to standard output then fails."""
+    """Texts are UTF-8, and what is no UTF-8 of a path is written with backslashes. To read from standard input or to
+    write to standard output fails where it is closed."""
     for descriptor, name in enumerate(("stdin", "stdout", "stderr")):
         stream = getattr(sys, name)
         if stream is None:
             # The lowest descriptor that is free is this one.
-            os.open(os.devnull, os.O_WRONLY if name == "stderr" else os.O_RDONLY)
+            os.open(os.devnull, os.O_RDONLY if name == "stdout" else os.O_WRONLY)
             stream = open(descriptor, "r" if name == "stdin" else "w", encoding="utf-8", closefd=False)
             setattr(sys, name, stream)
         if name != "stdin" and hasattr(stream, "reconfigure"):

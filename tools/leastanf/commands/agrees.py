@@ -14,7 +14,8 @@ order. They come from the normal forms of all monomials of these degrees by elim
 before it is printed.
 
 options:
-  --relations DEGREE   the relations of at most this degree
+  --relations DEGREE   the relations of at most this degree, of at most 100,000 monomials
+  --seconds S          the time that the search for the relations of an output may take: 300 s without it
   --outputs NAMES      these outputs alone
   --order NAMES        the order of the inputs, the greatest first, in which relations are written
 
@@ -24,92 +25,87 @@ examples:
   tools/agrees examples/half_adder.pla --relations 2
 
 It prints a line for each polynomial, `NAME: yes` or `NAME: no, ..`, with the reason. Statuses: 0 all agree; 1 one does
-not; 2 the words are not of this form; 3 the description or a polynomial is refused; 4 rows contradict each other; 8 a
-file cannot be read; 9 a write failed; 12 an option does not name inputs or outputs; 15 it is not known of some
-polynomial, and the others agree; 69 nfq is missing.
+not; 2 the words are not of this form; 3 the description or a polynomial is refused; 4 rows contradict each other; 5 to
+7 nfq has no answer for relations, or there are too many monomials; 8 a file cannot be read; 9 a write failed; 12 an
+option does not name inputs or outputs; 14 the time for relations was up; 15 it is not known of some polynomial, and the
+others agree; 69 nfq is missing.
 """
 
-import sys
-
 from .. import descriptions, judging, queries, relations, solving, transcripts
-from . import command, say
-from .judge import UNKNOWN, WRONG
-from .words import Parser
+from . import command, say, words
+from .progress import Progress
+from .verdicts import print_verdicts
 
 NAME = "agrees"
 
 
-def read_words(words):
-    parser = Parser(NAME)
-    parser.add_argument("file")
-    parser.add_argument("--relations", type=lambda text: degree(parser, text))
-    parser.add_argument("--outputs")
-    parser.add_argument("--order")
-    options = parser.read(words, __doc__)
-    if options is not None and options.file == "-" and options.relations is None:
-        parser.error("the polynomials are read from standard input, so the file has to have a name")
+def read_words(line):
+    parser = words.Parser(NAME)
+    parser.add_number("--relations", 0, 99)
+    parser.add_number("--seconds", *solving.LIMITS["seconds"])
+    parser.add_texts("--order", "--outputs")
+    options = parser.read(line, __doc__, ["file"])
+    if options is not None and options.relations is None:
+        parser.refuse_standard_input(options, "polynomials are read")
+        if options.seconds is not None:
+            parser.error("--seconds goes with --relations")
     return options
 
 
-def degree(parser, text):
-    if not text.isdecimal() or len(text) > 2:
-        parser.error("--relations takes a degree")
-    return int(text)
+def refuse_elements(claims):
+    """Refuses claims that have elements, or no polynomial."""
+    lines = [line for claim in claims for line in claim.element_lines]
+    if lines:
+        raise transcripts.TranscriptError(min(lines), "a line NAME = POLYNOMIAL is wanted")
+    if all(claim.polynomial is None for claim in claims):
+        raise transcripts.TranscriptError(None, "no polynomial is given")
 
 
 def agreeing(judge, description, claims):
     """The verdict on each polynomial, with the name of its output."""
     for output, (name, claim) in enumerate(zip(description.shown_output_names, claims)):
-        if claim.elements:
-            raise transcripts.TranscriptError(claim.element_lines[0], "a line NAME = POLYNOMIAL is wanted")
         if claim.polynomial is not None:
             try:
                 verdict = judge.agrees(output, claim.polynomial)
             except solving.Unsolved as error:
                 verdict = judging.Verdict(None, str(error))
-            yield name, verdict
+            yield name, verdict, None
 
 
-def print_relations(description, order, most):
-    found = [relations.relations(description, output, most, order) for output in range(description.outputs)]
+def print_relations(description, order, options):
+    """Prints the relations of all outputs, when all are found."""
+    progress = Progress(NAME, options.file)
+    limits = options.relations, order, options.seconds, progress
+    try:
+        found = [relations.relations(description, output, *limits) for output in range(description.outputs)]
+    finally:
+        progress.end()
     for name, part in zip(description.shown_output_names, found):
         if description.outputs > 1:
             print(f"# {name}")
+        if not part:
+            say(NAME, f"output {name} has no relation of at most degree {options.relations}")
         for relation in part:
             print(f"0 = {relation}")
 
 
 @command(NAME)
-def main(words):
-    options = read_words(words)
+def main(line):
+    options = read_words(line)
     if options is None:
         return 0
     description = descriptions.read(options.file)
     try:
-        named = description.shown_input_names, description.input_names
-        order = None if options.order is None else solving.order_of(options.order.split(","), *named)
-        if options.outputs is not None:
-            outputs = description.shown_output_names, description.output_names
-            places = solving.places_of(options.outputs.split(","), *outputs, "--outputs")
-            description = solving.chosen(description, places)
+        order = words.order(description, options.order)
+        description = words.chosen(description, options.outputs)
         judge = judging.Judge(description, order)
         judge.refuse_contradictions()
         if options.relations is not None:
-            print_relations(description, order, options.relations)
+            print_relations(description, order, options)
             return 0
-        text = descriptions.read_bytes("-").decode("utf-8", "replace")
-        claims = transcripts.parse(text, description, queries.Names(description, order))
-        verdicts = []
-        for name, verdict in agreeing(judge, description, claims):
-            told = "yes" if verdict.holds else f"{'not known' if verdict.holds is None else 'no'}, {verdict.why}"
-            print(f"{name}: {told}")
-            sys.stdout.flush()
-            verdicts.append(verdict.holds)
-        if not verdicts:
-            raise transcripts.TranscriptError(None, "no polynomial is given")
-    except (transcripts.TranscriptError, solving.Unsolved, relations.TooMany) as error:
+        claims = transcripts.parse(words.standard_input(), description, queries.Names(description, order))
+        refuse_elements(claims)
+        return print_verdicts(agreeing(judge, description, claims))
+    except (transcripts.TranscriptError, solving.Unsolved) as error:
         say(NAME, str(error))
         return error.status
-    if False in verdicts:
-        return WRONG
-    return UNKNOWN if None in verdicts else 0

@@ -37,9 +37,8 @@ is missing.
 """
 
 from .. import descriptions, ideals, judging, queries, solving
-from ..answers import Monomials
-from . import command, say
-from .words import Parser
+from ..polynomials import Monomials
+from . import command, say, words
 
 NAME = "ask"
 MODES = ("reduce", "union", "meet")
@@ -53,37 +52,36 @@ class Query:
         self.output, self.polynomial = output, polynomial
 
 
-def read_words(words):
-    parser = Parser(NAME)
-    parser.add_argument("words", nargs="+")
+def read_words(line):
+    parser = words.Parser(NAME)
     parser.add_argument("--holds", action="store_true")
-    parser.add_argument("--outputs")
-    parser.add_argument("--order")
-    options = parser.read(words, __doc__)
+    parser.add_texts("--order", "--outputs")
+    options = parser.read(line, __doc__)
     if options is None:
         return None
-    options.mode = options.words.pop(0) if options.words[0] in MODES else "reduce"
-    if not options.words:
+    options.mode = options.words.pop(0) if options.words and options.words[0] in MODES else "reduce"
+    given = options.words + options.behind
+    if not given:
         parser.error("no file is named")
-    options.file = options.words.pop(0)
-    if options.mode == "reduce" and not options.words:
+    options.file, *options.queries = given
+    if options.mode == "reduce" and not options.queries:
         parser.error("no query is given; - reads them from standard input")
-    if options.mode != "reduce" and options.words:
+    if options.mode != "reduce" and options.queries:
         parser.error(f"{options.mode} takes no queries")
     if options.mode == "reduce" and options.outputs is not None:
         parser.error("--outputs goes with union and meet")
     if options.mode != "reduce" and options.holds:
         parser.error("--holds goes with queries")
-    if options.file == "-" and "-" in options.words:
+    if [options.file, *options.queries].count("-") > 1:
         parser.error("standard input can be read once")
     return options
 
 
-def given_queries(words):
+def given_queries(given):
     """The texts of the queries, each with how a message calls it."""
-    for number, word in enumerate(words, 1):
+    for number, word in enumerate(given, 1):
         if word == "-":
-            lines = descriptions.read_bytes("-").decode("utf-8", "replace").splitlines()
+            lines = words.standard_input().splitlines()
             yield from ((f"query line {line}", text) for line, text in enumerate(lines, 1) if text.strip())
         else:
             yield f"query {number}", word
@@ -117,7 +115,7 @@ def answer_queries(description, order, options):
     """Prints the answers to queries, and gives the status."""
     names = queries.Names(description, order)
     asked = []
-    for called, text in given_queries(options.words):
+    for called, text in given_queries(options.queries):
         try:
             asked.append(read_query(text, description, names))
         except queries.QueryError as error:
@@ -137,9 +135,7 @@ def answer_queries(description, order, options):
 
 def print_basis(description, order, options):
     """Prints the basis of mode union or meet."""
-    if options.outputs is not None:
-        named = description.shown_output_names, description.output_names
-        description = solving.chosen(description, solving.places_of(options.outputs.split(","), *named, "--outputs"))
+    description = words.chosen(description, options.outputs)
     if description.outputs != 2:
         raise solving.BadOrder(
             f"{options.mode} is of two outputs, and there are {description.outputs}",
@@ -151,15 +147,13 @@ def print_basis(description, order, options):
 
 
 @command(NAME)
-def main(words):
-    options = read_words(words)
+def main(line):
+    options = read_words(line)
     if options is None:
         return 0
     description = descriptions.read(options.file)
     try:
-        order = list(range(description.inputs))
-        if options.order is not None:
-            order = solving.order_of(options.order.split(","), description.shown_input_names, description.input_names)
+        order = words.order(description, options.order) or list(range(description.inputs))
         if options.mode == "reduce":
             return answer_queries(description, order, options)
         print_basis(description, order, options)

@@ -31,6 +31,7 @@ a write failed.
 import sys
 
 from .. import descriptions, tables
+from ..descriptions import called
 from . import command, say
 from .words import Parser
 
@@ -86,9 +87,8 @@ FORMS = {
 }
 
 
-def called(path):
-    """How messages call a file."""
-    return "standard input" if path == "-" else descriptions.shown_path(path)
+# The options that go with some forms.
+FORMS_OF = {"bits": ("numbers", "graph"), "first_lowest": ("hex",)}
 
 
 def text_of(data):
@@ -97,22 +97,19 @@ def text_of(data):
 
 def read_words(words):
     parser = Parser(NAME)
-    parser.add_argument("form")
-    parser.add_argument("file")
-    parser.add_argument("--bits", type=lambda text: number_of_bits(parser, text))
+    parser.add_number("--bits", 1, descriptions.MOST_OF_ANY)
     parser.add_argument("--first-lowest", action="store_true")
-    for option in ("--inputs", "--outputs"):
-        parser.add_argument(option, type=lambda text: text.split(","))
-    options = parser.read(words, __doc__)
-    if options is not None and options.form not in FORMS:
+    parser.add_texts("--inputs", "--outputs")
+    options = parser.read(words, __doc__, ["form", "file"])
+    if options is None:
+        return None
+    if options.form not in FORMS:
         parser.error(f"the forms are {', '.join(FORMS)}")
+    for option, forms in FORMS_OF.items():
+        if getattr(options, option) and options.form not in forms:
+            parser.error(f"--{option.replace('_', '-')} goes with {' and '.join(forms)}")
+    options.inputs, options.outputs = (part and part.split(",") for part in (options.inputs, options.outputs))
     return options
-
-
-def number_of_bits(parser, text):
-    if not text.isdecimal() or len(text) > 4 or int(text) < 1:
-        parser.error("--bits takes a number of outputs")
-    return int(text)
 
 
 @command(NAME)

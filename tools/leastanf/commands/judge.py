@@ -31,91 +31,62 @@ other; 8 a file cannot be read; 9 a write failed; 12 an option does not name inp
 and nothing was found wrong; 69 a program is missing.
 """
 
-import sys
-
 from .. import descriptions, judging, queries, solving, transcripts
-from . import command, say
-from .words import Parser
+from . import command, say, words
+from .verdicts import print_verdicts
 
 NAME = "judge"
-WRONG, UNKNOWN = 1, 15
 
 
-def read_words(words):
-    parser = Parser(NAME)
-    parser.add_argument("file")
+def read_words(line):
+    parser = words.Parser(NAME)
     parser.add_argument("--basis", action="store_true")
-    parser.add_argument("--order")
-    parser.add_argument("--polarity")
-    options = parser.read(words, __doc__)
-    if options is not None and options.file == "-":
-        parser.error("the answer is read from standard input, so the file has to have a name")
+    parser.add_texts("--order", "--polarity")
+    options = parser.read(line, __doc__, ["file"])
+    if options is not None:
+        parser.refuse_standard_input(options, "answer is read")
     return options
 
 
-def order_and_flips(description, options):
-    """The places of the inputs in the order that is asked for, or None, and of those that are complemented."""
-    named = description.shown_input_names, description.input_names
-    order = None if options.order is None else solving.order_of(options.order.split(","), *named)
-    if options.polarity is None:
-        return order, []
-    if options.polarity == "all":
-        return order, range(description.inputs)
-    return order, solving.places_of(options.polarity.split(","), *named, "--polarity")
-
-
 def judged_outputs(judge, claims, with_bases):
-    """The verdict on each output."""
-    for output, claim in enumerate(claims):
+    """The verdict on each output, with the line of the answer where it is wrong."""
+    for output, (name, claim) in enumerate(claims):
         if with_bases:
-            yield claim, judge.basis(output, claim.polynomial, claim.elements)
+            verdict = judge.basis(output, claim.polynomial, claim.elements)
         else:
-            yield claim, judge.polynomial(output, claim.polynomial)
-
-
-def told(claim, verdict):
-    """A verdict in words."""
-    if verdict.holds is None:
-        return f"not known, {verdict.why}"
-    if verdict.holds:
-        return "yes"
-    line = claim.line if verdict.element is None else claim.element_lines[verdict.element]
-    return f"no, {verdict.why} (answer line {line})" if line else f"no, {verdict.why}"
+            verdict = judge.polynomial(output, claim.polynomial)
+        yield name, verdict, claim.line if verdict.element is None else claim.element_lines[verdict.element]
 
 
 def read_claims(description, options, names):
     """What the answer on standard input says of each output, and whether bases are judged."""
-    claims = transcripts.parse(descriptions.read_bytes("-").decode("utf-8", "replace"), description, names)
+    text = words.standard_input()
+    claims = transcripts.parse(text, description, names)
+    end = len(text.splitlines()) + 1
     with_bases = options.basis or any(
         claim.elements or claim.has_list and claim.polynomial is None for claim in claims
     )
     for name, claim in zip(description.shown_output_names, claims):
         if claim.polynomial is None and not claim.has_list:
-            raise transcripts.TranscriptError(None, f"the answer has nothing of output {name}")
+            raise transcripts.TranscriptError(end, f"it ends, and has nothing of output {name}")
         if claim.polynomial is None and not with_bases:
-            raise transcripts.TranscriptError(None, f"the answer has no polynomial of output {name}")
+            raise transcripts.TranscriptError(end, f"it ends, and has no polynomial of output {name}")
     return claims, with_bases
 
 
 @command(NAME)
-def main(words):
-    options = read_words(words)
+def main(line):
+    options = read_words(line)
     if options is None:
         return 0
     description = descriptions.read(options.file)
     try:
-        order, flips = order_and_flips(description, options)
+        order, flips = words.order(description, options.order), words.flips(description, options.polarity)
         claims, with_bases = read_claims(description, options, queries.Names(description, order, flips))
         judge = judging.Judge(description, order, flips)
         judge.refuse_contradictions()
-        verdicts = []
-        for name, (claim, verdict) in zip(description.shown_output_names, judged_outputs(judge, claims, with_bases)):
-            print(f"{name}: {told(claim, verdict)}")
-            sys.stdout.flush()
-            verdicts.append(verdict.holds)
+        named = list(zip(description.shown_output_names, claims))
+        return print_verdicts(judged_outputs(judge, named, with_bases))
     except (transcripts.TranscriptError, solving.Unsolved) as error:
         say(NAME, str(error))
         return error.status
-    if False in verdicts:
-        return WRONG
-    return UNKNOWN if None in verdicts else 0

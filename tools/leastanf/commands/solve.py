@@ -1,7 +1,7 @@
 """Solves PLA files as other tools write them, by the program interp.
 
-usage: solve [anf|basis] [OPTIONS] FILE.pla..      a FILE of - is standard input
-       solve --why [WORD..]                        what a cause, a status, a remedy or a message means
+usage: solve [anf|basis] [OPTIONS] [--] FILE.pla..      a FILE of - is standard input
+       solve --why [WORD..]                             what a cause, a status, a remedy or a message means
 
 A file that the program takes is answered with the program's text. The forms that other tools write and the program
 refuses are brought into shape: rows and lists of names over several lines, a comment right behind a symbol, a byte
@@ -48,7 +48,6 @@ The environment variable INTERP names the program, if it is not the one beside t
 lists them.
 """
 
-import argparse
 import pathlib
 import re
 import shlex
@@ -58,8 +57,8 @@ from .. import choosing, descriptions, polarity, remedies, solving
 from ..descriptions import CAUSES, FORMS
 from ..formats import FORMATS
 from ..solving import REMEDIES, Unsolved
-from . import WORDS, command, say
-from .words import Parser
+from . import WORDS, command, say, words
+from .progress import Progress
 
 NAME = "solve"
 STATUSES = {
@@ -68,13 +67,18 @@ STATUSES = {
     3: "the description is refused: a line and the cause are named",
     8: "a file cannot be read",
     9: "the answer, or a file of it, cannot be written",
-    10: "there are more bytes than the program takes",
+    10: f"the file has more than {descriptions.MOST_BYTES} bytes, and interp takes no more: solve takes longer files, "
+    "as far as what they say fits",
     69: "there is no program interp: put it on PATH, or name it by the environment variable INTERP",
     129: "the terminal was closed",
     130: "the run was interrupted",
     141: "the reader of the answer went away",
     143: "the run was ended by another program",
-    **{kind.status: f"{kind.__doc__} {kind.remedy}" for kind in solving.CLASSES if kind.status != 3},
+    **{
+        kind.status: f"{kind.__doc__[0].lower()}{kind.__doc__[1:].rstrip('.')}: {kind.remedy}"
+        for kind in solving.CLASSES
+        if kind.status != solving.Refused.status
+    },
 }
 # Of messages of the program, a part and what --why explains.
 MESSAGES = (
@@ -94,47 +98,16 @@ MESSAGES = (
 NUMBERS = {"nodes": "nodes", "terms": "terms", "workers": "workers", "seconds": "seconds", "jobs": "processors"}
 
 
-class Once(argparse.Action):
-    """An option that may stand once."""
-
-    def __call__(self, parser, options, value, option=None):
-        if getattr(options, self.dest) is not None:
-            parser.error(f"{option} stands twice")
-        setattr(options, self.dest, value)
-
-
-class Progress:
-    """A line on a terminal that is rewritten; nothing elsewhere."""
-
-    def __init__(self, path):
-        self.path = path
-        self.shows = sys.stderr.isatty()
-
-    def __call__(self, text):
-        self.write(f"{NAME}: {self.path}: {text}")
-
-    def end(self):
-        self.write("")
-
-    def write(self, text):
-        try:
-            if self.shows:
-                sys.stderr.write(f"\r\033[K{text}")
-                sys.stderr.flush()
-        except OSError:
-            self.shows = False
-
-
 @command(NAME)
-def main(words):
-    if words[:1] == ["--why"]:
-        return explain(words[1:])
-    options = read_words(words)
+def main(line):
+    if line[:1] == ["--why"]:
+        return explain(line[1:])
+    options = read_words(line)
     if options is None:
         return 0
     results = []
     for path in options.files:
-        progress = Progress("standard input" if path == "-" else descriptions.shown_path(path))
+        progress = Progress(NAME, path)
         try:
             results.append(solve_file(path, options, progress))
         except descriptions.DescriptionError as error:
@@ -148,25 +121,24 @@ def main(words):
     return next((status for status in reversed(results) if status), 0)
 
 
-def read_words(words):
-    """The options of a command line, or None for a request for help. Behind -- stand options of interp."""
-    at = words.index("--") if "--" in words else len(words)
-    words = words[at + 1 :] + words[:at]
-    parser = Parser(NAME)
-    parser.add_argument("words", nargs="*")
-    for option in ("--order", "--polarity", "--outputs", "--as", "-o"):
-        name = {"--as": "language", "-o": "folder"}.get(option, option[2:])
-        parser.add_argument(option, dest=name, action=Once)
+def read_words(line):
+    """The options of a command line, or None for a request for help."""
+    parser = words.Parser(NAME)
+    parser.add_texts("--order", "--polarity", "--outputs")
+    parser.add_argument("--as", dest="language", action=words.Once)
+    parser.add_argument("-o", dest="folder", action=words.Once)
     parser.add_argument("--text", action="store_true")
-    for option in NUMBERS:
-        parser.add_argument(f"--{option}", action=Once, type=lambda text, option=option: number(parser, option, text))
-    options = parser.read(words, __doc__)
+    for option, limit in NUMBERS.items():
+        parser.add_number(f"--{option}", *solving.LIMITS[limit])
+    options = parser.read(line, __doc__)
     if options is None:
         return None
     options.mode = options.words.pop(0) if options.words[:1] in (["anf"], ["basis"]) else "anf"
-    options.files = options.words
+    options.files = options.words + options.behind
     if not options.files:
         parser.error("no file is named")
+    if options.text and ({options.order, options.language} != {None} or options.polarity in ("auto", "each")):
+        parser.error("--text goes without --order and --as, and with --polarity NAMES or all alone")
     if options.files.count("-") > 1:
         parser.error("standard input can be read once")
     if options.language is not None and options.language not in FORMATS:
@@ -176,14 +148,6 @@ def read_words(words):
         if len(set(targets)) < len(targets):
             parser.error("two of the files would have their answer in one file")
     return options
-
-
-def number(parser, option, text):
-    least, most = solving.LIMITS[NUMBERS[option]]
-    digits = text[1:] if text.startswith("+") else text
-    if not re.fullmatch("[0-9]{1,20}", digits) or not least <= int(digits) <= most:
-        parser.error(f"--{option} takes a number from {least} to {most}")
-    return int(digits)
 
 
 def target(path, options):
@@ -196,23 +160,17 @@ def solve_file(path, options, progress):
     """Solves a file, and gives the status."""
     description = descriptions.read(path)
     tell_of_file(description)
-    part = description
-    if options.outputs is not None:
-        named_outputs = (description.shown_output_names, description.output_names)
-        part = solving.chosen(description, solving.places_of(options.outputs.split(","), *named_outputs, "--outputs"))
+    part = words.chosen(description, options.outputs)
     settings = solving.Settings(
         options.mode, None, options.nodes, options.terms, options.workers, options.seconds, options.jobs
     )
     wanted_order, wanted_polarity = options.order, options.polarity
-    named_inputs = (description.shown_input_names, description.input_names)
     if wanted_order not in (None, "auto", "each"):
-        settings.order = solving.order_of(wanted_order.split(","), *named_inputs)
-        wanted_order = None
-    if wanted_polarity not in (None, "auto", "each", "all"):
-        wanted_polarity = solving.places_of(wanted_polarity.split(","), *named_inputs, "--polarity")
+        settings.order, wanted_order = words.order(description, wanted_order), None
+    if wanted_polarity not in (None, "auto", "each"):
+        wanted_polarity = words.flips(description, wanted_polarity)
     if options.text:
-        flips = range(part.inputs) if wanted_polarity == "all" else wanted_polarity or []
-        write(path, text_of(polarity.flipped(part, flips)), options)
+        write(path, text_of(polarity.flipped(part, wanted_polarity or [])), options)
         return 0
     if wanted_order or wanted_polarity is not None:
         solution, choices = choosing.solve(part, settings, wanted_order, wanted_polarity, progress)
@@ -339,16 +297,16 @@ def write(path, text, options):
     sys.stdout.flush()
 
 
-def explain(words):
+def explain(named):
     """Explains causes, statuses, forms, remedies and messages: those that are named, or all."""
-    if not words:
+    if not named:
         for title, table in (("causes", CAUSES), ("statuses", STATUSES), ("forms", FORMS), ("remedies", REMEDIES)):
             print(f"{title}:")
             for word, text in sorted(table.items(), key=lambda entry: entry[0] if isinstance(entry[0], int) else 0):
                 print(f"  {word}: {text}")
         return 0
     status = 0
-    for word in words:
+    for word in named:
         text = meaning(word)
         if text is None:
             say(NAME, f"'{word}' is no cause, status, form, remedy or message; solve --why lists them")

@@ -1,5 +1,6 @@
 """Names in the languages of other programs: kept where the language takes them, and else made over, no two the same."""
 
+import keyword
 import re
 
 # The words that Verilog and SystemVerilog keep for themselves.
@@ -61,14 +62,15 @@ def word(name):
     return mended if mended[:1].isalpha() else f"v{mended}"
 
 
-def mended(keeps):
-    """What makes a word of a name that a language does not take, by what it takes."""
+def is_python(name):
+    """Whether Python takes a name."""
+    return is_word(name) and not keyword.iskeyword(name)
 
-    def mend(name):
-        made = word(name)
-        return made if keeps(made) else f"{made}_"
 
-    return mend
+def mend_for_python(name):
+    """A name that Python takes, of one that it does not take."""
+    made = word(name)
+    return made if is_python(made) else f"{made}_"
 
 
 def distinct(names, keeps, mend, taken=()):

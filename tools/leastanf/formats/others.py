@@ -1,10 +1,10 @@
 """Answers for solvers, programs, documents and pictures: CNF, Python, JSON, LaTeX and DOT."""
 
 import json
-import keyword
 import re
 
 from ..factors import input_of, is_complement
+from ..polynomials import Monomials
 from . import naming
 from .diagrams import Diagram
 from .functions import functions
@@ -93,7 +93,7 @@ class Clauses:
 def python(answer):
     """A function of the inputs. Its values are whole numbers whose bits are points: 0 and 1 are one point."""
     named = functions(answer)
-    names = naming.distinct(answer.inputs, is_python, naming.mended(is_python), {"one"})
+    names = naming.distinct(answer.inputs, naming.is_python, naming.mend_for_python, {"one"})
     texts = dict(zip(answer.inputs, names))
     texts = {
         factor: f"(one ^ {texts[input_of(factor)]})" if is_complement(factor) else texts[factor]
@@ -114,10 +114,6 @@ def python(answer):
     for (name, _), text in zip(named, roots):
         yield f"        {name!r}: {text},"
     yield "    }"
-
-
-def is_python(name):
-    return naming.is_word(name) and not keyword.iskeyword(name)
 
 
 def as_json(answer):
@@ -150,17 +146,17 @@ def json_monomials(polynomial):
 
 def latex(answer):
     """Lines of an environment align, one for each line of the answer."""
-    texts = {}
-    for factor in answer.factors():
-        text = latex_name(input_of(factor))
-        texts[factor] = f"\\overline{{{text}}}" if is_complement(factor) else text
+    factors = answer.factors()
+    names = [latex_name(input_of(factor)) for factor in factors]
+    pairs = zip(factors, names)
+    write = Monomials(f"\\overline{{{name}}}" if is_complement(factor) else name for factor, name in pairs)
     lines = []
     for output in answer:
-        lines += latex_lines(latex_name(output.name), output.polynomial, texts)
+        lines += latex_lines(latex_name(output.name), write.text(output.polynomial.masks(factors)))
         for element in output.basis:
-            lines += latex_lines("0", element, texts)
+            lines += latex_lines("0", write.text(element.masks(factors)))
     for element in answer.ideal or ():
-        lines += latex_lines("0", element, texts)
+        lines += latex_lines("0", write.text(element.masks(factors)))
     yield r"\begin{align*}"
     yield " \\\\\n".join(lines)
     yield r"\end{align*}"
@@ -177,9 +173,9 @@ def latex_name(name):
     return "\\mathit{" + "".join(special.get(c, "\\" + c if c in "#$%&_{}" else c) for c in name) + "}"
 
 
-def latex_lines(left, polynomial, texts):
-    """The lines of an equation, with a few terms on each."""
-    terms = [r"\,".join([texts[factor] for factor in monomial]) or "1" for monomial in polynomial.monomials] or ["0"]
+def latex_lines(left, text):
+    """The lines of an equation with a polynomial's text, with a few terms on each."""
+    terms = text.replace("*", r"\,").split(" + ")
     parts = [" + ".join(terms[start : start + TERMS_ON_A_LINE]) for start in range(0, len(terms), TERMS_ON_A_LINE)]
     return [f"{left} &= {parts[0]}", *(f"&\\quad + {part}" for part in parts[1:])]
 

@@ -4,10 +4,10 @@ In Singular, Macaulay2 and Sage output K's polynomial is fK and its basis is the
 output is I1. The ring has the order of the answer.
 """
 
-import keyword
 import re
 
 from ..factors import input_of, is_complement
+from ..polynomials import Monomials
 from . import naming
 from .steps import Language, Steps
 
@@ -15,57 +15,88 @@ from .steps import Language, Steps
 MOST_TERMS = 1000
 
 
-def scripted(letters, outputs):
-    """The names that a script gives to what it makes: of each letter one for each output, or the first for an ideal."""
-    return {f"{letter}{number}" for letter in letters for number in range(1, max(1, outputs) + 1)}
+class System:
+    """How a system of computer algebra takes an answer.
 
+    mark         begins a comment
+    language     its expressions
+    taken        the names that a script makes besides those of outputs
+    step         the line that names a node
+    polynomial   the line of an output's polynomial, by its number
+    """
 
-def singular_names(inputs, outputs):
-    """The names of inputs in Singular, where the answer has so many outputs."""
-    taken = {"r", "F"} | scripted("fI", outputs)
-    return naming.distinct(inputs, is_singular, naming.mended(is_singular), taken)
+    mark, language, taken, step, polynomial = "", None, frozenset("R"), "{} = {}", "f{} = {}"
 
+    def names(self, inputs, outputs):
+        """The names of inputs, where the answer has so many outputs."""
+        made = {f"{letter}{number}" for letter in "fI" for number in range(1, max(1, outputs) + 1)}
+        return naming.distinct(inputs, self.keeps, self.mend, self.taken | made)
 
-def macaulay2_names(inputs, outputs):
-    """The names of inputs in Macaulay2."""
-    return naming.distinct(inputs, is_macaulay2, mend_for_macaulay2, {"R"} | scripted("fI", outputs))
+    def keeps(self, name):
+        """Whether it takes a name."""
+        raise NotImplementedError
 
+    def mend(self, name):
+        """A name that it takes, of one that it does not take."""
+        made = naming.word(name)
+        return made if self.keeps(made) else f"{made}_"
 
-def sage_names(inputs, outputs):
-    """The names of inputs in Sage."""
-    return naming.distinct(inputs, is_sage, naming.mended(is_sage), {"R"} | scripted("fI", outputs))
+    def ring(self, names):
+        """The lines that make the ring."""
+        raise NotImplementedError
 
+    def ideal(self, number, texts):
+        """The line of an ideal or a list by the texts of its elements."""
+        raise NotImplementedError
 
-# The names of inputs in each system whose answers can be read again.
-NAMES = (singular_names, macaulay2_names, sage_names)
+    def write(self, answer):
+        """The lines of an answer."""
+        names = self.names(answer.inputs, len(answer.outputs or ()))
+        yield from naming.comments(self.mark, answer.inputs, names)
+        yield from self.ring(names)
+        writer = Writer(self, answer, names)
+        for number, output in enumerate(answer, 1):
+            yield f"{self.mark} {output.name}"
+            text = writer.polynomial(output.polynomial)
+            yield from writer.take()
+            yield self.polynomial.format(number, text)
+            yield from writer.ideal(number, output.basis)
+        if answer.ideal is not None:
+            yield from writer.ideal(1, answer.ideal)
 
 
 class Writer:
-    """Writes polynomials for a language by the texts of factors; `step` makes the line that names a node."""
+    """Writes polynomials for a system."""
 
-    def __init__(self, answer, names, language, step):
+    def __init__(self, system, answer, names):
+        self.system = system
         self.texts = {}
         texts = dict(zip(answer.inputs, names))
         for factor in answer.factors():
             self.texts[factor] = f"({texts[input_of(factor)]}+1)" if is_complement(factor) else texts[factor]
-        self.language = language
-        self.step = step
         self.letter = naming.prefix("n", names)
         self.lines = []
         self.named = 0
 
     def polynomial(self, polynomial):
         """The expression of a polynomial. Lines that have to stand before it are added to those of the writer."""
-        zero, one = self.language.constants
+        language = self.system.language
+        zero, one = language.constants
         if polynomial.terms <= MOST_TERMS:
-            text, times = self.texts.__getitem__, self.language.times
-            return self.language.plus.join([times.join(map(text, m)) or one for m in polynomial.monomials]) or zero
-        steps = Steps(self.language, self.texts, self.letter, self.named)
+            text, times = self.texts.__getitem__, language.times
+            return language.plus.join([times.join(map(text, m)) or one for m in polynomial.monomials]) or zero
+        steps = Steps(language, self.texts, self.letter, self.named)
         steps.add(polynomial)
         nodes, roots = steps.write()
         self.named += len(nodes)
-        self.lines += [self.step(name, text) for name, text in nodes]
+        self.lines += [self.system.step.format(name, text) for name, text in nodes]
         return roots[0]
+
+    def ideal(self, number, elements):
+        """The lines of an ideal or a list."""
+        texts = [self.polynomial(element) for element in elements]
+        yield from self.take()
+        yield self.system.ideal(number, texts)
 
     def take(self):
         """The lines that were added since they were last taken."""
@@ -73,89 +104,64 @@ class Writer:
         return lines
 
 
-def singular(answer):
-    names = singular_names(answer.inputs, len(answer.outputs or ()))
-    writer = Writer(answer, names, Language(" + ", "*"), lambda name, text: f"poly {name} = {text};")
-    yield from naming.comments("//", answer.inputs, names)
-    yield f"ring r = 2, ({', '.join(names)}), lp;"
-    yield "short = 0;"
-    yield f"ideal F = {', '.join(f'{name}^2+{name}' for name in names)};"
-    for number, output in enumerate(answer, 1):
-        yield f"// {output.name}"
-        text = writer.polynomial(output.polynomial)
-        yield from writer.take()
-        yield f"poly f{number} = {text};"
-        yield from singular_ideal(writer, number, output.basis)
-    if answer.ideal is not None:
-        yield from singular_ideal(writer, 1, answer.ideal)
+class Singular(System):
+    """Polynomials and ideals; the ideal F has the polynomials of the field."""
+
+    mark, language, taken = "//", Language(" + ", "*"), frozenset("rF")
+    step, polynomial = "poly {} = {};", "poly f{} = {};"
+
+    def keeps(self, name):
+        return naming.is_word(name) and name[0] != "_" and name not in naming.SINGULAR
+
+    def ring(self, names):
+        yield f"ring r = 2, ({', '.join(names)}), lp;"
+        yield "short = 0;"
+        yield f"ideal F = {', '.join(f'{name}^2+{name}' for name in names)};"
+
+    def ideal(self, number, texts):
+        return f"ideal I{number} = {', '.join(texts) or '0'};"
 
 
-def singular_ideal(writer, number, elements):
-    texts = [writer.polynomial(element) for element in elements]
-    yield from writer.take()
-    yield f"ideal I{number} = {', '.join(texts) or '0'};"
+class Macaulay2(System):
+    """Polynomials and ideals, which have the polynomials of the field too."""
+
+    mark, language = "--", Language(" + ", "*", ("0_R", "1_R"))
+    step, polynomial = "{} = {};", "f{} = {};"
+
+    def keeps(self, name):
+        return bool(re.fullmatch("[A-Za-z]|[A-Za-z]+[0-9][A-Za-z0-9]*", name)) and name not in naming.MACAULAY2
+
+    def mend(self, name):
+        """The name with ' for each character that is not taken, and behind a word that the system may have itself."""
+        made = re.sub("[^A-Za-z0-9]", "'", name)
+        made = made if made[:1].isalpha() else f"v{made}"
+        return made if "'" in made else f"{made}'"
+
+    def ring(self, names):
+        yield f"R = ZZ/2[{', '.join(names)}, MonomialOrder => Lex];"
+
+    def ideal(self, number, texts):
+        return f"I{number} = ideal({', '.join(texts) or '0_R'}) + ideal apply(gens R, v -> v^2 + v);"
 
 
-def is_singular(name):
-    return naming.is_word(name) and name[0] != "_" and name not in naming.SINGULAR
+class Sage(System):
+    """Polynomials and lists of them."""
+
+    mark, language = "#", Language(" + ", "*", ("R(0)", "R(1)"))
+
+    def keeps(self, name):
+        return naming.is_python(name) and name[0] != "_"
+
+    def ring(self, names):
+        yield f"R = BooleanPolynomialRing(names={names!r}, order='lex')"
+        yield f"{', '.join(names)}, = R.gens()"
+
+    def ideal(self, number, texts):
+        return f"I{number} = [{', '.join(texts)}]"
 
 
-def macaulay2(answer):
-    names = macaulay2_names(answer.inputs, len(answer.outputs or ()))
-    writer = Writer(answer, names, Language(" + ", "*", ("0_R", "1_R")), lambda name, text: f"{name} = {text};")
-    yield from naming.comments("--", answer.inputs, names)
-    yield f"R = ZZ/2[{', '.join(names)}, MonomialOrder => Lex];"
-    for number, output in enumerate(answer, 1):
-        yield f"-- {output.name}"
-        text = writer.polynomial(output.polynomial)
-        yield from writer.take()
-        yield f"f{number} = {text};"
-        yield from macaulay2_ideal(writer, number, output.basis)
-    if answer.ideal is not None:
-        yield from macaulay2_ideal(writer, 1, answer.ideal)
-
-
-def macaulay2_ideal(writer, number, elements):
-    texts = [writer.polynomial(element) for element in elements]
-    yield from writer.take()
-    yield f"I{number} = ideal({', '.join(texts) or '0_R'}) + ideal apply(gens R, v -> v^2 + v);"
-
-
-def is_macaulay2(name):
-    return bool(re.fullmatch("[A-Za-z]|[A-Za-z]+[0-9][A-Za-z0-9]*", name)) and name not in naming.MACAULAY2
-
-
-def mend_for_macaulay2(name):
-    """The name with ' for each character that Macaulay2 does not take, and behind a word that it may have itself."""
-    mended = re.sub("[^A-Za-z0-9]", "'", name)
-    mended = mended if mended[:1].isalpha() else f"v{mended}"
-    return mended if "'" in mended else f"{mended}'"
-
-
-def sage(answer):
-    names = sage_names(answer.inputs, len(answer.outputs or ()))
-    writer = Writer(answer, names, Language(" + ", "*", ("R(0)", "R(1)")), lambda name, text: f"{name} = {text}")
-    yield from naming.comments("#", answer.inputs, names)
-    yield f"R = BooleanPolynomialRing(names={names!r}, order='lex')"
-    yield f"{', '.join(names)}, = R.gens()"
-    for number, output in enumerate(answer, 1):
-        yield f"# {output.name}"
-        text = writer.polynomial(output.polynomial)
-        yield from writer.take()
-        yield f"f{number} = {text}"
-        yield from sage_list(writer, number, output.basis)
-    if answer.ideal is not None:
-        yield from sage_list(writer, 1, answer.ideal)
-
-
-def sage_list(writer, number, elements):
-    texts = [writer.polynomial(element) for element in elements]
-    yield from writer.take()
-    yield f"I{number} = [{', '.join(texts)}]"
-
-
-def is_sage(name):
-    return naming.is_word(name) and name[0] != "_" and not keyword.iskeyword(name)
+# The systems, whose names of inputs are read again.
+SINGULAR, MACAULAY2, SAGE = SYSTEMS = (Singular(), Macaulay2(), Sage())
 
 
 def bosphorus(answer):
@@ -170,11 +176,10 @@ def bosphorus(answer):
         yield f"c x{number} is {factor}"
     for factor in complements:
         yield f"{variables[factor]} + {variables[input_of(factor)]} + 1"
-
-    def text(polynomial):
-        return ["*".join([variables[factor] for factor in monomial]) or "1" for monomial in polynomial.monomials]
-
+    used = answer.factors()
+    write = Monomials([variables[factor] for factor in used])
     for number, output in enumerate(answer, len(answer.inputs) + 1):
-        yield " + ".join([f"x{number}", *text(output.polynomial)])
+        text = write.text(output.polynomial.masks(used))
+        yield f"x{number}" if text == "0" else f"x{number} + {text}"
     for element in [*(element for output in answer for element in output.basis), *(answer.ideal or ())]:
-        yield " + ".join(text(element)) or "0"
+        yield write.text(element.masks(used))
