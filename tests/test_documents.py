@@ -1,4 +1,5 @@
-"""The lines of README.md, docs/EXAMPLES.md and docs/USES.md print what stands there, and docs/LIBRARY.md shows callers as they are."""
+"""The lines of README.md, docs/EXAMPLES.md and docs/USES.md print what stands there, and docs/LIBRARY.md shows callers as
+they are."""
 
 import os
 import pathlib
@@ -85,6 +86,11 @@ def missing(text):
     return [name for name in PROGRAMS if name in text and not shutil.which(name)]
 
 
+def made(text):
+    """The files of the folder made that a text names."""
+    return set(re.findall(r"made/[\w./]*\w", text))
+
+
 class Lines(Test):
     """Lines that a shell runs, in a folder with what they need."""
 
@@ -95,6 +101,8 @@ class Lines(Test):
         for name in ("bench", "examples", "tools"):
             (self.folder / name).symlink_to(TOP / name)
         (self.folder / "made").mkdir()
+        # Files that lines would write whose program is not installed.
+        self.unwritten = set()
 
     def shell(self, text):
         """How the lines end. The programs of this repository that they name are linked to those that are tried."""
@@ -119,7 +127,11 @@ class Lines(Test):
         absent = missing(block)
         if absent:
             self.shell("\n".join(line for line in block.splitlines() if not missing(line)))
+            self.unwritten.update(path for path in made(block) if not (self.folder / path).exists())
             raise unittest.SkipTest(f"{absent[0]} is not installed")
+        unwritten = self.unwritten & made(block)
+        if unwritten:
+            raise unittest.SkipTest(f"{min(unwritten)} was not written, as a program is not installed")
         ended = self.shell(block)
         self.assertEqual(ended.status, 0, ended)
         self.assertIn(prints, ended.out, ended)

@@ -426,6 +426,8 @@ class Command(Test):
         with self.case("agrees"):
             ended = run([*AGREES, file], text, env={**os.environ, "NFQ": full}, cwd=self.here)
             self.assertEqual(ended.status, UNKNOWN, ended)
+            self.assertIn("name another order of the inputs by --order", ended.out)
+            self.assertNotIn("--nodes", ended.out)
 
     def test_wrong_programs(self):
         """A program that answers anything is not believed to say yes: what it prints has to be the polynomial."""

@@ -5,6 +5,7 @@ import doctest
 import io
 import os
 import pathlib
+import pty
 import random
 import re
 import shlex
@@ -625,6 +626,17 @@ class Files(Solving):
     def small(self):
         run = subprocess.run([program("interp"), "anf"], input=SMALL.encode(), capture_output=True, check=True)
         return run.stdout.decode().strip().partition(" = ")[2]
+
+    def test_progress(self):
+        """On a terminal it is told how far the run is, and nothing of this stands there in the end."""
+        ours, theirs = pty.openpty()
+        ended = self.solve(XOR, capture_output=False, stdout=subprocess.PIPE, stderr=theirs)
+        os.close(theirs)
+        told = os.read(ours, 10000).decode()
+        os.close(ours)
+        self.assertEqual((ended.returncode, ended.stdout), (0, "f1 = a + b\n"))
+        self.assertIn("\r\x1b[Ksolve: f.pla: the file as it is", told)
+        self.assertTrue(told.endswith("\r\x1b[K"), repr(told))
 
     def test_standard_input(self):
         ended = self.run_words([*SOLVE, "-"], input=XOR.encode())

@@ -14,6 +14,12 @@ from .descriptions import MOST_BYTES
 
 # The output of these descriptions, which have no names, and the sign between terms.
 OUTPUT, PLUS = "f1", " + "
+# What to do where nfq has no answer, whose tables have one size.
+REMEDIES = {
+    solving.TooManyNodes.status: "name another order of the inputs by --order, with those that choose first, or ask for "
+    "shorter polynomials",
+    solving.TooManyTerms.status: "name another order of the inputs by --order, or ask for shorter polynomials",
+}
 # A query of fewer terms is not cut where it needs too many nodes.
 LEAST_CUT = 100
 
@@ -97,7 +103,7 @@ class Queries:
         if run.status == solving.TooManyNodes.status and self.may_be_cut(parts[0]):
             half = len(parts[0]) // 2
             return [self.run([parts[0][:half]])[0] ^ self.run([parts[0][half:]])[0]]
-        raise solving.failure(run)
+        raise solving.failure(run, remedies_by_status=REMEDIES)
 
     def may_be_cut(self, terms):
         """Whether a query has many terms, and not the description alone needs too many nodes."""
@@ -182,7 +188,7 @@ def joint_basis(description, mode, order):
         raise solving.Refused(f"{found.rows()} rows over {len(kept)} inputs are too many for the program")
     run = programs.run("nfq", [mode], found.text(kept))
     if run.status:
-        raise solving.failure(run)
+        raise solving.failure(run, remedies_by_status=REMEDIES)
     names = [f"x{place}" for place in range(1, len(kept) + 1)]
     shown = dict(zip(names, (description.shown_input_names[place] for place in kept)))
     try:

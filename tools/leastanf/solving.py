@@ -259,13 +259,13 @@ def told_names(names):
     return f"write names with commas and no blanks between them, each once, of {','.join(names)}"
 
 
-def failure(run, what=""):
-    """The exception for a run that gave no answer."""
+def failure(run, what="", remedies_by_status=None):
+    """The exception for a run that gave no answer. Of some statuses the remedy may be another one than for solve."""
     message = run.message or (run.errors.strip().splitlines() or ["the program gave no answer"])[-1]
     if run.status is programs.TIMED_OUT:
         message = f"no answer after {run.seconds:.0f} s"
     kind = TimeUp if run.status is programs.TIMED_OUT else BY_STATUS.get(run.status, Failed)
-    return kind(f"{what}{message}")
+    return kind(f"{what}{message}", (remedies_by_status or {}).get(run.status))
 
 
 def fits(description):
