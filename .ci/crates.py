@@ -1,8 +1,8 @@
 #!/usr/bin/env python3
 """Checks that what is said of the crates agrees, and fails with a message for each place where it does not.
 
-The comment above a crate's line in crates.txt is the documentation that its root file begins with, and each crate has a row in
-the tables of docs/ARCHITECTURE.md and docs/PROVED.md.
+The comment above a crate's line in crates.txt is the documentation that its root file begins with, the line names those
+libraries alone that the crate uses, and each crate has a row in the tables of docs/ARCHITECTURE.md and docs/PROVED.md.
 """
 
 import pathlib
@@ -15,13 +15,14 @@ OF_TESTS = re.compile(r"\w+_tests$")
 
 
 def crates():
-    """Each crate of crates.txt, with the comment above its line."""
+    """Each crate of crates.txt, with the comment above its line, and the libraries that the line names."""
     comment = ""
     for line in (TOP / "crates.txt").read_text().splitlines():
         if line.startswith("# "):
             comment = line[2:]
         elif ":" in line:
-            yield line.partition(":")[0], comment
+            name, _, libraries = line.partition(":")
+            yield name, comment, libraries.split()
 
 
 def promise(crate):
@@ -31,10 +32,20 @@ def promise(crate):
     return " ".join(line[3:].strip() for line in lines)
 
 
+def uses(crate, library):
+    """Whether a file of the crate names the library: its code in a path, or what is stated or proved in a module's name."""
+    paths = [path for folder in ("src", "specs", "proofs") for path in (crate / folder).rglob("*") if path.is_file()]
+    named = re.compile(rf"\b{library}::|\bRattle\.{library}\b")
+    return any(named.search(path.read_text()) for path in paths)
+
+
 def faults():
     tables = {name: (TOP / "docs" / name).read_text() for name in ("ARCHITECTURE.md", "PROVED.md")}
-    for name, comment in crates():
+    for name, comment, libraries in crates():
         crate = TOP / "crates" / name
+        for library in libraries:
+            if not uses(crate, library):
+                yield f"crates.txt: {name} does not use {library}"
         if comment != promise(crate):
             yield f"crates.txt: {name} is not said to be what its documentation says: {promise(crate)}"
         for page, table in tables.items():

@@ -284,7 +284,7 @@ module _ {job : Job} {bytes : List ℕ} {d : Description} (file : file_of job by
       pub verdict_due : (v : Verdict) → IsConsistent d.inputs d.outputs d.rows → v ≡ verdict_on d answer → IsDue job bytes (judged v)
       verdict_due v ok first = rw first (behind (verdict answer (rw (le-ltb MOST_INPUTS d.inputs few, read)) ok))
 
--- ==== a run ends as is due for the bytes of its source: those that it told, or else those that it gave
+-- ==== a run ends as is due for some bytes: those that its source told, where it told them
 
 module _ {words : List (List ℕ)} {left old new : Option (List ℕ)} {before after : List WatcherState} {o : Outcome} where
   -- a run that ends so on each source
@@ -386,7 +386,7 @@ module _ (words : List (List ℕ)) (bytes : List ℕ) (old new : Option (List �
         ∙ take_all told.count [] (omega arith)) told.left;
     written = λ other found again so text calm quiet. absurd (quiet refl);
   }
-  said_of (read_fault job asked keeps same) = grind arith
+  said_of (read_fault job asked reads keeps same) = grind arith
   said_of (memory keeps same) = grind arith
 
 pub said : {words : List (List ℕ)} {bytes : List ℕ} {old new : Option (List ℕ)} {before after : List WatcherState} {o : Outcome}

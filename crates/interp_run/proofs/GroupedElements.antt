@@ -1,10 +1,10 @@
 -- The elements of each output beside its polynomial.
 use Rattle.std.specs.List.{All, flat_map, sum_by}
-use Rattle.std.proofs.Common.{◌≡◌, ℕ, ◌+◌, ◌<◌, ◌≤◌, List, [], ◌∷◌, ◌++◌, length, map, reverse, take, drop, get_or, append_assoc, refl, sym}
+use Rattle.std.proofs.Common.{◌≡◌, ℕ, ◌+◌, ◌<◌, ◌≤◌, List, [], ◌∷◌, ◌++◌, length, map, reverse, take, drop, get_or, refl, sym}
 use Rattle.std.proofs.Common.{ap, ap₂, arith, ◌∙◌}
 use Rattle.std.proofs.Math.Seq.{drop-append_seam, take-append_seam}
-use Rattle.std.proofs.lemmas.List.{append-nil, drop-map, drop_all, drop_more, length-append, length-map, length-reverse, map-append}
-use Rattle.std.proofs.lemmas.List.{take-map}
+use Rattle.std.proofs.lemmas.List.{drop-map, drop_all, drop_more, length-append, length-drop, length-map, length-reverse, map-append}
+use Rattle.std.proofs.lemmas.List.{take-map, take_all}
 use Rattle.std.proofs.lemmas.List.Concat.{length-flat_map}
 use Rattle.std.proofs.lemmas.List.Elements.{All-cons, All-drop, All-head, All-nil, All-tail, All-take}
 use Rattle.std.proofs.lemmas.List.Sums.{sum_by-take-drop}
@@ -18,9 +18,8 @@ use Rattle.node_store.specs.declared.store.Handle.{Handle}
 use Rattle.pla_reader.specs.Reading.{Description}
 use Rattle.anf_printer.specs.Text.{Answer}
 use Rattle.run_parts.proofs.FoundTerms.{terms_of-later}
-use Rattle.interp_run.specs.Phases.{AreGrouped, AreHandles, AreLeads, AreOf, KnowsSolved, answer_for, answer_in, element_task, first_tasks}
-use Rattle.interp_run.specs.Phases.{leads_in, points_in, second_tasks, task, task_family, terms_of}
-use Rattle.interp_run.specs.declared.phases.Solved.{Solved}
+use Rattle.interp_run.specs.Phases.{AreHandles, AreLeads, AreOf, KnowsOutput, OutputHandles, answer_for, answer_in, by_output, element_task}
+use Rattle.interp_run.specs.Phases.{first_tasks, leads_in, points_in, second_tasks, task, task_family, terms_of}
 use Rattle.interp_run.specs.declared.tasks.Task.{Task}
 use Rattle.interp_run.specs.declared.tasks.Part.TheVariants.{Leads, Polynomial}
 use Rattle.interp_run.proofs.SolvedAnswers.{sum_by-map}
@@ -41,18 +40,15 @@ module _ (t : State) (d : Description) (mode : Mode) where
   elements_are (o ∷ os) = map-append (task_family d) (elements o) (flat_map elements os)
       ∙ ap₂ (λ (xs ys : List Family). xs ++ ys) (map-map (task_family d) (element_task o) (leads_in d mode o)) (elements_are os)
 
-  all_answered : (os : List ℕ) (ps : List Handle) (lists : List Family) (es : List Handle) (solved : List Solved) (rest : List Family)
-      → AreHandles t ps (map polynomial os ++ rest) → map reverse lists ≡ map (leads_in d mode) os
-      → AreHandles t es (flat_map basis os) → AreGrouped ps lists es solved
-      → All (KnowsSolved t) solved × (map (answer_in t) solved ≡ map (answer_for d mode) os)
-  unfolding AreGrouped
-  all_answered [] ps [] es [] rest front same all grouped = (All-nil (KnowsSolved t), refl)
-  all_answered [] ps [] es (x ∷ xs) rest front same all grouped = absurd grouped
-  all_answered [] ps (l ∷ lists) es solved rest front same all grouped = cc
-  all_answered (o ∷ os) ps [] es solved rest front same all grouped = cc
-  all_answered (o ∷ os) [] (l ∷ lists) es solved rest front same all grouped = absurd grouped
-  all_answered (o ∷ os) (p ∷ ps) (l ∷ lists) es [] rest front same all grouped = absurd grouped
-  all_answered (o ∷ os) (p ∷ ps) (l ∷ lists) es (x ∷ xs) rest front same all grouped =
+  all_answered : (os : List ℕ) (ps : List Handle) (lists : List Family) (es : List Handle) (rest : List Family)
+      → AreHandles t ps (map polynomial os ++ rest) → map reverse lists ≡ map (leads_in d mode) os → AreHandles t es (flat_map basis os)
+      → All (KnowsOutput t) (by_output lists ps es) × (map (answer_in t) (by_output lists ps es) ≡ map (answer_for d mode) os)
+  unfolding by_output
+  all_answered [] ps [] es rest front same all = (All-nil (KnowsOutput t), refl)
+  all_answered [] ps (l ∷ lists) es rest front same all = cc
+  all_answered (o ∷ os) ps [] es rest front same all = cc
+  all_answered (o ∷ os) [] (l ∷ lists) es rest front same all = let none = front.1 in cc
+  all_answered (o ∷ os) (p ∷ ps) (l ∷ lists) es rest front same all =
       let n = length l in let first : reverse l ≡ leads_in d mode o = cc in
       let others : map reverse lists ≡ map (leads_in d mode) os = cc in let head : family t p ≡ polynomial o = cc in
       let tail : map (family t) ps ≡ map polynomial os ++ rest = cc in
@@ -61,25 +57,26 @@ module _ (t : State) (d : Description) (mode : Mode) where
       rw (← take-map (family t) n es, all.1, long) (take-append_seam (basis o) (flat_map basis os)) in
       let dropped : map (family t) (drop n es) ≡ flat_map basis os =
       rw (← drop-map (family t) n es, all.1, long) (drop-append_seam (basis o) (flat_map basis os)) in
-      let more = all_answered os ps lists (drop n es) xs rest (All-tail (Knows t) p ps front.0, tail) others
-      (All-drop (Knows t) n es all.0, dropped) grouped.2 in (
-        All-cons (KnowsSolved t) x xs (rw grouped.0 (All-head (Knows t) p ps front.0), rw grouped.1 (All-take (Knows t) n es all.0)) more.0,
+      let more = all_answered os ps lists (drop n es) rest (All-tail (Knows t) p ps front.0, tail) others
+      (All-drop (Knows t) n es all.0, dropped) in (
+        All-cons (KnowsOutput t) (record { polynomial = p; basis = take n es }) (by_output lists ps (drop n es))
+            (All-head (Knows t) p ps front.0, All-take (Knows t) n es all.0) more.0,
         ap₂ (λ (a : Answer) (others : List Answer). a ∷ others)
-            (ap₂ (λ (f : Family) (b : List Family). record { polynomial = f; basis = b })
-            (ap (family t) grouped.0 ∙ head) (ap (map (family t)) grouped.1 ∙ taken)) more.1,
+            (ap₂ (λ (f : Family) (b : List Family). record { polynomial = f; basis = b }) head taken) more.1,
       )
 
   polynomials_first : (os : List ℕ) (rest : List Task)
       → map (task_family d) (map (task Polynomial) os ++ rest) ≡ map polynomial os ++ map (task_family d) rest
   polynomials_first os rest = simp (map-append, map-map)
 
-  pub outputs_answered : (ps : List Handle) (rest : List Task) (lists : List Family) (es : List Handle) (solved : List Solved)
+  pub outputs_answered : (ps : List Handle) (rest : List Task) (lists : List Family) (es : List Handle)
       → AreOf t d ps (map (task Polynomial) (output_numbers d.outputs) ++ rest) → AreLeads d mode lists
-      → AreOf t d es (second_tasks d mode) → AreGrouped ps lists es solved
-      → All (KnowsSolved t) solved × (map (answer_in t) solved ≡ map (answer_for d mode) (output_numbers d.outputs))
-  outputs_answered ps rest lists es solved found leads all grouped = let os = output_numbers d.outputs in
-      all_answered os ps lists es solved (map (task_family d) rest) (found.0, found.1 ∙ polynomials_first os rest) leads
-      (all.0, all.1 ∙ elements_are os) grouped
+      → AreOf t d es (second_tasks d mode)
+      → All (KnowsOutput t) (by_output lists ps es)
+      × (map (answer_in t) (by_output lists ps es) ≡ map (answer_for d mode) (output_numbers d.outputs))
+  outputs_answered ps rest lists es found leads all = let os = output_numbers d.outputs in
+      all_answered os ps lists es (map (task_family d) rest) (found.0, found.1 ∙ polynomials_first os rest) leads
+      (all.0, all.1 ∙ elements_are os)
 
   -- ---- how many there are
 
@@ -120,24 +117,28 @@ terms_parted s t hs first rest k grows known one two = rw (one, two)
 
 -- ---- one output after the other
 
--- one more output stands behind the others
-pub group_step : (ps : List Handle) (lists : List Family) (es rest first back : List Handle) (before after : List Solved) (i : ℕ)
-    (x : Solved) (d : Handle) (l : Family) → i < length ps → i < length lists → l ≡ get_or lists i l → x.polynomial ≡ get_or ps i d
-    → x.basis.items ≡ first → first ≡ take (length l) rest → back ≡ drop (length l) rest → after ≡ before ++ x ∷ []
-    → ((more : List Solved) → AreGrouped (drop i ps) (drop i lists) rest more → AreGrouped ps lists es (before ++ more))
-    → (more : List Solved) → AreGrouped (drop (i + 1) ps) (drop (i + 1) lists) back more → AreGrouped ps lists es (after ++ more)
-unfolding AreGrouped
-group_step ps lists es rest first back before after i x d l in_ps in_lists at polynomial basis is_first is_back pushed so_far more are =
-    rw (pushed, append_assoc) (so_far (x ∷ more)
-    (rw (drop_more ps i d in_ps, drop_more lists i l in_lists, ← at) (polynomial, basis ∙ is_first, rw is_back at are)))
+-- what a list has from a place on
+list_from : {X : Type 0} (xs : List X) (i : ℕ) (x : X) (behind : List X) → x ∷ behind ≡ drop i xs
+    → (x ≡ get_or xs i x) × (i < length xs) × (behind ≡ drop (i + 1) xs)
+list_from xs i x behind is =
+    let within : i < length xs = omega (arith, ap length is, length-drop i xs) in
+    let both = is ∙ drop_more xs i x within in (cc, within, cc)
 
--- and behind the last one there is none
-pub group_all : (ps : List Handle) (lists : List Family) (es rest : List Handle) (solved : List Solved) (i : ℕ) → length lists ≤ i
-    → ((more : List Solved) → AreGrouped (drop i ps) (drop i lists) rest more → AreGrouped ps lists es (solved ++ more))
-    → AreGrouped ps lists es solved
-unfolding AreGrouped
-group_all ps lists es rest solved i past so_far = rw append-nil at (so_far [] (rw (drop_all i lists past) (none (drop i ps))))
-  where
-    none : (ps : List Handle) → AreGrouped ps [] rest []
-    none [] = tt
-    none (p ∷ ps) = tt
+module _ (lists : List Family) (ps es rest : List Handle) (i : ℕ)
+    (so_far : by_output (drop i lists) (drop i ps) rest ≡ drop i (by_output lists ps es)) where
+  -- the output in turn, and those behind it
+  pub next_output : (l : Family) (d : Handle) → i < length lists → i < length ps → l ≡ get_or lists i l
+      → let o : OutputHandles = record { polynomial = get_or ps i d; basis = take (length l) rest } in
+      (o ≡ get_or (by_output lists ps es) i o) × (i < length (by_output lists ps es))
+      × (by_output (drop (i + 1) lists) (drop (i + 1) ps) (drop (length l) rest) ≡ drop (i + 1) (by_output lists ps es))
+  unfolding by_output
+  next_output l d in_lists in_ps at =
+      list_from (by_output lists ps es) i (record { polynomial = get_or ps i d; basis = take (length l) rest }) _
+      (rw (drop_more lists i l in_lists, drop_more ps i d in_ps, ← at) at so_far)
+
+  -- behind the last there is none
+  pub no_more_outputs : length lists ≤ i → take i (by_output lists ps es) ≡ by_output lists ps es
+  unfolding by_output
+  no_more_outputs past =
+      let none : [] ≡ drop i (by_output lists ps es) = rw (drop_all i lists past) at so_far in
+      take_all i (by_output lists ps es) (omega (arith, ap length none, length-drop i (by_output lists ps es)))

@@ -1,5 +1,5 @@
--- What is due for a worked file of two points over two inputs, in modes anf, basis and check, and by another order of the inputs:
--- the premises of the headline are met.
+-- What is due for a worked file of two points over two inputs, in modes anf, basis and check, and by another order of the inputs, that
+-- something is due in mode gen, and words that ask for jobs: the premises of the headline are met.
 use Rattle.std.proofs.Common.{◌≡◌, subst, sym, refl, ℕ, ◌≤◌, ◌^◌, ◌⊎◌, List, [], ◌∷◌, ◌++◌, codes, Ok, drop, inl, inr, lit≤, arith, Err}
 use Rattle.std.proofs.Common.{None, Option, Some}
 use Rattle.lattice.specs.Words.{AreDisjoint, includes, combine, family_where, numbers_below, has, divides, value, ones_of, low_cofactor}
@@ -10,7 +10,7 @@ use Rattle.lattice.specs.Words.{normal_form_list, basis_element_list, cover_list
 use Rattle.lattice.specs.Words.{second_phase}
 use Rattle.lattice.specs.declared.kind.Kind.TheVariants.{Fr}
 use Rattle.lattice.specs.declared.kind.Mode.{Mode}
-use Rattle.lattice.specs.declared.kind.Mode.TheVariants.{Anf, Basis, Check}
+use Rattle.lattice.specs.declared.kind.Mode.TheVariants.{Anf, Basis, Check, Gen}
 use Rattle.lattice.proofs.Polynomials.{disjoint_from_test}
 use Rattle.pla_reader.specs.PlainNames.{are_plain, is_plain}
 use Rattle.pla_reader.specs.Lines.{content, words_of}
@@ -29,14 +29,19 @@ use Rattle.cert_check.specs.Reading.{read_on}
 use Rattle.cert_check.specs.declared.answer.GivenOutput.{GivenOutput}
 use Rattle.cert_check.specs.declared.refusal.Verdict.{Verdict}
 use Rattle.cert_check.specs.declared.refusal.Verdict.TheVariants.{Yes}
+use Rattle.clap.proofs.OnLiterals.{clap_on_literals}
+use Rattle.clap.specs.declared.error.kind.ErrorKind.TheVariants as kind
+use Rattle.cli_words.specs.CommandLine.{mode_name}
 use Rattle.cli_words.specs.declared.job.Job.{Job}
+use Rattle.gen_pla.specs.Generated.{generated, generated_rows}
 use Rattle.interp_run.specs.Answers.{first_count, second_count, last_nodes, texts, notes_from}
-use Rattle.interp_run.specs.Due.{IsDue, IsDueChecking, checking, given_of, in_order, judged, no_file, solving, verdict}
-use Rattle.interp_run.specs.Laws.{DueForTwoPoints, ordered_job, two_points, usual_job}
+use Rattle.interp_run.specs.Due.{Due, IsDue, IsDueChecking, checking, given_of, has_answers, in_order, judged, no_file, solving, verdict}
+use Rattle.interp_run.specs.Laws.{DueForTwoPoints, WordsAskForJobs, ordered_job, two_points, usual_job}
+use Rattle.interp_run.specs.Run.{IsAsked}
 use Rattle.interp_run.specs.declared.outcome.Outcome.TheVariants as ends
 use Rattle.interp_run.proofs.Due.{file_read, solves_without_gen}
 use Rattle.interp_run.specs.Phases.{answers_for}
-use Rattle.interp_run.proofs.SolvedAnswers.{first_within_last, within_limits}
+use Rattle.interp_run.proofs.SolvedAnswers.{answers_are, first_within_last, within_limits}
 
 -- the description of the file, and the one over its inputs in another order
 d : Description
@@ -102,8 +107,12 @@ due_of mode order e pages elements solves ordered ok fits =
     solving e _ (file_read job modes.1 two_points (Ok d) (lit≤ tt) computed.0.0 ordered) modes.0 (rw (modes.1, fits.3, fits.4)
     at (within_limits job e ok (λ basis. record { nodes = omega (arith, first, fits.1); terms = fits.0 }) fits.1 fits.2))
 
-pub due_for_all : DueForTwoPoints
-due_for_all = (
+-- in mode gen, whose rows do not contradict each other
+due_in_gen : IsConsistent 16 2 (generated_rows 0 256) → (bytes : List ℕ) → (due : Due) × IsDue (usual_job Gen) bytes due
+due_in_gen ok bytes = (_, solving (generated 0) _ refl tt (has_answers _ (answers_are (generated 0) Gen ok)))
+
+pub due_for_all : IsConsistent 16 2 (generated_rows 0 256) → DueForTwoPoints
+due_for_all ok = (
   due_of Anf None d _ _ (inl refl) refl consistent computed.1,
   due_of Basis None d _ _ (inr refl) refl consistent computed.2,
   checking d (judged Yes) (file_read (usual_job Check) refl (two_points ++ text) (Ok d) (lit≤ tt) computed.0.3 refl) refl
@@ -111,4 +120,22 @@ due_for_all = (
       (subst (λ (v : Verdict). IsDueChecking d text (judged v)) computed.0.6 (verdict answer computed.0.4 consistent))),
   due_of Anf (Some (codes "b,a")) turned _ _ (inl refl) computed.0.1 consistent computed.3,
   no_file ends.Order (file_read (ordered_job Anf (codes "b")) refl two_points (Ok d) (lit≤ tt) computed.0.0 computed.0.2),
+  due_in_gen ok,
+)
+
+-- ==== words that ask for jobs
+
+usual_asked : (mode : Mode) → IsAsked (codes "interp" ∷ mode_name mode ∷ []) (usual_job mode)
+unfolding clap_on_literals
+usual_asked Anf = (refl, record { mode = refl; workers = refl; nodes = refl; terms = refl; seed = refl; order = refl })
+usual_asked Basis = (refl, record { mode = refl; workers = refl; nodes = refl; terms = refl; seed = refl; order = refl })
+usual_asked Check = (refl, record { mode = refl; workers = refl; nodes = refl; terms = refl; seed = refl; order = refl })
+usual_asked Gen = (refl, record { mode = refl; workers = refl; nodes = refl; terms = refl; seed = refl; order = refl })
+
+pub jobs_asked : WordsAskForJobs
+unfolding clap_on_literals
+jobs_asked = (
+  usual_asked,
+  (refl, record { mode = refl; workers = refl; nodes = refl; terms = refl; seed = refl; order = refl }),
+  λ none. let none : kind.MissingRequiredArgument ∷ [] ≡ [] = none in cc,
 )

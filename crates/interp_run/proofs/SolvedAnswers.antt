@@ -23,13 +23,12 @@ use Rattle.anf_printer.specs.Text.{Answer}
 use Rattle.run_parts.proofs.FoundTerms.{working_set_is_distinct}
 use Rattle.interp_run.specs.Answers.{IsAnswerOf, AreAnswers, first_count, second_count, first_nodes, last_nodes}
 use Rattle.interp_run.specs.Due.{IsDueSolving, first_passed, has_answers, silent, solved}
-use Rattle.interp_run.specs.Parts.{EndsUnsolved, FirstFits, due_unsolved, jobs_for, no_memory_to_solve, stopped_outcome}
-use Rattle.interp_run.specs.Phases.{AreOf, IsSecond, answer_for, answer_in, answers_for, element_task, first_tasks, leads_in, ones_in}
-use Rattle.interp_run.specs.Phases.{points_in, second_tasks, second_terms, task, task_family, terms_of, zeros_in}
+use Rattle.interp_run.specs.Parts.{EndsUnsolved, FirstFits, due_unsolved, jobs_for, no_memory_to_solve, unsolved_outcome}
+use Rattle.interp_run.specs.Phases.{AreOf, IsSecond, OutputHandles, answer_for, answer_in, answers_for, element_task, first_tasks}
+use Rattle.interp_run.specs.Phases.{leads_in, ones_in, points_in, second_tasks, second_terms, task, task_family, terms_of, zeros_in}
 use Rattle.interp_run.specs.declared.tasks.Part.TheVariants.{Leads, Polynomial}
-use Rattle.interp_run.specs.declared.phases.Solved.{Solved}
-use Rattle.interp_run.specs.declared.phases.Stop.{Stop}
-use Rattle.interp_run.specs.declared.phases.Stop.TheVariants as stops
+use Rattle.interp_run.specs.declared.phases.Unsolved.{Unsolved}
+use Rattle.interp_run.specs.declared.phases.Unsolved.TheVariants as unsolved
 use Rattle.interp_run.specs.declared.outcome.Outcome.TheVariants as ends
 use Rattle.interp_run.proofs.OutputLists.{length-output_numbers, output_at}
 
@@ -84,11 +83,11 @@ sum_of_none [] = refl
 sum_of_none (x ∷ xs) = omega (arith, sum_by-cons (λ _. 0) x xs, sum_of_none xs)
 
 -- the terms that are counted of what phase 2 found are those of the answers
-pub answers_counted : (d : Description) (mode : Mode) (t : State) (found : List Solved) → IsSecond t d mode found
+pub answers_counted : (d : Description) (mode : Mode) (t : State) (found : List OutputHandles) → IsSecond t d mode found
     → second_terms t found ≡ second_count (answers_for d mode)
 answers_counted d mode t found are = counted found ∙ ap second_count are.answers
   where
-    counted : (found : List Solved) → second_terms t found ≡ second_count (map (answer_in t) found)
+    counted : (found : List OutputHandles) → second_terms t found ≡ second_count (map (answer_in t) found)
     counted found = simp sum_by-map
 
 module _ (d : Description) (mode : Mode) where
@@ -197,11 +196,11 @@ module _ (job : Job) (d : Description) (ok : IsConsistent d.inputs d.outputs d.r
           (λ bare. omega (arith, same_counts d job.mode (output_numbers d.outputs) bare)) (cases_Bool (is_basis job.mode)) in
           simp (le-ltb, lt-ltb) at due
 
--- how a run ends that stopped without its answers
-pub stopped_ends : (job : Job) (d : Description) (stop : Stop)
-    → (stop ≡ stops.Full → IsDueSolving job d (silent (ends.Exhausted (2 ^ job.nodes))))
-    → (stop ≡ stops.Terms → IsDueSolving job d (silent (ends.Terms job.terms))) → EndsUnsolved job d (stopped_outcome job stop)
-stopped_ends job d stop full terms = grind (arith, due_unsolved, no_memory_to_solve)
+-- how a run ends that was not solved
+pub unsolved_ends : (job : Job) (d : Description) (cause : Unsolved)
+    → (cause ≡ unsolved.Full → IsDueSolving job d (silent (ends.Exhausted (2 ^ job.nodes))))
+    → (cause ≡ unsolved.Terms → IsDueSolving job d (silent (ends.Terms job.terms))) → EndsUnsolved job d (unsolved_outcome job cause)
+unsolved_ends job d cause full terms = grind (arith, due_unsolved, no_memory_to_solve)
 
-pub stopped_unfinished : (job : Job) (stop : Stop) → stopped_outcome job stop ≡ ends.Done → ⊥
-stopped_unfinished job stop e = grind arith
+pub unsolved_unfinished : (job : Job) (cause : Unsolved) → unsolved_outcome job cause ≡ ends.Done → ⊥
+unsolved_unfinished job cause e = grind arith

@@ -40,34 +40,33 @@ use Rattle.watch.proofs.LeftAfter.{left_after_all-push, room_left}
 use Rattle.run_parts.proofs.FoundTerms.{All_known-later, families_later, length-later, terms_of-later}
 use Rattle.interp_run.specs.Answers.{AreAnswers, IsAnswerOf, notes_from, summary_line, texts}
 use Rattle.interp_run.specs.Due.{Due}
-use Rattle.interp_run.specs.Phases.{AreHandles, KnowsSolved, answer_in, second_terms, terms_of}
+use Rattle.interp_run.specs.Phases.{AreHandles, KnowsOutput, OutputHandles, answer_in, second_terms, terms_of}
 use Rattle.interp_run.specs.Run.{HoldsFirst, TellsFirst}
-use Rattle.interp_run.specs.declared.phases.Solved.{Solved}
 use Rattle.interp_run.proofs.OutputLists.{zip_fold}
 
 -- ==== sums of terms over the outputs so far, and what a store knows of them later
 
-module _ (s : State) (solved : List Solved) (i : ℕ) (o : Solved) (is : o ≡ get_or solved i o) (within : i < length solved)
-    (known : All (KnowsSolved s) solved) where
-  pub KnowsSolved-at : KnowsSolved s o
-  KnowsSolved-at = rw is (All-get_or (KnowsSolved s) solved i o within known)
+module _ (s : State) (solved : List OutputHandles) (i : ℕ) (o : OutputHandles) (is : o ≡ get_or solved i o) (within : i < length solved)
+    (known : All (KnowsOutput s) solved) where
+  pub KnowsOutput-at : KnowsOutput s o
+  KnowsOutput-at = rw is (All-get_or (KnowsOutput s) solved i o within known)
 
   -- one more output, which is counted in later states
   pub solved_so_far : (t u : State) → Grows s t → Grows s u
       → (second_terms s (take (i + 1) solved)
-      ≡ second_terms s (take i solved) + (length (family t o.polynomial) + terms_of u o.basis.items))
+      ≡ second_terms s (take i solved) + (length (family t o.polynomial) + terms_of u o.basis))
       × (second_terms s (take (i + 1) solved) ≤ second_terms s solved)
   solved_so_far t u to_t to_u = grind (arith, sum_by_more, sum_by-take-le, length-later, terms_of-later)
 
   -- what is printed of one more output
   pub shown_more : (t u : State) (before after : List Shown) (x : Shown) → Grows s t → Grows s u
       → map shown_answer before ≡ map (answer_in s) (take i solved) → x.poly ≡ reverse (family t o.polynomial)
-      → map reverse x.basis ≡ map (family u) o.basis.items → after ≡ before ++ x ∷ []
+      → map reverse x.basis ≡ map (family u) o.basis → after ≡ before ++ x ∷ []
       → map shown_answer after ≡ map (answer_in s) (take (i + 1) solved)
   shown_more t u before after x to_t to_u so_far poly basis pushed =
       let first : reverse x.poly ≡ family s o.polynomial = ap reverse poly
-      ∙ (reverse-reverse (family t o.polynomial) ∙ Grows-family s t o.polynomial to_t KnowsSolved-at.0) in
-      let rest : map reverse x.basis ≡ map (family s) o.basis.items = basis ∙ families_later s u o.basis.items to_u KnowsSolved-at.1 in
+      ∙ (reverse-reverse (family t o.polynomial) ∙ Grows-family s t o.polynomial to_t KnowsOutput-at.0) in
+      let rest : map reverse x.basis ≡ map (family s) o.basis = basis ∙ families_later s u o.basis to_u KnowsOutput-at.1 in
       let one : shown_answer x ≡ answer_in s o = ap₂ (λ (p : Family) (b : List Family). record { polynomial = p; basis = b }) first rest in
       ap (map shown_answer) pushed ∙ (map_push shown_answer before x
       ∙ (ap₂ (λ (xs : List Answer) (y : Answer). xs ++ y ∷ []) so_far (one ∙ ap (answer_in s) is)

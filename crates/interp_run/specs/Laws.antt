@@ -1,7 +1,7 @@
 -- Laws of what is due. The functions of src/laws.rt have them as their contracts.
 use Rattle.std.specs.Prelude.{◌≡◌, ◌≤◌, ◌↔◌, List, [], ◌∷◌, ◌++◌, ℕ, None, Some, Ok, codes}
 use Rattle.lattice.specs.declared.kind.Mode.{Mode}
-use Rattle.lattice.specs.declared.kind.Mode.TheVariants.{Anf, Basis, Check}
+use Rattle.lattice.specs.declared.kind.Mode.TheVariants.{Anf, Basis, Check, Gen}
 use Rattle.pla_reader.specs.Reading.{Description, description}
 use Rattle.pla_reader.specs.declared.pla.Pla.{Pla}
 use Rattle.cert_check.specs.Faults.{verdict_on}
@@ -9,9 +9,11 @@ use Rattle.cert_check.specs.Reading.{answer_reading}
 use Rattle.cert_check.specs.Right.{IsRight}
 use Rattle.cert_check.specs.declared.answer.GivenOutput.{GivenOutput}
 use Rattle.cert_check.specs.declared.refusal.Verdict.TheVariants.{Yes}
+use Rattle.cli_words.specs.CommandLine.{mode_name}
 use Rattle.cli_words.specs.declared.job.Job.{Job}
 use Rattle.interp_run.specs.Answers.{first_nodes, last_nodes}
 use Rattle.interp_run.specs.Due.{Due, IsDue, file_of, judged, silent}
+use Rattle.interp_run.specs.Run.{IsAsked, IsRefused}
 use Rattle.interp_run.specs.declared.outcome.Outcome.TheVariants as ends
 
 -- no more than one thing is due for a job and bytes
@@ -47,7 +49,14 @@ ordered_job mode order = record (usual_job mode) { order = Some order }
 abbrev pub two_points : List ℕ
 two_points = codes ".i 2\n.o 1\n.ilb a b\n.ob f\n.type fr\n11 1\n00 0\n.e\n"
 
--- what is due for it: so the premises of the clauses of `run` are met in each mode, and with an order
+-- words that ask for a job in each mode, and with an order, and words that ask for none
+abbrev pub WordsAskForJobs : Type 0
+WordsAskForJobs =
+    ((mode : Mode) → IsAsked (codes "interp" ∷ mode_name mode ∷ []) (usual_job mode))
+    × IsAsked (codes "interp" ∷ codes "anf" ∷ codes "--order" ∷ codes "b,a" ∷ []) (ordered_job Anf (codes "b,a"))
+    × IsRefused (codes "interp" ∷ [])
+
+-- what is due for it, and that in mode gen something is: so the premises of the clauses of `run` are met in each mode, and with an order
 abbrev pub DueForTwoPoints : Type 0
 DueForTwoPoints =
     IsDue (usual_job Anf) two_points
@@ -58,3 +67,4 @@ DueForTwoPoints =
     × IsDue (ordered_job Anf (codes "b,a")) two_points
     (record { outcome = ends.Done; pages = codes "f = a\n" ∷ []; notes = record { output = 1; terms = 1; basis = 0 } ∷ [] })
     × IsDue (ordered_job Anf (codes "b")) two_points (silent ends.Order)
+    × ((bytes : List ℕ) → (due : Due) × IsDue (usual_job Gen) bytes due)

@@ -17,8 +17,8 @@ use Rattle.interp_run.specs.Answers.{first_count, first_nodes}
 use Rattle.interp_run.specs.Due.{IsDue, IsDueSolving, silent}
 use Rattle.interp_run.specs.Phases.{answers_for}
 use Rattle.interp_run.specs.declared.outcome.Outcome.{Outcome}
-use Rattle.interp_run.specs.declared.phases.Stop.{Stop}
-use Rattle.interp_run.specs.declared.phases.Stop.TheVariants as stops
+use Rattle.interp_run.specs.declared.phases.Unsolved.{Unsolved}
+use Rattle.interp_run.specs.declared.phases.Unsolved.TheVariants as unsolved
 use Rattle.interp_run.specs.declared.outcome.Outcome.TheVariants as ends
 
 -- an on-row and an off-row of an output share a point, and the run ends with the first such rows
@@ -41,11 +41,11 @@ pub data EndsUnsolved (job : Job) (d : Description) : Outcome → Type 0 where
   due_unsolved : (o : Outcome) → IsDueSolving job d (silent o) → EndsUnsolved job d o
   no_memory_to_solve : EndsUnsolved job d ends.Memory
 
--- how it ends that stopped so
-abbrev pub stopped_outcome : Job → Stop → Outcome
-stopped_outcome job stops.Full = ends.Exhausted (2 ^ job.nodes)
-stopped_outcome job stops.Terms = ends.Terms job.terms
-stopped_outcome job stops.Memory = ends.Memory
+-- how it ends that was not solved for this cause
+abbrev pub unsolved_outcome : Job → Unsolved → Outcome
+unsolved_outcome job unsolved.Full = ends.Exhausted (2 ^ job.nodes)
+unsolved_outcome job unsolved.Terms = ends.Terms job.terms
+unsolved_outcome job unsolved.Memory = ends.Memory
 
 -- a run of the job on the bytes ends without an answer: as is due, or for want of memory
 pub data EndsWithout (job : Job) (bytes : List ℕ) : Outcome → Type 0 where

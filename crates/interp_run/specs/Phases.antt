@@ -23,9 +23,8 @@ use Rattle.interp_run.specs.declared.tasks.Task.{Task}
 use Rattle.interp_run.specs.declared.tasks.Part.{Part}
 use Rattle.interp_run.specs.declared.tasks.Part.TheVariants.{Polynomial, Leads, Element}
 use Rattle.interp_run.specs.declared.phases.First.{First}
-use Rattle.interp_run.specs.declared.phases.Solved.{Solved}
-use Rattle.interp_run.specs.declared.phases.Stop.{Stop}
-use Rattle.interp_run.specs.declared.phases.Stop.TheVariants as stops
+use Rattle.interp_run.specs.declared.phases.Unsolved.{Unsolved}
+use Rattle.interp_run.specs.declared.phases.Unsolved.TheVariants as unsolved
 use Rattle.fork_branches.specs.declared.solve.SolveRefusal.TheVariants as refusals
 
 -- ---- an output
@@ -121,13 +120,13 @@ abbrev pub second_tasks : Description → Mode → List Task
 second_tasks d mode = flat_map (λ output. map (element_task output) (leads_in d mode output)) (output_numbers d.outputs)
 
 -- why a description was not solved whose jobs were not all run
-abbrev pub stop_of : SolveRefusal → Stop
-stop_of refusals.Full = stops.Full
-stop_of refusals.Memory = stops.Memory
+abbrev pub unsolved_of : SolveRefusal → Unsolved
+unsolved_of refusals.Full = unsolved.Full
+unsolved_of refusals.Memory = unsolved.Memory
 
-abbrev pub stop_without_cubes : CubesRefusal → Stop
-stop_without_cubes unbuilt.Full = stops.Full
-stop_without_cubes unbuilt.Memory = stops.Memory
+abbrev pub unsolved_without_cubes : CubesRefusal → Unsolved
+unsolved_without_cubes unbuilt.Full = unsolved.Full
+unsolved_without_cubes unbuilt.Memory = unsolved.Memory
 
 -- ---- what was found
 
@@ -164,12 +163,17 @@ pub record IsFirst (s : State) (d : Description) (mode : Mode) (first : First) :
 abbrev pub AreLeads : Description → Mode → List Family → Type 0
 AreLeads d mode lists = map reverse lists ≡ map (leads_in d mode) (output_numbers d.outputs)
 
--- the elements stand beside the polynomials of their outputs, as many as the output has leads
-unfoldable pub AreGrouped : List Handle → List Family → List Handle → List Solved → Type 0
-AreGrouped polynomials [] elements [] = Unit {0}
-AreGrouped (p ∷ ps) (leads ∷ rest) elements (o ∷ os) =
-    (o.polynomial ≡ p) × (o.basis.items ≡ take (length leads) elements) × AreGrouped ps rest (drop (length leads) elements) os
-AreGrouped polynomials leads elements solved = ⊥
+-- the handles of an output: of its polynomial, and of the elements of its basis by ascending lead
+pub record OutputHandles : Type 0 where
+  pub polynomial : Handle
+  pub basis : List Handle
+
+-- the polynomials with the elements of their outputs, of which there are as many as the output has leads
+unfoldable pub by_output : (leads : List Family) → (polynomials elements : List Handle) → List OutputHandles
+by_output [] polynomials elements = []
+by_output (leads ∷ rest) [] elements = []
+by_output (leads ∷ rest) (p ∷ ps) elements =
+    record { polynomial = p; basis = take (length leads) elements } ∷ by_output rest ps (drop (length leads) elements)
 
 -- an output's polynomial, and its basis, which mode anf has none of
 abbrev pub answer_for : Description → Mode → ℕ → Answer
@@ -183,19 +187,19 @@ answers_for d mode = map (answer_for d mode) (output_numbers d.outputs)
 
 -- ---- what is counted and printed
 
-abbrev pub second_terms : State → List Solved → ℕ
-second_terms s solved = sum_by (λ f. length (family s f.polynomial) + terms_of s f.basis.items) solved
+abbrev pub second_terms : State → List OutputHandles → ℕ
+second_terms s outputs = sum_by (λ f. length (family s f.polynomial) + terms_of s f.basis) outputs
 
 -- the store knows the handles
-abbrev pub KnowsSolved : State → Solved → Type 0
-KnowsSolved s f = Knows s f.polynomial × All (Knows s) f.basis.items
+abbrev pub KnowsOutput : State → OutputHandles → Type 0
+KnowsOutput s f = Knows s f.polynomial × All (Knows s) f.basis
 
 -- an output's answer
-abbrev pub answer_in : State → Solved → Answer
-answer_in s f = record { polynomial = family s f.polynomial; basis = map (family s) f.basis.items }
+abbrev pub answer_in : State → OutputHandles → Answer
+answer_in s f = record { polynomial = family s f.polynomial; basis = map (family s) f.basis }
 
 -- phase 2 was done
-pub record IsSecond (s : State) (d : Description) (mode : Mode) (solved : List Solved) : Type 0 where
-  pub known : All (KnowsSolved s) solved
+pub record IsSecond (s : State) (d : Description) (mode : Mode) (solved : List OutputHandles) : Type 0 where
+  pub known : All (KnowsOutput s) solved
   pub answers : map (answer_in s) solved ≡ answers_for d mode
   pub held : Covers s.held (working_set d.inputs (second_phase d.inputs d.outputs d.kind d.rows mode))

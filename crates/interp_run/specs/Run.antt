@@ -1,5 +1,5 @@
 -- What a run owes for the words and the bytes: its outcome, its status, what it writes, and who is told.
-use Rattle.std.specs.Prelude.{◌≡◌, ◌≢◌, ◌++◌, ◌≤◌, [], ℕ, List, length, take, Option, Some, codes, decimal}
+use Rattle.std.specs.Prelude.{◌≡◌, ◌≢◌, ◌++◌, ◌≤◌, [], false, ℕ, List, length, take, Option, Some, codes, decimal}
 use Rattle.std.specs.List.{concat}
 use Rattle.std.specs.Io.{StartsWith}
 use Rattle.std.specs.Io.KnownBytes.{Appends, Keeps}
@@ -10,7 +10,7 @@ use Rattle.clap.specs.Words.{fault_of, matches_of}
 use Rattle.cli_words.specs.CommandLine.{IsJob, interp_command}
 use Rattle.cli_words.specs.declared.job.Job.{Job}
 use Rattle.watch.specs.Notes.{WatcherState, left_after_all}
-use Rattle.interp_run.specs.Due.{Due, IsDue}
+use Rattle.interp_run.specs.Due.{Due, IsDue, is_gen}
 use Rattle.interp_run.specs.declared.outcome.Outcome.{Outcome}
 use Rattle.interp_run.specs.declared.outcome.Outcome.TheVariants as ends
 
@@ -78,10 +78,11 @@ pub data Ends (words : List (List ℕ)) (bytes : List ℕ) (old new : Option (Li
   write_fault : (job : Job) (due : Due) → IsAsked words job → IsDue job bytes due → HasText due.outcome
       → GainsFront old new (concat due.pages) → TellsFirst old new due before after
       → Ends words bytes old new before after ends.WriteFault
-  read_fault : (job : Job) → IsAsked words job → Keeps old new → after ≡ before → Ends words bytes old new before after ends.ReadFault
+  read_fault : (job : Job) → IsAsked words job → is_gen job.mode ≡ false → Keeps old new → after ≡ before
+      → Ends words bytes old new before after ends.ReadFault
   memory : Keeps old new → after ≡ before → Ends words bytes old new before after ends.Memory
 
--- it ends so on some bytes: those that the source told, where it told them, and else those that it gave
+-- it ends so on some bytes, and where the source tells its bytes, on these
 pub record Ran (words : List (List ℕ)) (left old new : Option (List ℕ)) (before after : List WatcherState) (o : Outcome) : Type 0 where
   pub bytes : List ℕ
   pub told : (all : List ℕ) → left ≡ Some all → bytes ≡ all

@@ -9,7 +9,8 @@ ghost use Rattle.interp_run.specs.Parts.{EndsWithout};
 ghost use Rattle.interp_run.specs.declared.outcome.Outcome.TheVariants as outcomes;
 
 use crate::Outcome;
-use crate::describe::{contradiction_of, description_of};
+use crate::describe::{describe, find_contradiction};
+use crate::means::Means;
 use crate::solve::solve;
 use anf_printer::{Shown, answer_text};
 use cli_words::Job;
@@ -31,7 +32,7 @@ pub struct Answered {
 }
 
 // What the watchers are told of each output.
-fn notes_of(alloc: Global, shown: &[Shown]) -> Result<Notes, AllocError>
+fn make_notes(alloc: Global, shown: &[Shown]) -> Result<Notes, AllocError>
     requires few { length shown.now ≤ 64 }
     ensures { IfOk result (λ notes. notes ≡ notes_from 1 (map shown_answer shown.now)) }
 {
@@ -65,12 +66,18 @@ pub fn answer_of<R: Threads + Sync, P: Pool>(
     ensures few { IfOk result (λ a. (length a.notes ≡ length a.pages) × (length a.pages ≤ 64)) }
     ensures err { IfErr result (EndsWithout job.now bytes.now) }
 {
-    let (pla, _) = description_of(alloc, job, bytes)?;
-    if let Some(outcome) = contradiction_of(&pla) {
+    let (pla, _) = describe(alloc, job, bytes)?;
+    if let Some(outcome) = find_contradiction(&pla) {
         return Err(outcome);
     }
-    let solution = solve(rt, alloc, pool, gate, &pla, job)?;
-    let Ok(notes) = notes_of(alloc, &solution.shown) else {
+    let mut means = Means {
+        rt,
+        alloc,
+        pool,
+        gate,
+    };
+    let solution = solve(&mut means, &pla, job)?;
+    let Ok(notes) = make_notes(alloc, &solution.shown) else {
         return Err(Outcome::Memory);
     };
     match answer_text(alloc, &pla, job.mode, &solution.shown) {

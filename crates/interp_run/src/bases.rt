@@ -9,23 +9,23 @@ ghost use Rattle.lattice.specs.declared.kind.Mode.TheVariants.{Basis};
 ghost use Rattle.node_store.specs.Stores.{Grows, IsFull};
 ghost use Rattle.computed_cache.specs.Cached.{cached_state};
 ghost use Rattle.pla_reader.specs.Reading.{description};
-ghost use Rattle.interp_run.specs.Phases.{AreGrouped, AreLeads, AreOf, IsFirst, IsSecond};
+ghost use Rattle.interp_run.specs.Phases.{AreLeads, AreOf, IsFirst, IsSecond, by_output};
 ghost use Rattle.interp_run.specs.Phases.{element_task, first_tasks, second_tasks, terms_of};
 
-use crate::phases::{First, Solved, Stop};
-use crate::tasks::{Part, Task, Tasks, all_done};
+use crate::means::Means;
+use crate::phases::{First, Unsolved};
+use crate::tasks::{Part, Task, Tasks, run_tasks};
 use computed_cache::CachedPass;
 use fork_branches::Pool;
 use lattice::{Memory, Mode, MonoLists, Monos};
 use node_store::{Handle, Store};
-use outside::Rendezvous;
 use pla_reader::Pla;
 use run_parts::{count_terms, lists_of};
 use std::alloc::Global;
 use std::thread::Threads;
 
 /// A list without monomials for each output.
-pub(crate) fn no_leads(alloc: Global, outputs: u32) -> Result<MonoLists, Memory>
+pub(crate) fn list_no_leads(alloc: Global, outputs: u32) -> Result<MonoLists, Memory>
     ensures { IfOk result (λ lists. map reverse lists ≡ map (λ _. []) (output_numbers outputs)) }
 {
     let mut lists = MonoLists::new(alloc);
@@ -37,30 +37,30 @@ pub(crate) fn no_leads(alloc: Global, outputs: u32) -> Result<MonoLists, Memory>
 
 /// The leads of each output, from the greatest down, in mode basis, where there are no more than
 /// `limit` terms in what was found: in the polynomials and, as the leads, of the bases.
-pub(crate) fn lead_lists<S: Store>(
+pub(crate) fn list_leads<S: Store>(
     alloc: Global,
     store: &mut S,
     pla: &Pla,
     found: &[Handle],
     limit: u64,
-) -> Result<MonoLists, Stop>
+) -> Result<MonoLists, Unsolved>
     requires { AreOf (S.state store.old) (description pla.now) found.now
         (first_tasks (description pla.now) Basis) }
     ensures leads { IfOk result (AreLeads (description pla.now) Basis) }
     ensures within { OnOk result (terms_of (S.state store.old) found.now ≤ limit) }
-    ensures terms { IsErrOf result Stop.Terms → limit < terms_of (S.state store.old) found.now }
-    ensures full { ¬ IsErrOf result Stop.Full }
+    ensures terms { IsErrOf result Unsolved.Terms → limit < terms_of (S.state store.old) found.now }
+    ensures full { ¬ IsErrOf result Unsolved.Full }
 {
     let (polynomials, leads) = found.split_at(pla.outputs as usize);
     let Some(count) = count_terms(store, polynomials, limit) else {
-        return Err(Stop::Terms);
+        return Err(Unsolved::Terms);
     };
     let mut left = limit - count;
     Ok(lists_of(alloc, store, leads, &mut left)?)
 }
 
 // The tasks with those for the elements of an output behind them, by ascending lead.
-fn with_elements(mut tasks: Vec<Task>, output: u32, leads: &Monos) -> Result<Vec<Task>, Memory>
+fn push_elements(mut tasks: Vec<Task>, output: u32, leads: &Monos) -> Result<Vec<Task>, Memory>
     ensures { IfOk result (λ all. all.items
         ≡ tasks.items ++ map (element_task output) (reverse leads.now)) }
 {
@@ -74,58 +74,30 @@ fn with_elements(mut tasks: Vec<Task>, output: u32, leads: &Monos) -> Result<Vec
 }
 
 // The tasks of phase 2: the elements of each output.
-fn second_tasks(alloc: Global, pla: &Pla, leads: &[Monos]) -> Result<Vec<Task>, Memory>
+fn list_second_tasks(alloc: Global, pla: &Pla, leads: &[Monos]) -> Result<Vec<Task>, Memory>
     requires leads { length leads.now ≡ pla.now.outputs }
     ensures { IfOk result (λ tasks. (mode : Mode) → AreLeads (description pla.now) mode leads.now
         → tasks.items ≡ second_tasks (description pla.now) mode) }
 {
     let mut list = Vec::new(alloc);
     for before in 0..pla.outputs {
-        list = with_elements(list, before + 1, &leads[before as usize])?;
+        list = push_elements(list, before + 1, &leads[before as usize])?;
     }
     Ok(list)
 }
 
-// The elements of each output beside its polynomial; there are as many elements as leads.
-fn grouped(
-    alloc: Global,
-    polynomials: &[Handle],
-    leads: &[Monos],
-    elements: &[Handle],
-) -> Result<Vec<Solved>, Memory>
-    requires polynomials { length leads.now ≤ length polynomials.now }
-    requires elements { length elements.now ≡ sum_by length leads.now }
-    ensures { IfOk result (λ solved. AreGrouped polynomials.now leads.now elements.now
-        solved.items) }
-{
-    let mut solved = Vec::new(alloc);
-    let mut rest = elements;
-    for index in 0..leads.len() {
-        let (first, more) = rest.split_at(leads[index].len());
-        solved.push(Solved {
-            polynomial: polynomials[index],
-            basis: first.to_vec(alloc)?,
-        })?;
-        rest = more;
-    }
-    Ok(solved)
-}
-
-/// Phase 2, for the leads of phase 1.
-pub(crate) fn second_phase<R: Threads + Sync, P: Pool>(
-    rt: &R,
-    alloc: Global,
+/// Runs phase 2, for the leads of phase 1: the elements of all outputs, in order.
+pub(crate) fn run_second_phase<R: Threads + Sync, P: Pool>(
+    means: &mut Means<'_, R, P>,
     store: &mut CachedPass,
-    pool: &mut P,
-    gate: &Rendezvous,
     workers: u32,
     pla: &Pla,
     mode: Mode,
     first: &First,
     leads: &[Monos],
-) -> Result<Vec<Solved>, Stop>
+) -> Result<Vec<Handle>, Unsolved>
     requires workers { (1 ≤ workers) × (workers ≤ 16) }
-    requires room { P.done pool.old < 2 ^ 30 }
+    requires room { P.done means.old.pool.now < 2 ^ 30 }
     requires vars { (cached_state store.old).vars ≡ pla.now.inputs }
     requires consistent { IsConsistent pla.now.inputs pla.now.outputs pla.now.rows }
     requires first { IsFirst (cached_state store.old) (description pla.now) mode first.now }
@@ -135,22 +107,25 @@ pub(crate) fn second_phase<R: Threads + Sync, P: Pool>(
         (working_set pla.now.inputs (second_phase pla.now.inputs pla.now.outputs pla.now.kind
         pla.now.rows mode)) }
     ensures grows { Grows (cached_state store.old) (cached_state store.new) }
-    ensures solved { IfOk result (λ solved. IsSecond (cached_state store.new)
-        (description pla.now) mode solved.items) }
-    ensures jobs { OnOk result (P.done pool.old + length (second_tasks (description pla.now) mode)
-        ≤ P.done pool.new) }
-    ensures least { P.done pool.old ≤ P.done pool.new }
-    ensures most { P.done pool.new ≤ P.done pool.old + 2 ^ 24 }
-    ensures full { IsErrOf result Stop.Full
+    ensures enough { IfOk result (λ elements. (length leads.now ≤ length first.now.found.items)
+        × (length elements.items ≡ sum_by length leads.now)) }
+    ensures solved { IfOk result (λ elements. IsSecond (cached_state store.new)
+        (description pla.now) mode
+        (by_output leads.now first.now.found.items elements.items)) }
+    ensures same_pool { means.new.pool.ghost_name ≡ means.old.pool.ghost_name }
+    ensures jobs { OnOk result (P.done means.old.pool.now
+        + length (second_tasks (description pla.now) mode) ≤ P.done means.new.pool.now) }
+    ensures least { P.done means.old.pool.now ≤ P.done means.new.pool.now }
+    ensures most { P.done means.new.pool.now ≤ P.done means.old.pool.now + 2 ^ 24 }
+    ensures full { IsErrOf result Unsolved.Full
         → IsFull (cached_state store.old) (cached_state store.new) }
-    ensures counted { ¬ IsErrOf result Stop.Terms }
+    ensures counted { ¬ IsErrOf result Unsolved.Terms }
 {
-    let list = second_tasks(alloc, pla, leads)?;
+    let list = list_second_tasks(means.alloc, pla, leads)?;
     let tasks = Tasks {
         pla,
         cares: &first.cares,
         list: &list,
     };
-    let elements = all_done(rt, alloc, store, pool, gate, workers, &tasks)?;
-    Ok(grouped(alloc, &first.found, leads, &elements)?)
+    run_tasks(means, store, workers, &tasks)
 }

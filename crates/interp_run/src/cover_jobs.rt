@@ -10,13 +10,13 @@ ghost use Rattle.pla_reader.specs.Reading.{description};
 ghost use Rattle.interp_run.specs.CoverJobs.{AreAllCovers, cover_count, cover_jobs};
 ghost use Rattle.interp_run.specs.Phases.{CaresDone};
 
-use crate::phases::Stop;
+use crate::means::Means;
+use crate::phases::Unsolved;
 use bool_poly::SetOps;
 use computed_cache::CachedPass;
 use cube_build::{care_sets_from, cover, row_cubes, sets_of};
 use fork_branches::{Jobs, Pool};
 use node_store::{Full, Handle, Store};
-use outside::Rendezvous;
 use pla_reader::Pla;
 use set_algebra::ValuedPoints;
 use std::alloc::Global;
@@ -53,12 +53,12 @@ impl Jobs for CoverJobs<'_> {
 }
 
 // The care sets of all outputs, from all covers.
-fn cares_from<S: Store>(
+fn build_cares<S: Store>(
     alloc: Global,
     store: &mut S,
     pla: &Pla,
     covers: &[Handle],
-) -> Result<Vec<ValuedPoints>, Stop>
+) -> Result<Vec<ValuedPoints>, Unsolved>
     requires vars { (S.state store.old).vars ≡ pla.now.inputs }
     requires covers { AreAllCovers (S.state store.old) (description pla.now) covers.now }
     requires planned { let p = pla.now in
@@ -68,8 +68,8 @@ fn cares_from<S: Store>(
     ensures grows { Grows (S.state store.old) (S.state store.new) }
     ensures cares { IfOk result (λ cares. CaresDone (S.state store.new)
         (description pla.now) pla.now.outputs cares.items) }
-    ensures full { IsErrOf result Stop.Full → IsFull (S.state store.old) (S.state store.new) }
-    ensures counted { ¬ IsErrOf result Stop.Terms }
+    ensures full { IsErrOf result Unsolved.Full → IsFull (S.state store.old) (S.state store.new) }
+    ensures counted { ¬ IsErrOf result Unsolved.Terms }
 {
     let each = sets_of(pla.kind).len();
     let mut cares = Vec::new(alloc);
@@ -82,17 +82,14 @@ fn cares_from<S: Store>(
 
 /// The care sets of all outputs. Each row's cube is built once, by the pass; their unions are jobs
 /// of the pool.
-pub(crate) fn all_cares<R: Threads + Sync, P: Pool>(
-    rt: &R,
-    alloc: Global,
+pub(crate) fn find_cares<R: Threads + Sync, P: Pool>(
+    means: &mut Means<'_, R, P>,
     store: &mut CachedPass,
-    pool: &mut P,
-    gate: &Rendezvous,
     workers: u32,
     pla: &Pla,
-) -> Result<Vec<ValuedPoints>, Stop>
+) -> Result<Vec<ValuedPoints>, Unsolved>
     requires workers { (1 ≤ workers) × (workers ≤ 16) }
-    requires room { P.done pool.old < 2 ^ 30 }
+    requires room { P.done means.old.pool.now < 2 ^ 30 }
     requires vars { (cached_state store.old).vars ≡ pla.now.inputs }
     requires planned { let p = pla.now in
         Covers (cached_state store.old).plan
@@ -101,14 +98,18 @@ pub(crate) fn all_cares<R: Threads + Sync, P: Pool>(
     ensures grows { Grows (cached_state store.old) (cached_state store.new) }
     ensures cares { IfOk result (λ cares. CaresDone (cached_state store.new)
         (description pla.now) pla.now.outputs cares.items) }
-    ensures least { P.done pool.old ≤ P.done pool.new }
-    ensures most { P.done pool.new ≤ P.done pool.old + cover_count (description pla.now) }
-    ensures full { IsErrOf result Stop.Full
+    ensures same_pool { means.new.pool.ghost_name ≡ means.old.pool.ghost_name }
+    ensures least { P.done means.old.pool.now ≤ P.done means.new.pool.now }
+    ensures most { P.done means.new.pool.now
+        ≤ P.done means.old.pool.now + cover_count (description pla.now) }
+    ensures full { IsErrOf result Unsolved.Full
         → IsFull (cached_state store.old) (cached_state store.new) }
-    ensures counted { ¬ IsErrOf result Stop.Terms }
+    ensures counted { ¬ IsErrOf result Unsolved.Terms }
 {
-    let cubes = row_cubes(alloc, store, pla)?;
+    let cubes = row_cubes(means.alloc, store, pla)?;
     let jobs = CoverJobs { pla, cubes: &cubes };
-    let covers = pool.all(rt, alloc, store, &jobs, gate, workers)?;
-    cares_from(alloc, store, pla, &covers)
+    let covers = means
+        .pool
+        .all(means.rt, means.alloc, store, &jobs, means.gate, workers)?;
+    build_cares(means.alloc, store, pla, &covers)
 }

@@ -2,10 +2,10 @@
 ghost use Rattle.std.specs.Prelude.{◌≡◌, ◌∷◌, [], IfErr, IfOk};
 ghost use Rattle.lattice.specs.declared.kind.Mode.TheVariants.{Check};
 ghost use Rattle.interp_run.specs.Due.{IsDue, judged};
-ghost use Rattle.interp_run.specs.Parts.{EndsWithout, refused_outcome};
+ghost use Rattle.interp_run.specs.Parts.{EndsWithout};
 
 use crate::Outcome;
-use crate::describe::{contradiction_of, description_of};
+use crate::describe::{describe, find_contradiction};
 use arrayvec::ArrayString;
 use cert_check::{AnswerRefusal, CheckRefusal, MOST_INPUTS, Verdict, check, read_answer};
 use cli_words::Job;
@@ -16,31 +16,32 @@ use std::alloc::Global;
 // `no`, a line of 10 digits, a name of 9 letters, with what joins and ends them.
 const LONGEST_VERDICT: usize = 24;
 
-// How a run ends whose answer is refused.
-fn refused(refusal: AnswerRefusal) -> Outcome
-    ensures { result ≡ refused_outcome refusal }
-{
-    match refusal {
-        AnswerRefusal::Bad { line, why } => Outcome::AnswerText { line, why },
-        AnswerRefusal::Memory => Outcome::Memory,
+/// How a run ends whose answer is refused.
+impl From<AnswerRefusal> for Outcome {
+    ghost use Rattle.interp_run.specs.Parts.{refused_outcome};
+
+    ghost from_gives = { λ refusal o. o ≡ refused_outcome refusal };
+
+    fn from(refusal: AnswerRefusal) -> Self {
+        match refusal {
+            AnswerRefusal::Bad { line, why } => Outcome::AnswerText { line, why },
+            AnswerRefusal::Memory => Outcome::Memory,
+        }
     }
 }
 
 /// The verdict on the answer that stands after the description, or how the run ends without it.
-pub(crate) fn verdict_of(alloc: Global, job: &Job, bytes: &[u8]) -> Result<Verdict, Outcome>
+pub(crate) fn judge(alloc: Global, job: &Job, bytes: &[u8]) -> Result<Verdict, Outcome>
     requires mode { job.now.mode ≡ Check }
     ensures ok { IfOk result (λ v. IsDue job.now bytes.now (judged v)) }
     ensures err { IfErr result (EndsWithout job.now bytes.now) }
 {
-    let (pla, taken) = description_of(alloc, job, bytes)?;
+    let (pla, taken) = describe(alloc, job, bytes)?;
     if pla.inputs > MOST_INPUTS {
         return Err(Outcome::TooWide);
     }
-    let answer = match read_answer(alloc, &pla, behind(bytes, taken)) {
-        Ok(answer) => answer,
-        Err(refusal) => return Err(refused(refusal)),
-    };
-    if let Some(outcome) = contradiction_of(&pla) {
+    let answer = read_answer(alloc, &pla, behind(bytes, taken))?;
+    if let Some(outcome) = find_contradiction(&pla) {
         return Err(outcome);
     }
     match check(alloc, &pla, &answer) {
@@ -51,7 +52,7 @@ pub(crate) fn verdict_of(alloc: Global, job: &Job, bytes: &[u8]) -> Result<Verdi
 }
 
 /// What is written for a verdict, which takes no memory.
-pub(crate) fn text_of(verdict: Verdict) -> ArrayString<LONGEST_VERDICT>
+pub(crate) fn print_verdict(verdict: Verdict) -> ArrayString<LONGEST_VERDICT>
     ensures { (judged verdict).pages ≡ result.bytes ∷ [] }
 {
     let mut text = ArrayString::new();
@@ -70,7 +71,7 @@ pub(crate) fn text_of(verdict: Verdict) -> ArrayString<LONGEST_VERDICT>
 }
 
 /// How a run ends whose verdict was written.
-pub(crate) fn outcome_after(verdict: Verdict) -> Outcome
+pub(crate) fn end_after(verdict: Verdict) -> Outcome
     ensures { result ≡ (judged verdict).outcome }
 {
     match verdict {

@@ -1,10 +1,12 @@
 //! Functions that do nothing. Their contracts are the laws of `specs/Laws.antt`, so a check proves
 //! these.
 ghost use Rattle.interp_run.specs.Laws.{DueForTwoPoints, FirstWithinLast, OneIsDue, SomeIsDue};
-ghost use Rattle.interp_run.specs.Laws.{WorkersAreFree, YesIsRight};
+ghost use Rattle.interp_run.specs.Laws.{WordsAskForJobs, WorkersAreFree, YesIsRight};
 
 use cube_sets::conflict;
+use gen_pla::generate;
 use pla_reader::Pla;
+use std::alloc::Global;
 
 /// For a job and bytes one outcome, with its texts and notes, is due at most.
 pub fn one_is_due()
@@ -35,8 +37,15 @@ pub fn yes_is_right()
     ensures { YesIsRight }
 {}
 
-/// What is due for a worked file in the modes anf, basis and check, by another order of its inputs,
-/// and by a text that is none.
-pub fn due_for_two_points()
-    ensures { DueForTwoPoints }
+/// There are words that ask for a job, in each mode and with an order, and words that are refused.
+pub fn words_ask_for_jobs()
+    ensures { WordsAskForJobs }
 {}
+
+/// What is due for a worked file in the modes anf, basis and check, by another order of its inputs,
+/// and by a text that is none; and in mode gen something is due.
+pub fn due_for_two_points(alloc: Global)
+    ensures { DueForTwoPoints }
+{
+    let _ = generate(alloc, 0);
+}

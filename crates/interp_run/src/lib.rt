@@ -7,6 +7,7 @@ mod cover_jobs;
 mod describe;
 mod judge;
 pub mod laws;
+mod means;
 mod outcome;
 mod phases;
 mod plan;

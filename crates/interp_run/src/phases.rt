@@ -10,14 +10,14 @@ ghost use Rattle.computed_cache.specs.Cached.{cached_state};
 ghost use Rattle.pla_reader.specs.Reading.{description};
 ghost use Rattle.interp_run.specs.Phases.{IsFirst, first_tasks, task};
 
-use crate::cover_jobs::all_cares;
-use crate::tasks::{Part, Task, Tasks, all_done};
+use crate::cover_jobs::find_cares;
+use crate::means::Means;
+use crate::tasks::{Part, Task, Tasks, run_tasks};
 use computed_cache::CachedPass;
 use cube_build::CubesRefusal;
 use fork_branches::{Pool, SolveRefusal};
 use lattice::{Memory, Mode};
 use node_store::{Full, Handle};
-use outside::Rendezvous;
 use pla_reader::Pla;
 use set_algebra::ValuedPoints;
 use std::alloc::{AllocFailed, Global};
@@ -25,7 +25,7 @@ use std::thread::Threads;
 
 /// Why a description was not solved.
 #[derive(Clone, Copy, PartialEq, Eq, Debug)]
-pub(crate) enum Stop {
+pub(crate) enum Unsolved {
     /// The store had no slot left.
     Full,
     /// There are more terms than the limit.
@@ -34,59 +34,59 @@ pub(crate) enum Stop {
     Memory,
 }
 
-impl From<Full> for Stop {
-    ghost use Rattle.interp_run.specs.declared.phases.Stop.TheVariants.{Full as NoSlot};
+impl From<Full> for Unsolved {
+    ghost use Rattle.interp_run.specs.declared.phases.Unsolved.TheVariants.{Full as NoSlot};
 
     ghost from_gives = { λ _ e. e ≡ NoSlot };
 
     fn from(_: Full) -> Self {
-        Stop::Full
+        Unsolved::Full
     }
 }
 
-impl From<Memory> for Stop {
-    ghost use Rattle.interp_run.specs.declared.phases.Stop.TheVariants.{Memory as OutOfMemory};
+impl From<Memory> for Unsolved {
+    ghost use Rattle.interp_run.specs.declared.phases.Unsolved.TheVariants.{Memory as OutOfMemory};
 
     ghost from_gives = { λ _ e. e ≡ OutOfMemory };
 
     fn from(_: Memory) -> Self {
-        Stop::Memory
+        Unsolved::Memory
     }
 }
 
-impl From<CubesRefusal> for Stop {
-    ghost use Rattle.interp_run.specs.Phases.{stop_without_cubes};
+impl From<CubesRefusal> for Unsolved {
+    ghost use Rattle.interp_run.specs.Phases.{unsolved_without_cubes};
 
-    ghost from_gives = { λ refusal e. e ≡ stop_without_cubes refusal };
+    ghost from_gives = { λ refusal e. e ≡ unsolved_without_cubes refusal };
 
     fn from(refusal: CubesRefusal) -> Self {
         match refusal {
-            CubesRefusal::Full => Stop::Full,
-            CubesRefusal::Memory => Stop::Memory,
+            CubesRefusal::Full => Unsolved::Full,
+            CubesRefusal::Memory => Unsolved::Memory,
         }
     }
 }
 
-impl From<SolveRefusal> for Stop {
-    ghost use Rattle.interp_run.specs.Phases.{stop_of};
+impl From<SolveRefusal> for Unsolved {
+    ghost use Rattle.interp_run.specs.Phases.{unsolved_of};
 
-    ghost from_gives = { λ refusal e. e ≡ stop_of refusal };
+    ghost from_gives = { λ refusal e. e ≡ unsolved_of refusal };
 
     fn from(refusal: SolveRefusal) -> Self {
         match refusal {
-            SolveRefusal::Full => Stop::Full,
-            SolveRefusal::Memory => Stop::Memory,
+            SolveRefusal::Full => Unsolved::Full,
+            SolveRefusal::Memory => Unsolved::Memory,
         }
     }
 }
 
-impl<T: Drop> From<AllocFailed<T>> for Stop {
-    ghost use Rattle.interp_run.specs.declared.phases.Stop.TheVariants.{Memory as OutOfMemory};
+impl<T: Drop> From<AllocFailed<T>> for Unsolved {
+    ghost use Rattle.interp_run.specs.declared.phases.Unsolved.TheVariants.{Memory as OutOfMemory};
 
     ghost from_gives = { λ _ e. e ≡ OutOfMemory };
 
     fn from(_: AllocFailed<T>) -> Self {
-        Stop::Memory
+        Unsolved::Memory
     }
 }
 
@@ -97,15 +97,8 @@ pub(crate) struct First {
     pub found: Vec<Handle>,
 }
 
-/// What is solved of an output: its polynomial, and the elements of its basis by ascending lead.
-#[derive(Drop)]
-pub(crate) struct Solved {
-    pub polynomial: Handle,
-    pub basis: Vec<Handle>,
-}
-
 // The tasks with this part of each output behind them.
-fn with_all(mut tasks: Vec<Task>, part: &Part, outputs: u32) -> Result<Vec<Task>, Memory>
+fn push_part(mut tasks: Vec<Task>, part: &Part, outputs: u32) -> Result<Vec<Task>, Memory>
     ensures { IfOk result (λ all. all.items
         ≡ tasks.items ++ map (task part.now) (output_numbers outputs)) }
 {
@@ -119,29 +112,26 @@ fn with_all(mut tasks: Vec<Task>, part: &Part, outputs: u32) -> Result<Vec<Task>
 }
 
 // The tasks of phase 1: the polynomials of all outputs, and then in mode basis their leads.
-fn first_tasks(alloc: Global, pla: &Pla, mode: Mode) -> Result<Vec<Task>, Memory>
+fn list_first_tasks(alloc: Global, pla: &Pla, mode: Mode) -> Result<Vec<Task>, Memory>
     ensures { IfOk result (λ tasks. tasks.items ≡ first_tasks (description pla.now) mode) }
 {
-    let polynomials = with_all(Vec::new(alloc), &Part::Polynomial, pla.outputs)?;
+    let polynomials = push_part(Vec::new(alloc), &Part::Polynomial, pla.outputs)?;
     match mode {
-        Mode::Basis => with_all(polynomials, &Part::Leads, pla.outputs),
+        Mode::Basis => push_part(polynomials, &Part::Leads, pla.outputs),
         Mode::Anf | Mode::Check | Mode::Gen => Ok(polynomials),
     }
 }
 
-/// Phase 1. The jobs of the pool are the covers of the outputs' sets, and then the tasks.
-pub(crate) fn first_phase<R: Threads + Sync, P: Pool>(
-    rt: &R,
-    alloc: Global,
+/// Runs phase 1. The jobs of the pool are the covers of the outputs' sets, and then the tasks.
+pub(crate) fn run_first_phase<R: Threads + Sync, P: Pool>(
+    means: &mut Means<'_, R, P>,
     store: &mut CachedPass,
-    pool: &mut P,
-    gate: &Rendezvous,
     workers: u32,
     pla: &Pla,
     mode: Mode,
-) -> Result<First, Stop>
+) -> Result<First, Unsolved>
     requires workers { (1 ≤ workers) × (workers ≤ 16) }
-    requires room { P.done pool.old < 2 ^ 29 }
+    requires room { P.done means.old.pool.now < 2 ^ 29 }
     requires vars { (cached_state store.old).vars ≡ pla.now.inputs }
     requires consistent { IsConsistent pla.now.inputs pla.now.outputs pla.now.rows }
     requires planned { Covers (cached_state store.old).plan
@@ -149,21 +139,22 @@ pub(crate) fn first_phase<R: Threads + Sync, P: Pool>(
         pla.now.rows mode)) }
     ensures grows { Grows (cached_state store.old) (cached_state store.new) }
     ensures found { IfOk result (IsFirst (cached_state store.new) (description pla.now) mode) }
-    ensures jobs { OnOk result (P.done pool.old + length (first_tasks (description pla.now) mode)
-        ≤ P.done pool.new) }
-    ensures least { P.done pool.old ≤ P.done pool.new }
-    ensures most { P.done pool.new ≤ P.done pool.old + 2 ^ 24 }
-    ensures full { IsErrOf result Stop.Full
+    ensures same_pool { means.new.pool.ghost_name ≡ means.old.pool.ghost_name }
+    ensures jobs { OnOk result (P.done means.old.pool.now
+        + length (first_tasks (description pla.now) mode) ≤ P.done means.new.pool.now) }
+    ensures least { P.done means.old.pool.now ≤ P.done means.new.pool.now }
+    ensures most { P.done means.new.pool.now ≤ P.done means.old.pool.now + 2 ^ 24 }
+    ensures full { IsErrOf result Unsolved.Full
         → IsFull (cached_state store.old) (cached_state store.new) }
-    ensures counted { ¬ IsErrOf result Stop.Terms }
+    ensures counted { ¬ IsErrOf result Unsolved.Terms }
 {
-    let cares = all_cares(rt, alloc, store, pool, gate, workers, pla)?;
-    let list = first_tasks(alloc, pla, mode)?;
+    let cares = find_cares(means, store, workers, pla)?;
+    let list = list_first_tasks(means.alloc, pla, mode)?;
     let tasks = Tasks {
         pla,
         cares: &cares,
         list: &list,
     };
-    let found = all_done(rt, alloc, store, pool, gate, workers, &tasks)?;
+    let found = run_tasks(means, store, workers, &tasks)?;
     Ok(First { cares, found })
 }

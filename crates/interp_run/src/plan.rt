@@ -8,26 +8,32 @@ use pla_reader::Pla;
 
 /// Phase 1 of a run on a description in a mode.
 #[derive(Drop)]
-struct FirstPhase<'a>(&'a Pla, Mode);
+struct FirstPlan<'a> {
+    pla: &'a Pla,
+    mode: Mode,
+}
 
-impl Planned for FirstPhase<'_> {
-    ghost families = { λ r. working_set r.0.now.inputs
-        (first_phase r.0.now.inputs r.0.now.outputs r.0.now.kind r.0.now.rows r.1) };
+impl Planned for FirstPlan<'_> {
+    ghost families = { λ r. working_set r.pla.now.inputs
+        (first_phase r.pla.now.inputs r.pla.now.outputs r.pla.now.kind r.pla.now.rows r.mode) };
 
-    ghost node_list = { λ r. working_set_is_node_list r.0.now.inputs
-        (first_phase r.0.now.inputs r.0.now.outputs r.0.now.kind r.0.now.rows r.1) };
+    ghost node_list = { λ r. working_set_is_node_list r.pla.now.inputs
+        (first_phase r.pla.now.inputs r.pla.now.outputs r.pla.now.kind r.pla.now.rows r.mode) };
 }
 
 /// A run on a description in a mode.
 #[derive(Drop)]
-struct ModeRun<'a>(&'a Pla, Mode);
+struct RunPlan<'a> {
+    pla: &'a Pla,
+    mode: Mode,
+}
 
-impl Planned for ModeRun<'_> {
-    ghost families = { λ r. working_set r.0.now.inputs
-        (second_phase r.0.now.inputs r.0.now.outputs r.0.now.kind r.0.now.rows r.1) };
+impl Planned for RunPlan<'_> {
+    ghost families = { λ r. working_set r.pla.now.inputs
+        (second_phase r.pla.now.inputs r.pla.now.outputs r.pla.now.kind r.pla.now.rows r.mode) };
 
-    ghost node_list = { λ r. working_set_is_node_list r.0.now.inputs
-        (second_phase r.0.now.inputs r.0.now.outputs r.0.now.kind r.0.now.rows r.1) };
+    ghost node_list = { λ r. working_set_is_node_list r.pla.now.inputs
+        (second_phase r.pla.now.inputs r.pla.now.outputs r.pla.now.kind r.pla.now.rows r.mode) };
 }
 
 /// The plan of phase 1 of a run on the description: its working set. It does nothing at run time.
@@ -35,7 +41,7 @@ pub fn first_plan(pla: &Pla, mode: Mode) -> Plan
     ensures { let p = pla.now in result.families
         ≡ working_set p.inputs (first_phase p.inputs p.outputs p.kind p.rows mode) }
 {
-    plan_of(&FirstPhase(pla, mode))
+    plan_of(&FirstPlan { pla, mode })
 }
 
 /// The plan of a run on the description: the working set of its last phase. It does nothing at run
@@ -44,5 +50,5 @@ pub fn run_plan(pla: &Pla, mode: Mode) -> Plan
     ensures { let p = pla.now in result.families
         ≡ working_set p.inputs (second_phase p.inputs p.outputs p.kind p.rows mode) }
 {
-    plan_of(&ModeRun(pla, mode))
+    plan_of(&RunPlan { pla, mode })
 }

@@ -1,53 +1,65 @@
 //! What is printed, from its diagrams.
-ghost use Rattle.std.specs.Prelude.{◌≡◌, ◌<◌, ◌≤◌, IfOk, IsErrOf, OnOk, map};
+ghost use Rattle.std.specs.Prelude.{◌≡◌, ◌<◌, ◌≤◌, IfOk, IsErrOf, OnOk, length, map, sum_by};
 ghost use Rattle.std.specs.List.{All};
 ghost use Rattle.anf_printer.specs.Text.{shown_answer};
-ghost use Rattle.interp_run.specs.Phases.{KnowsSolved, answer_in, second_terms};
+ghost use Rattle.interp_run.specs.Phases.{KnowsOutput, answer_in, by_output, second_terms};
 
-use crate::phases::{Solved, Stop};
+use crate::phases::Unsolved;
 use anf_printer::Shown;
-use node_store::Store;
+use lattice::Monos;
+use node_store::{Handle, Store};
 use run_parts::{lists_of, terms_of};
 use set_algebra::WalkRefusal;
 use std::alloc::Global;
 
-impl From<WalkRefusal> for Stop {
+impl From<WalkRefusal> for Unsolved {
     ghost use Rattle.set_algebra.specs.declared.counted.WalkRefusal.TheVariants as unlisted;
-    ghost use Rattle.interp_run.specs.declared.phases.Stop.TheVariants as stops;
+    ghost use Rattle.interp_run.specs.declared.phases.Unsolved.TheVariants as stops;
 
     ghost from_gives = { λ refusal e. (refusal ≡ unlisted.Over → e ≡ stops.Terms)
         × (refusal ≡ unlisted.Memory → e ≡ stops.Memory) };
 
     fn from(refusal: WalkRefusal) -> Self {
         match refusal {
-            WalkRefusal::Over => Stop::Terms,
-            WalkRefusal::Memory => Stop::Memory,
+            WalkRefusal::Over => Unsolved::Terms,
+            WalkRefusal::Memory => Unsolved::Memory,
         }
     }
 }
 
-/// What is printed of each output, where no more than `limit` terms are printed.
-pub(crate) fn shown_of<S: Store>(
+/// What is printed of each output, where no more than `limit` terms are printed: its polynomial,
+/// and of the elements as many as it has leads.
+pub(crate) fn list_shown<S: Store>(
     alloc: Global,
     store: &mut S,
-    solved: &[Solved],
+    polynomials: &[Handle],
+    leads: &[Monos],
+    elements: &[Handle],
     limit: u64,
-) -> Result<Vec<Shown>, Stop>
-    requires { All (KnowsSolved (S.state store.old)) solved.now }
+) -> Result<Vec<Shown>, Unsolved>
+    requires polynomials { length leads.now ≤ length polynomials.now }
+    requires elements { length elements.now ≡ sum_by length leads.now }
+    requires known { All (KnowsOutput (S.state store.old))
+        (by_output leads.now polynomials.now elements.now) }
     ensures shown { IfOk result (λ shown. map shown_answer shown.items
-        ≡ map (answer_in (S.state store.old)) solved.now) }
-    ensures within { OnOk result (second_terms (S.state store.old) solved.now ≤ limit) }
-    ensures terms { IsErrOf result Stop.Terms
-        → limit < second_terms (S.state store.old) solved.now }
-    ensures full { ¬ IsErrOf result Stop.Full }
+        ≡ map (answer_in (S.state store.old))
+        (by_output leads.now polynomials.now elements.now)) }
+    ensures within { OnOk result (second_terms (S.state store.old)
+        (by_output leads.now polynomials.now elements.now) ≤ limit) }
+    ensures terms { IsErrOf result Unsolved.Terms → limit < second_terms (S.state store.old)
+        (by_output leads.now polynomials.now elements.now) }
+    ensures full { ¬ IsErrOf result Unsolved.Full }
 {
     let mut left = limit;
+    let mut rest = elements;
     let mut shown = Vec::new(alloc);
-    for output in solved {
+    for index in 0..leads.len() {
+        let (basis, others) = rest.split_at(leads[index].len());
         shown.push(Shown {
-            poly: terms_of(alloc, store, output.polynomial, &mut left)?,
-            basis: lists_of(alloc, store, &output.basis, &mut left)?,
+            poly: terms_of(alloc, store, polynomials[index], &mut left)?,
+            basis: lists_of(alloc, store, basis, &mut left)?,
         })?;
+        rest = others;
     }
     Ok(shown)
 }

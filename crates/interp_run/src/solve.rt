@@ -11,26 +11,25 @@ ghost use Rattle.anf_printer.specs.Text.{shown_answer};
 ghost use Rattle.cli_words.specs.CommandLine.{IsWithin};
 ghost use Rattle.interp_run.specs.Answers.{AreAnswers, first_nodes, last_nodes};
 ghost use Rattle.interp_run.specs.Due.{IsDueSolving, silent, solved};
-ghost use Rattle.interp_run.specs.Parts.{EndsUnsolved, FirstFits, jobs_for, stopped_outcome};
+ghost use Rattle.interp_run.specs.Parts.{EndsUnsolved, FirstFits, jobs_for, unsolved_outcome};
 ghost use Rattle.interp_run.specs.Phases.{AreCares, AreLeads, ones_in, zeros_in};
 ghost use Rattle.interp_run.specs.declared.outcome.Outcome.TheVariants as outcomes;
 
 use crate::Outcome;
-use crate::bases::{lead_lists, no_leads, second_phase};
-use crate::phases::{Stop, first_phase};
+use crate::bases::{list_leads, list_no_leads, run_second_phase};
+use crate::means::Means;
+use crate::phases::{Unsolved, run_first_phase};
 use crate::plan::{first_plan, run_plan};
-use crate::printed::shown_of;
+use crate::printed::list_shown;
 use anf_printer::Shown;
 use cli_words::Job;
 use computed_cache::CachedPass;
 use fork_branches::Pool;
 use lattice::{MAX_VARS, Mode, MonoLists, Monos};
 use node_store::Store;
-use outside::Rendezvous;
 use pla_reader::Pla;
 use run_parts::{SMALL_BITS, first_bits};
 use set_algebra::{ValuedPoints, count_upto};
-use std::alloc::Global;
 use std::thread::Threads;
 use unique_table::Shared;
 
@@ -58,62 +57,58 @@ fn workers_on(job: &Job, bits: u32, is_last: bool) -> u32
 
 // The leads of each output in mode basis, where phase 1 fits 2^bits slots and its terms are within
 // the limit. Its table is given up.
-fn leads_on<R: Threads + Sync, P: Pool>(
-    rt: &R,
-    alloc: Global,
-    pool: &mut P,
-    gate: &Rendezvous,
+fn try_leads<R: Threads + Sync, P: Pool>(
+    means: &mut Means<'_, R, P>,
     pla: &Pla,
     job: &Job,
     bits: u32,
-) -> Result<MonoLists, Stop>
+) -> Result<MonoLists, Unsolved>
     requires basis { job.now.mode ≡ Basis }
     requires within { IsWithin job.now }
     requires bits { (MIN_BITS ≤ bits) × (bits ≤ job.now.nodes) }
-    requires room { P.done pool.old < 2 ^ 29 }
+    requires room { P.done means.old.pool.now < 2 ^ 29 }
     requires consistent { IsConsistent pla.now.inputs pla.now.outputs pla.now.rows }
+    ensures same_pool { means.new.pool.ghost_name ≡ means.old.pool.ghost_name }
     ensures leads { IfOk result (AreLeads (description pla.now) job.now.mode) }
     ensures fits { OnOk result (FirstFits job.now (description pla.now)) }
-    ensures full { IsErrOf result Stop.Full
+    ensures full { IsErrOf result Unsolved.Full
         → 2 ^ bits < first_nodes (description pla.now) job.now.mode }
-    ensures terms { IsErrOf result Stop.Terms
+    ensures terms { IsErrOf result Unsolved.Terms
         → IsDueSolving job.now (description pla.now) (silent (outcomes.Terms job.now.terms)) }
-    ensures most { P.done pool.new ≤ P.done pool.old + 2 ^ 24 }
+    ensures most { P.done means.new.pool.now ≤ P.done means.old.pool.now + 2 ^ 24 }
 {
-    let (table, token) = Shared::make(alloc, bits, pla.inputs, first_plan(pla, job.mode))?;
+    let (table, token) = Shared::make(means.alloc, bits, pla.inputs, first_plan(pla, job.mode))?;
     let mut pass = CachedPass::new(table.pass(token));
     let workers = workers_on(job, bits, false);
-    let first = first_phase(rt, alloc, &mut pass, pool, gate, workers, pla, job.mode)?;
-    lead_lists(alloc, &mut pass, pla, &first.found, job.terms)
+    let first = run_first_phase(means, &mut pass, workers, pla, job.mode)?;
+    list_leads(means.alloc, &mut pass, pla, &first.found, job.terms)
 }
 
 // The same from a table of 2^bits slots on, and the size of the table that sufficed.
-fn leads_found<R: Threads + Sync, P: Pool>(
-    rt: &R,
-    alloc: Global,
-    pool: &mut P,
-    gate: &Rendezvous,
+fn seek_leads<R: Threads + Sync, P: Pool>(
+    means: &mut Means<'_, R, P>,
     pla: &Pla,
     job: &Job,
     bits: u32,
-) -> Result<(MonoLists, u32), Stop>
+) -> Result<(MonoLists, u32), Unsolved>
     requires basis { job.now.mode ≡ Basis }
     requires within { IsWithin job.now }
     requires bits { (MIN_BITS ≤ bits) × (bits ≤ job.now.nodes) }
-    requires room { P.done pool.old < 2 ^ 28 }
+    requires room { P.done means.old.pool.now < 2 ^ 28 }
     requires consistent { IsConsistent pla.now.inputs pla.now.outputs pla.now.rows }
+    ensures same_pool { means.new.pool.ghost_name ≡ means.old.pool.ghost_name }
     ensures leads { IfOk result (λ r. AreLeads (description pla.now) job.now.mode r.0) }
     ensures bits { IfOk result (λ r. (MIN_BITS ≤ r.1) × (r.1 ≤ job.now.nodes)) }
     ensures fits { OnOk result (FirstFits job.now (description pla.now)) }
-    ensures full { IsErrOf result Stop.Full
+    ensures full { IsErrOf result Unsolved.Full
         → 2 ^ job.now.nodes < first_nodes (description pla.now) job.now.mode }
-    ensures terms { IsErrOf result Stop.Terms
+    ensures terms { IsErrOf result Unsolved.Terms
         → IsDueSolving job.now (description pla.now) (silent (outcomes.Terms job.now.terms)) }
-    ensures most { P.done pool.new ≤ P.done pool.old + 2 ^ 25 }
+    ensures most { P.done means.new.pool.now ≤ P.done means.old.pool.now + 2 ^ 25 }
 {
-    match leads_on(rt, alloc, pool, gate, pla, job, bits) {
-        Err(Stop::Full) if bits < job.nodes => {
-            let leads = leads_on(rt, alloc, pool, gate, pla, job, job.nodes)?;
+    match try_leads(means, pla, job, bits) {
+        Err(Unsolved::Full) if bits < job.nodes => {
+            let leads = try_leads(means, pla, job, job.nodes)?;
             Ok((leads, job.nodes))
         }
         leads => Ok((leads?, bits)),
@@ -121,7 +116,7 @@ fn leads_found<R: Threads + Sync, P: Pool>(
 }
 
 // How many care points there are.
-fn points_of<S: Store>(store: &mut S, pla: &Pla, output: u32, care: ValuedPoints) -> u64
+fn count_points<S: Store>(store: &mut S, pla: &Pla, output: u32, care: ValuedPoints) -> u64
     requires zeros { Denotes (S.state store.old) care.zeros
         (zeros_in (description pla.now) output) }
     requires ones { Denotes (S.state store.old) care.ones (ones_in (description pla.now) output) }
@@ -136,105 +131,105 @@ fn points_of<S: Store>(store: &mut S, pla: &Pla, output: u32, care: ValuedPoints
 }
 
 // In mode gen, how many care points the first output has.
-fn points_counted<S: Store>(store: &mut S, pla: &Pla, mode: Mode, cares: &[ValuedPoints]) -> u64
+fn count_first_points<S: Store>(store: &mut S, pla: &Pla, mode: Mode, cares: &[ValuedPoints]) -> u64
     requires { AreCares (S.state store.old) (description pla.now) pla.now.outputs cares.now }
     ensures reads { Reads (S.state store.old) (S.state store.new) }
     ensures count { let d = description pla.now in mode ≡ Gen
         → result ≡ length (zeros_in d 1) + length (ones_in d 1) }
 {
     match mode {
-        Mode::Gen => points_of(store, pla, 1, cares[0]),
+        Mode::Gen => count_points(store, pla, 1, cares[0]),
         Mode::Anf | Mode::Basis | Mode::Check => 0,
     }
 }
 
 // The solution, where all phases fit 2^bits slots and its terms are within the limit. In mode basis
 // phase 1 is known to be within its own limits, and its families are built again.
-fn solution_on<R: Threads + Sync, P: Pool>(
-    rt: &R,
-    alloc: Global,
-    pool: &mut P,
-    gate: &Rendezvous,
+fn try_solution<R: Threads + Sync, P: Pool>(
+    means: &mut Means<'_, R, P>,
     pla: &Pla,
     job: &Job,
     leads: &[Monos],
     bits: u32,
-) -> Result<Solution, Stop>
+) -> Result<Solution, Unsolved>
     requires within { IsWithin job.now }
     requires bits { (MIN_BITS ≤ bits) × (bits ≤ job.now.nodes) }
-    requires room { P.done pool.old < 2 ^ 29 }
+    requires room { P.done means.old.pool.now < 2 ^ 29 }
     requires consistent { IsConsistent pla.now.inputs pla.now.outputs pla.now.rows }
     requires leads { AreLeads (description pla.now) job.now.mode leads.now }
     requires fits { is_basis job.now.mode ≡ true → FirstFits job.now (description pla.now) }
+    ensures same_pool { means.new.pool.ghost_name ≡ means.old.pool.ghost_name }
     ensures points { IfOk result (λ s. let d = description pla.now in job.now.mode ≡ Gen
         → s.points ≡ length (zeros_in d 1) + length (ones_in d 1)) }
     ensures ok { IfOk result (λ s. AreAnswers (description pla.now) job.now.mode
         (map shown_answer s.shown.items)
         × IsDueSolving job.now (description pla.now)
         (solved job.now (description pla.now) (map shown_answer s.shown.items))) }
-    ensures jobs { IfOk result (λ s. P.done pool.old
-        + jobs_for job.now.mode (map shown_answer s.shown.items) ≤ P.done pool.new) }
-    ensures full { IsErrOf result Stop.Full
+    ensures jobs { IfOk result (λ s. P.done means.old.pool.now
+        + jobs_for job.now.mode (map shown_answer s.shown.items) ≤ P.done means.new.pool.now) }
+    ensures full { IsErrOf result Unsolved.Full
         → 2 ^ bits < last_nodes (description pla.now) job.now.mode }
-    ensures terms { IsErrOf result Stop.Terms
+    ensures terms { IsErrOf result Unsolved.Terms
         → IsDueSolving job.now (description pla.now) (silent (outcomes.Terms job.now.terms)) }
-    ensures least { P.done pool.old ≤ P.done pool.new }
-    ensures most { P.done pool.new ≤ P.done pool.old + 2 ^ 25 }
+    ensures least { P.done means.old.pool.now ≤ P.done means.new.pool.now }
+    ensures most { P.done means.new.pool.now ≤ P.done means.old.pool.now + 2 ^ 25 }
 {
-    let (table, token) = Shared::make(alloc, bits, pla.inputs, run_plan(pla, job.mode))?;
+    let (table, token) = Shared::make(means.alloc, bits, pla.inputs, run_plan(pla, job.mode))?;
     let mut pass = CachedPass::new(table.pass(token));
     let workers = workers_on(job, bits, job.mode != Mode::Basis);
-    let first = first_phase(rt, alloc, &mut pass, pool, gate, workers, pla, job.mode)?;
-    let points = points_counted(&mut pass, pla, job.mode, &first.cares);
-    let solved = second_phase(
-        rt,
-        alloc,
+    let first = run_first_phase(means, &mut pass, workers, pla, job.mode)?;
+    let points = count_first_points(&mut pass, pla, job.mode, &first.cares);
+    let elements = run_second_phase(
+        means,
         &mut pass,
-        pool,
-        gate,
         workers_on(job, bits, true),
         pla,
         job.mode,
         &first,
         leads,
     )?;
-    let shown = shown_of(alloc, &mut pass, &solved, job.terms)?;
+    let shown = list_shown(
+        means.alloc,
+        &mut pass,
+        &first.found,
+        leads,
+        &elements,
+        job.terms,
+    )?;
     Ok(Solution { points, shown })
 }
 
 // The same from a table of 2^bits slots on.
-fn solution_found<R: Threads + Sync, P: Pool>(
-    rt: &R,
-    alloc: Global,
-    pool: &mut P,
-    gate: &Rendezvous,
+fn seek_solution<R: Threads + Sync, P: Pool>(
+    means: &mut Means<'_, R, P>,
     pla: &Pla,
     job: &Job,
     leads: &[Monos],
     bits: u32,
-) -> Result<Solution, Stop>
+) -> Result<Solution, Unsolved>
     requires within { IsWithin job.now }
     requires bits { (MIN_BITS ≤ bits) × (bits ≤ job.now.nodes) }
-    requires room { P.done pool.old < 2 ^ 28 }
+    requires room { P.done means.old.pool.now < 2 ^ 28 }
     requires consistent { IsConsistent pla.now.inputs pla.now.outputs pla.now.rows }
     requires leads { AreLeads (description pla.now) job.now.mode leads.now }
     requires fits { is_basis job.now.mode ≡ true → FirstFits job.now (description pla.now) }
+    ensures same_pool { means.new.pool.ghost_name ≡ means.old.pool.ghost_name }
     ensures points { IfOk result (λ s. let d = description pla.now in job.now.mode ≡ Gen
         → s.points ≡ length (zeros_in d 1) + length (ones_in d 1)) }
     ensures ok { IfOk result (λ s. AreAnswers (description pla.now) job.now.mode
         (map shown_answer s.shown.items)
         × IsDueSolving job.now (description pla.now)
         (solved job.now (description pla.now) (map shown_answer s.shown.items))) }
-    ensures jobs { IfOk result (λ s. P.done pool.old
-        + jobs_for job.now.mode (map shown_answer s.shown.items) ≤ P.done pool.new) }
-    ensures full { IsErrOf result Stop.Full
+    ensures jobs { IfOk result (λ s. P.done means.old.pool.now
+        + jobs_for job.now.mode (map shown_answer s.shown.items) ≤ P.done means.new.pool.now) }
+    ensures full { IsErrOf result Unsolved.Full
         → 2 ^ job.now.nodes < last_nodes (description pla.now) job.now.mode }
-    ensures terms { IsErrOf result Stop.Terms
+    ensures terms { IsErrOf result Unsolved.Terms
         → IsDueSolving job.now (description pla.now) (silent (outcomes.Terms job.now.terms)) }
 {
-    match solution_on(rt, alloc, pool, gate, pla, job, leads, bits) {
-        Err(Stop::Full) if bits < job.nodes => {
-            solution_on(rt, alloc, pool, gate, pla, job, leads, job.nodes)
+    match try_solution(means, pla, job, leads, bits) {
+        Err(Unsolved::Full) if bits < job.nodes => {
+            try_solution(means, pla, job, leads, job.nodes)
         }
         solution => solution,
     }
@@ -242,61 +237,59 @@ fn solution_found<R: Threads + Sync, P: Pool>(
 
 // The leads of each output, which are none but in mode basis, and the size of the table to go on
 // with.
-fn first_leads<R: Threads + Sync, P: Pool>(
-    rt: &R,
-    alloc: Global,
-    pool: &mut P,
-    gate: &Rendezvous,
+fn prepare_leads<R: Threads + Sync, P: Pool>(
+    means: &mut Means<'_, R, P>,
     pla: &Pla,
     job: &Job,
-) -> Result<(MonoLists, u32), Stop>
+) -> Result<(MonoLists, u32), Unsolved>
     requires within { IsWithin job.now }
-    requires room { P.done pool.old < 2 ^ 28 }
+    requires room { P.done means.old.pool.now < 2 ^ 28 }
     requires consistent { IsConsistent pla.now.inputs pla.now.outputs pla.now.rows }
+    ensures same_pool { means.new.pool.ghost_name ≡ means.old.pool.ghost_name }
     ensures leads { IfOk result (λ r. AreLeads (description pla.now) job.now.mode r.0) }
     ensures bits { IfOk result (λ r. (MIN_BITS ≤ r.1) × (r.1 ≤ job.now.nodes)) }
     ensures fits { OnOk result (is_basis job.now.mode ≡ true
         → FirstFits job.now (description pla.now)) }
-    ensures full { IsErrOf result Stop.Full
+    ensures full { IsErrOf result Unsolved.Full
         → 2 ^ job.now.nodes < first_nodes (description pla.now) job.now.mode }
-    ensures terms { IsErrOf result Stop.Terms
+    ensures terms { IsErrOf result Unsolved.Terms
         → IsDueSolving job.now (description pla.now) (silent (outcomes.Terms job.now.terms)) }
-    ensures most { P.done pool.new ≤ P.done pool.old + 2 ^ 25 }
+    ensures most { P.done means.new.pool.now ≤ P.done means.old.pool.now + 2 ^ 25 }
 {
     let bits = first_bits(pla, job.nodes, job.mode == Mode::Basis);
     match job.mode {
-        Mode::Basis => leads_found(rt, alloc, pool, gate, pla, job, bits),
-        Mode::Anf | Mode::Check | Mode::Gen => Ok((no_leads(alloc, pla.outputs)?, bits)),
+        Mode::Basis => seek_leads(means, pla, job, bits),
+        Mode::Anf | Mode::Check | Mode::Gen => Ok((list_no_leads(means.alloc, pla.outputs)?, bits)),
     }
 }
 
-// How a run ends that stopped without its answers.
-fn stopped(stop: Stop, job: &Job) -> Outcome
-    requires { job.now.nodes ≤ MAX_BITS }
-    ensures { result ≡ stopped_outcome job.now stop }
-{
-    match stop {
-        Stop::Full => Outcome::Exhausted {
-            nodes: 1 << job.nodes,
-        },
-        Stop::Terms => Outcome::Terms { limit: job.terms },
-        Stop::Memory => Outcome::Memory,
+impl Unsolved {
+    // How the run of the job ends.
+    fn outcome(self, job: &Job) -> Outcome
+        requires { job.now.nodes ≤ MAX_BITS }
+        ensures { result ≡ unsolved_outcome job.now self }
+    {
+        match self {
+            Unsolved::Full => Outcome::Exhausted {
+                nodes: 1 << job.nodes,
+            },
+            Unsolved::Terms => Outcome::Terms { limit: job.terms },
+            Unsolved::Memory => Outcome::Memory,
+        }
     }
 }
 
 /// The solution of a consistent description, or how the run ends without it. The pool answers the
 /// jobs, which the job's number of workers run; their branches enter the gate.
 pub(crate) fn solve<R: Threads + Sync, P: Pool>(
-    rt: &R,
-    alloc: Global,
-    pool: &mut P,
-    gate: &Rendezvous,
+    means: &mut Means<'_, R, P>,
     pla: &Pla,
     job: &Job,
 ) -> Result<Solution, Outcome>
     requires within { IsWithin job.now }
-    requires fresh { P.done pool.old ≡ 0 }
+    requires fresh { P.done means.old.pool.now ≡ 0 }
     requires consistent { IsConsistent pla.now.inputs pla.now.outputs pla.now.rows }
+    ensures same_pool { means.new.pool.ghost_name ≡ means.old.pool.ghost_name }
     ensures points { IfOk result (λ s. let d = description pla.now in job.now.mode ≡ Gen
         → s.points ≡ length (zeros_in d 1) + length (ones_in d 1)) }
     ensures ok { IfOk result (λ s. AreAnswers (description pla.now) job.now.mode
@@ -304,16 +297,16 @@ pub(crate) fn solve<R: Threads + Sync, P: Pool>(
         × IsDueSolving job.now (description pla.now)
         (solved job.now (description pla.now) (map shown_answer s.shown.items))) }
     ensures jobs { IfOk result (λ s. jobs_for job.now.mode (map shown_answer s.shown.items)
-        ≤ P.done pool.new) }
+        ≤ P.done means.new.pool.now) }
     ensures err { IfErr result (EndsUnsolved job.now (description pla.now)) }
     ensures unfinished { IfErr result (λ o. o ≢ outcomes.Done) }
 {
-    let (leads, bits) = match first_leads(rt, alloc, pool, gate, pla, job) {
+    let (leads, bits) = match prepare_leads(means, pla, job) {
         Ok(found) => found,
-        Err(stop) => return Err(stopped(stop, job)),
+        Err(unsolved) => return Err(unsolved.outcome(job)),
     };
-    match solution_found(rt, alloc, pool, gate, pla, job, leads.as_slice(), bits) {
+    match seek_solution(means, pla, job, leads.as_slice(), bits) {
         Ok(solution) => Ok(solution),
-        Err(stop) => Err(stopped(stop, job)),
+        Err(unsolved) => Err(unsolved.outcome(job)),
     }
 }

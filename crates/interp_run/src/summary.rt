@@ -11,6 +11,7 @@ ghost use Rattle.interp_run.specs.Parts.{EndsWithout};
 ghost use Rattle.interp_run.specs.declared.outcome.Outcome.TheVariants as outcomes;
 
 use crate::Outcome;
+use crate::means::Means;
 use crate::solve::solve;
 use anf_printer::Shown;
 use cli_words::Job;
@@ -18,7 +19,6 @@ use fork_branches::Pool;
 use gen_pla::generate;
 use itoa::Buffer;
 use lattice::{Memory, Text};
-use outside::Rendezvous;
 use std::alloc::{AllocError, Global};
 use std::thread::Threads;
 
@@ -44,8 +44,8 @@ fn push_line(text: &mut Vec<u8>, output: u64, terms: u64) -> Result<(), AllocErr
     Ok(())
 }
 
-// The first line of a summary.
-fn points_line(alloc: Global, points: u64) -> Result<Vec<u8>, AllocError>
+// A summary with its first line.
+fn begin_summary(alloc: Global, points: u64) -> Result<Vec<u8>, AllocError>
     ensures { IfOk result (λ text. text.items ≡ codes "points " ++ decimal points ++ codes "\n") }
 {
     let mut text = Vec::new(alloc);
@@ -56,12 +56,12 @@ fn points_line(alloc: Global, points: u64) -> Result<Vec<u8>, AllocError>
 }
 
 // The summary of these answers.
-fn summary_text(alloc: Global, points: u64, shown: &[Shown]) -> Result<Text, Memory>
+fn print_summary(alloc: Global, points: u64, shown: &[Shown]) -> Result<Text, Memory>
     requires few { length shown.now ≤ 64 }
     ensures { IfOk result (λ text. text ≡ codes "points " ++ decimal points ++ codes "\n"
         ++ flat_map summary_line (enumerate_from 1 (map shown_answer shown.now))) }
 {
-    let mut text = points_line(alloc, points)?;
+    let mut text = begin_summary(alloc, points)?;
     for (before, output) in shown.iter().enumerate() {
         push_line(
             &mut text,
@@ -73,27 +73,25 @@ fn summary_text(alloc: Global, points: u64, shown: &[Shown]) -> Result<Text, Mem
 }
 
 /// The summary of the description that the job's seed makes, or how the run ends without it.
-pub(crate) fn summary_of<R: Threads + Sync, P: Pool>(
-    rt: &R,
-    alloc: Global,
-    pool: &mut P,
-    gate: &Rendezvous,
+pub(crate) fn summarize<R: Threads + Sync, P: Pool>(
+    means: &mut Means<'_, R, P>,
     job: &Job,
 ) -> Result<Text, Outcome>
     requires mode { job.now.mode ≡ Gen }
     requires within { IsWithin job.now }
-    requires fresh { P.done pool.old ≡ 0 }
+    requires fresh { P.done means.old.pool.now ≡ 0 }
+    ensures same_pool { means.new.pool.ghost_name ≡ means.old.pool.ghost_name }
     ensures ok { IfOk result (λ text. (bytes : List ℕ)
         → IsDue job.now bytes (record { outcome = outcomes.Done; pages = text ∷ []; notes = [] })) }
-    ensures jobs { OnOk result (2 ≤ P.done pool.new) }
+    ensures jobs { OnOk result (2 ≤ P.done means.new.pool.now) }
     ensures unfinished { IfErr result (λ o. o ≢ outcomes.Done) }
     ensures err { IfErr result (λ o. (bytes : List ℕ) → EndsWithout job.now bytes o) }
 {
-    let Ok(pla) = generate(alloc, job.seed) else {
+    let Ok(pla) = generate(means.alloc, job.seed) else {
         return Err(Outcome::Memory);
     };
-    let solution = solve(rt, alloc, pool, gate, &pla, job)?;
-    match summary_text(alloc, solution.points, &solution.shown) {
+    let solution = solve(means, &pla, job)?;
+    match print_summary(means.alloc, solution.points, &solution.shown) {
         Ok(text) => Ok(text),
         Err(Memory) => Err(Outcome::Memory),
     }

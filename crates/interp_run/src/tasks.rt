@@ -12,18 +12,17 @@ ghost use Rattle.pla_reader.specs.Reading.{description};
 ghost use Rattle.interp_run.specs.Phases.{AreCares, AreDone, IsPart, IsTask, element_list, jobs_of};
 ghost use Rattle.interp_run.specs.Phases.{no_task, part_family, part_list, task_family, task_list};
 
-use crate::phases::Stop;
+use crate::means::Means;
+use crate::phases::Unsolved;
 use bool_poly::SetOps;
 use computed_cache::CachedPass;
 use fork_branches::{Jobs, Pool};
 use interp_lex::least;
 use lattice::Mono;
 use node_store::{Full, Handle, Store};
-use outside::Rendezvous;
 use pla_reader::Pla;
 use run_parts::leads_of_points;
 use set_algebra::ValuedPoints;
-use std::alloc::Global;
 use std::thread::Threads;
 use vanish_basis::basis_element;
 
@@ -58,7 +57,7 @@ pub(crate) struct Tasks<'a> {
 }
 
 // The leads of the care points.
-fn leads_on<S: Store, O: SetOps<S>>(
+fn find_leads<S: Store, O: SetOps<S>>(
     store: &mut S,
     ops: &mut O,
     care: ValuedPoints,
@@ -80,7 +79,7 @@ fn leads_on<S: Store, O: SetOps<S>>(
 }
 
 // The element with a lead of the care points.
-fn element_on<S: Store, O: SetOps<S>>(
+fn find_element<S: Store, O: SetOps<S>>(
     store: &mut S,
     ops: &mut O,
     care: ValuedPoints,
@@ -106,7 +105,7 @@ fn element_on<S: Store, O: SetOps<S>>(
 }
 
 // A part of the answer on the care points.
-fn part_on<S: Store, O: SetOps<S>>(
+fn find_part<S: Store, O: SetOps<S>>(
     store: &mut S,
     ops: &mut O,
     care: ValuedPoints,
@@ -130,8 +129,8 @@ fn part_on<S: Store, O: SetOps<S>>(
 {
     match part {
         Part::Polynomial => least(store, ops, care.zeros, care.ones),
-        Part::Leads => leads_on(store, ops, care),
-        Part::Element { lead } => element_on(store, ops, care, lead),
+        Part::Leads => find_leads(store, ops, care),
+        Part::Element { lead } => find_element(store, ops, care, lead),
     }
 }
 
@@ -158,7 +157,7 @@ impl Tasks<'_> {
         ensures ready { O.ready ops.new }
     {
         let task = self.list[number];
-        part_on(store, ops, self.cares[task.output as usize - 1], task.part)
+        find_part(store, ops, self.cares[task.output as usize - 1], task.part)
     }
 }
 
@@ -179,18 +178,15 @@ impl Jobs for Tasks<'_> {
     }
 }
 
-/// What each of the tasks finds, as jobs of the pool, which so many workers run.
-pub(crate) fn all_done<R: Threads + Sync, P: Pool>(
-    rt: &R,
-    alloc: Global,
+/// Runs the tasks as jobs of the pool, by so many workers: what each of them finds.
+pub(crate) fn run_tasks<R: Threads + Sync, P: Pool>(
+    means: &mut Means<'_, R, P>,
     store: &mut CachedPass,
-    pool: &mut P,
-    gate: &Rendezvous,
     workers: u32,
     tasks: &Tasks,
-) -> Result<Vec<Handle>, Stop>
+) -> Result<Vec<Handle>, Unsolved>
     requires workers { (1 ≤ workers) × (workers ≤ 16) }
-    requires room { P.done pool.old < 2 ^ 30 }
+    requires room { P.done means.old.pool.now < 2 ^ 30 }
     requires vars { (cached_state store.old).vars ≡ tasks.now.pla.now.inputs }
     requires cares { AreCares (cached_state store.old) (description tasks.now.pla.now)
         tasks.now.pla.now.outputs tasks.now.cares.now }
@@ -200,12 +196,18 @@ pub(crate) fn all_done<R: Threads + Sync, P: Pool>(
     ensures grows { Grows (cached_state store.old) (cached_state store.new) }
     ensures done { IfOk result (λ found. AreDone (cached_state store.new)
         (description tasks.now.pla.now) tasks.now.list.now found.items) }
-    ensures jobs { OnOk result (P.done pool.old + length tasks.now.list.now ≤ P.done pool.new) }
-    ensures least { P.done pool.old ≤ P.done pool.new }
-    ensures most { P.done pool.new ≤ P.done pool.old + length tasks.now.list.now }
-    ensures full { IsErrOf result Stop.Full
+    ensures same_pool { means.new.pool.ghost_name ≡ means.old.pool.ghost_name }
+    ensures jobs { OnOk result (P.done means.old.pool.now + length tasks.now.list.now
+        ≤ P.done means.new.pool.now) }
+    ensures least { P.done means.old.pool.now ≤ P.done means.new.pool.now }
+    ensures most { P.done means.new.pool.now
+        ≤ P.done means.old.pool.now + length tasks.now.list.now }
+    ensures full { IsErrOf result Unsolved.Full
         → IsFull (cached_state store.old) (cached_state store.new) }
-    ensures counted { ¬ IsErrOf result Stop.Terms }
+    ensures counted { ¬ IsErrOf result Unsolved.Terms }
 {
-    Ok(pool.all(rt, alloc, store, tasks, gate, workers)?)
+    let found = means
+        .pool
+        .all(means.rt, means.alloc, store, tasks, means.gate, workers)?;
+    Ok(found)
 }

@@ -17,8 +17,9 @@ ghost use Rattle.interp_run.specs.declared.outcome.Outcome.TheVariants as outcom
 
 use crate::Outcome;
 use crate::answer::answer_of;
-use crate::judge::{outcome_after, text_of, verdict_of};
-use crate::summary::summary_of;
+use crate::judge::{end_after, judge, print_verdict};
+use crate::means::Means;
+use crate::summary::summarize;
 use cli_words::{Job, WordsRefusal, read_words};
 use fork_branches::Pool;
 use lattice::{Mode, Text, Words};
@@ -57,11 +58,8 @@ fn write_pages<K: Sink>(
 }
 
 // Solves the description, and writes the answer.
-fn solved<R: Threads + Sync, K: Sink, P: Pool>(
-    rt: &R,
-    alloc: Global,
-    pool: &mut P,
-    gate: &Rendezvous,
+fn write_answer<R: Threads + Sync, K: Sink, P: Pool>(
+    means: &mut Means<'_, R, P>,
     job: &Job,
     bytes: &[u8],
     out: &mut K,
@@ -69,20 +67,21 @@ fn solved<R: Threads + Sync, K: Sink, P: Pool>(
 ) -> Outcome
     requires mode { (job.now.mode ≡ Anf) ⊎ (job.now.mode ≡ Basis) }
     requires within { IsWithin job.now }
-    requires fresh { P.done pool.old ≡ 0 }
+    requires fresh { P.done means.old.pool.now ≡ 0 }
     requires untold { All (λ s. s.told ≡ []) (states_by told patience watchers.old.items) }
+    ensures same_pool { means.new.pool.ghost_name ≡ means.old.pool.ghost_name }
     ensures read { (result ≢ outcomes.Usage) × (result ≢ outcomes.ReadFault) }
     ensures write { result ≡ outcomes.WriteFault → Rose (K.faults out.old) (K.faults out.new) }
     ensures jobs { (whole : List ℕ) (due : Due) → bytes.now ≡ take (MOST_BYTES + 1) whole
         → IsDue job.now whole due → (result ≡ outcomes.Done) ⊎ (result ≡ outcomes.WriteFault)
-        → least_jobs job.now.mode due.notes ≤ P.done pool.new }
+        → least_jobs job.now.mode due.notes ≤ P.done means.new.pool.now }
     ensures ends { (words : List (List ℕ)) (whole : List ℕ) → IsAsked words job.now
         → bytes.now ≡ take (MOST_BYTES + 1) whole
         → Ends words whole (K.held out.old) (K.held out.new)
         (states_by told patience watchers.old.items) (states_by told patience watchers.new.items)
         result }
 {
-    let answer = match answer_of(rt, alloc, job, pool, bytes, gate) {
+    let answer = match answer_of(means.rt, means.alloc, job, means.pool, bytes, means.gate) {
         Ok(answer) => answer,
         Err(outcome) => return outcome,
     };
@@ -98,7 +97,7 @@ fn solved<R: Threads + Sync, K: Sink, P: Pool>(
 }
 
 // Judges the answer that stands after the description, and writes the verdict.
-fn judged<K: Sink>(alloc: Global, job: &Job, bytes: &[u8], out: &mut K) -> Outcome
+fn write_verdict<K: Sink>(alloc: Global, job: &Job, bytes: &[u8], out: &mut K) -> Outcome
     requires mode { job.now.mode ≡ Check }
     ensures read { (result ≢ outcomes.Usage) × (result ≢ outcomes.ReadFault) }
     ensures write { result ≡ outcomes.WriteFault → Rose (K.faults out.old) (K.faults out.new) }
@@ -106,36 +105,35 @@ fn judged<K: Sink>(alloc: Global, job: &Job, bytes: &[u8], out: &mut K) -> Outco
         → IsAsked words job.now → bytes.now ≡ take (MOST_BYTES + 1) whole
         → Ends words whole (K.held out.old) (K.held out.new) states states result }
 {
-    let verdict = match verdict_of(alloc, job, bytes) {
+    let verdict = match judge(alloc, job, bytes) {
         Ok(verdict) => verdict,
         Err(outcome) => return outcome,
     };
-    match write_whole(out, text_of(verdict).as_str().as_bytes()) {
-        Ok(()) => outcome_after(verdict),
+    match write_whole(out, print_verdict(verdict).as_str().as_bytes()) {
+        Ok(()) => end_after(verdict),
         Err(Failed) => Outcome::WriteFault,
     }
 }
 
 // Solves the description that the job's seed makes, and writes the summary.
-fn summed<R: Threads + Sync, K: Sink, P: Pool>(
-    rt: &R,
-    alloc: Global,
-    pool: &mut P,
-    gate: &Rendezvous,
+fn write_summary<R: Threads + Sync, K: Sink, P: Pool>(
+    means: &mut Means<'_, R, P>,
     job: &Job,
     out: &mut K,
 ) -> Outcome
     requires mode { job.now.mode ≡ Gen }
     requires within { IsWithin job.now }
-    requires fresh { P.done pool.old ≡ 0 }
+    requires fresh { P.done means.old.pool.now ≡ 0 }
+    ensures same_pool { means.new.pool.ghost_name ≡ means.old.pool.ghost_name }
     ensures read { (result ≢ outcomes.Usage) × (result ≢ outcomes.ReadFault) }
     ensures write { result ≡ outcomes.WriteFault → Rose (K.faults out.old) (K.faults out.new) }
-    ensures jobs { (result ≡ outcomes.Done) ⊎ (result ≡ outcomes.WriteFault) → 2 ≤ P.done pool.new }
+    ensures jobs { (result ≡ outcomes.Done) ⊎ (result ≡ outcomes.WriteFault)
+        → 2 ≤ P.done means.new.pool.now }
     ensures ends { (words : List (List ℕ)) (whole : List ℕ) (states : List WatcherState)
         → IsAsked words job.now
         → Ends words whole (K.held out.old) (K.held out.new) states states result }
 {
-    let text = match summary_of(rt, alloc, pool, gate, job) {
+    let text = match summarize(means, job) {
         Ok(text) => text,
         Err(outcome) => return outcome,
     };
@@ -146,20 +144,18 @@ fn summed<R: Threads + Sync, K: Sink, P: Pool>(
 }
 
 // Reads the source, and solves its description or judges the answer behind it.
-fn of_source<R: Threads + Sync, S: Source, K: Sink, P: Pool>(
-    rt: &R,
-    alloc: Global,
+fn work_on_source<R: Threads + Sync, S: Source, K: Sink, P: Pool>(
+    means: &mut Means<'_, R, P>,
     job: &Job,
     source: &mut S,
     out: &mut K,
-    pool: &mut P,
-    gate: &Rendezvous,
     watchers: &mut Vec<Box<dyn Watch>>,
 ) -> Outcome
     requires mode { is_gen job.now.mode ≡ false }
     requires within { IsWithin job.now }
-    requires fresh { P.done pool.old ≡ 0 }
+    requires fresh { P.done means.old.pool.now ≡ 0 }
     requires untold { All (λ s. s.told ≡ []) (states_by told patience watchers.old.items) }
+    ensures same_pool { means.new.pool.ghost_name ≡ means.old.pool.ghost_name }
     ensures ran { (words : List (List ℕ)) → IsAsked words job.now
         → Ran words (S.left source.old) (K.held out.old) (K.held out.new)
         (states_by told patience watchers.old.items) (states_by told patience watchers.new.items)
@@ -170,34 +166,32 @@ fn of_source<R: Threads + Sync, S: Source, K: Sink, P: Pool>(
     ensures jobs { (whole : List ℕ) (due : Due) → S.left source.old ≡ Some whole
         → IsDue job.now whole due → job.now.mode ≢ Check
         → (result ≡ outcomes.Done) ⊎ (result ≡ outcomes.WriteFault)
-        → least_jobs job.now.mode due.notes ≤ P.done pool.new }
+        → least_jobs job.now.mode due.notes ≤ P.done means.new.pool.now }
     ensures few { LosesAtMost (S.left source.old) (S.left source.new) (MOST_BYTES + 1) }
 {
-    let bytes = match read_up_to(alloc, source, MOST_BYTES + 1) {
+    let bytes = match read_up_to(means.alloc, source, MOST_BYTES + 1) {
         Ok(bytes) => bytes,
         Err(ReadStop::Fault) => return Outcome::ReadFault,
         Err(ReadStop::Memory) => return Outcome::Memory,
     };
     match job.mode {
-        Mode::Check => judged(alloc, job, &bytes, out),
-        Mode::Anf | Mode::Basis => solved(rt, alloc, pool, gate, job, &bytes, out, watchers),
+        Mode::Check => write_verdict(means.alloc, job, &bytes, out),
+        Mode::Anf | Mode::Basis => write_answer(means, job, &bytes, out, watchers),
         Mode::Gen => unreachable!(),
     }
 }
 
 // All but the line on err.
-fn outcome_of<R: Threads + Sync, S: Source, K: Sink, P: Pool>(
-    rt: &R,
-    alloc: Global,
+fn work_for_words<R: Threads + Sync, S: Source, K: Sink, P: Pool>(
+    means: &mut Means<'_, R, P>,
     words: &Words,
     source: &mut S,
     out: &mut K,
-    pool: &mut P,
-    gate: &Rendezvous,
     watchers: &mut Vec<Box<dyn Watch>>,
 ) -> Outcome
     requires untold { All (λ s. s.told ≡ []) (states_by told patience watchers.old.items) }
-    requires fresh { P.done pool.old ≡ 0 }
+    requires fresh { P.done means.old.pool.now ≡ 0 }
+    ensures same_pool { means.new.pool.ghost_name ≡ means.old.pool.ghost_name }
     ensures ran { Ran words.now (S.left source.old) (K.held out.old) (K.held out.new)
         (states_by told patience watchers.old.items) (states_by told patience watchers.new.items)
         result }
@@ -207,22 +201,22 @@ fn outcome_of<R: Threads + Sync, S: Source, K: Sink, P: Pool>(
         → (S.left source.old ≡ Some bytes) ⊎ (job.mode ≡ Gen) → IsDue job bytes due
         → job.mode ≢ Check
         → (result ≡ outcomes.Done) ⊎ (result ≡ outcomes.WriteFault)
-        → least_jobs job.mode due.notes ≤ P.done pool.new }
+        → least_jobs job.mode due.notes ≤ P.done means.new.pool.now }
     ensures few { LosesAtMost (S.left source.old) (S.left source.new) (MOST_BYTES + 1) }
     ensures untouched { result ≡ outcomes.Usage
         → (S.left source.new ≡ S.left source.old) × (S.faults source.new ≡ S.faults source.old) }
     ensures generated { (job : Job) → IsAsked words.now job → job.mode ≡ Gen
         → (S.left source.new ≡ S.left source.old) × (S.faults source.new ≡ S.faults source.old) }
 {
-    let job = match read_words(alloc, words) {
+    let job = match read_words(means.alloc, words) {
         Ok(job) => job,
         Err(WordsRefusal::Usage) => return Outcome::Usage,
         Err(WordsRefusal::Memory) => return Outcome::Memory,
     };
     match job.mode {
-        Mode::Gen => summed(rt, alloc, pool, gate, &job, out),
+        Mode::Gen => write_summary(means, &job, out),
         Mode::Anf | Mode::Basis | Mode::Check => {
-            of_source(rt, alloc, &job, source, out, pool, gate, watchers)
+            work_on_source(means, &job, source, out, watchers)
         }
     }
 }
@@ -237,9 +231,10 @@ pub fn report<E: Sink>(err: &mut E, outcome: Outcome) -> u8
     outcome.status()
 }
 
-/// Does all that the program does, and answers its status. Each output is solved by the job's
-/// number of workers, whose branches enter the gate at their starts. The watchers are told of each
-/// output as soon as its text was written whole; those whose patience ends are dropped.
+/// Does all that the program does, and answers its status. The job's number of workers solve the
+/// outputs, and on a table of at most 2^12 slots, also one that the words ask for, two of them at
+/// most; their branches enter the gate at their starts. The watchers are told of each output as
+/// soon as its text was written whole; those whose patience ends are dropped.
 pub fn run<R: Threads + Sync, S: Source, K: Sink, E: Sink, P: Pool>(
     rt: &R,
     alloc: Global,
@@ -279,7 +274,8 @@ pub fn run<R: Threads + Sync, S: Source, K: Sink, E: Sink, P: Pool>(
     ensures read { result ≡ 8 → Rose (S.faults source.old) (S.faults source.new) }
     ensures write { result ≡ 9 → Rose (K.faults out.old) (K.faults out.new) }
 
-    // Where an answer was written, whole or in part, the pool answered the jobs that found it.
+    // Where an answer was written, whole or in part, the pool counts the jobs that find it, or
+    // more.
     ensures jobs { (job : Job) (bytes : List ℕ) (due : Due) → IsAsked words.now job
         → (S.left source.old ≡ Some bytes) ⊎ (job.mode ≡ Gen) → IsDue job bytes due
         → job.mode ≢ Check
@@ -297,6 +293,12 @@ pub fn run<R: Threads + Sync, S: Source, K: Sink, E: Sink, P: Pool>(
     ensures generated { (job : Job) → IsAsked words.now job → job.mode ≡ Gen
         → (S.left source.new ≡ S.left source.old) × (S.faults source.new ≡ S.faults source.old) }
 {
-    let outcome = outcome_of(rt, alloc, words, source, out, pool, gate, watchers);
+    let mut means = Means {
+        rt,
+        alloc,
+        pool,
+        gate,
+    };
+    let outcome = work_for_words(&mut means, words, source, out, watchers);
     report(err, outcome)
 }

@@ -21,7 +21,7 @@ returns-in-Ok-answer_text g c =
     let modes = solves_without_gen _ c.requires.mode in let jobs = told_jobs mode answers modes.1 in
     record {
       ok = rw (pages, notes) (solving d _ c.in_ok-pla.ensures.ok modes.0 (rw modes.1 at c.in_ok-solution.ensures.ok.1));
-      jobs = omega (arith, c.in_ok-solution.ensures.jobs, jobs, ap (least_jobs mode) notes);
+      jobs = grind (arith, c.in_ok-solution.ensures.jobs, jobs, ap (least_jobs mode) notes);
       few = counts_fit c.in_ok-pla.pla mode answers c.in-Ok-answer_text.pages c.in-Ok.notes c.in_ok-solution.ensures.ok.0 pages notes;
       err = tt;
     }
@@ -35,8 +35,8 @@ returns-in_err-solution-clause-err g c =
     c.from_residual-in_err-solution.ensures.1
     (unsolved_ends c.in_ok-pla.ensures.ok (solves_without_gen _ c.requires.mode).0 c.in_err-solution.ensures.err)
 
-pub returns-in_default-notes_of-clause-err : goal.returns-in_default-notes_of-clause-err
-returns-in_default-notes_of-clause-err g c = no_memory
+pub returns-in_default-make_notes-clause-err : goal.returns-in_default-make_notes-clause-err
+returns-in_default-make_notes-clause-err g c = no_memory
 
 pub returns-clause-err : goal.returns-clause-err
 returns-clause-err g c = no_memory

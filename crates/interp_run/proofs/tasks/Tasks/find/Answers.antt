@@ -10,8 +10,8 @@ pub bounds-self-task : goal.bounds-self-task
 bounds-self-task g c = let self = c.args.self.now in
     let is = self.are_tasks c.args.number c.index-self-number.result c.requires.below in omega (arith, is.first, is.last, self.many)
 
-pub part_on-requires : goal.part_on-requires
-part_on-requires g c =
+pub find_part-requires : goal.find_part-requires
+find_part-requires g c =
     let s = g.S.Store.state c.args.store.now in let self = c.args.self.now in
     let d = description self.pla.now in let task = get_or self.list.now c.args.number c.index-self-number.result in
     let p = get_or self.cares.now (task.output - 1) no_cares in
@@ -34,4 +34,4 @@ returns-clause-gives g c =
     let is = self.are_tasks c.args.number c.index-self-number.result c.requires.below in
     rw (get_or_default self.list.now c.args.number no_task c.index-self-number.result c.requires.below) (task_given s d task
     (get_or self.cares.now (task.output - 1) no_cares) c.requires.vars (care_of_task s d self.cares.now task c.requires.cares is)
-    c.part_on.ensures.gives)
+    c.find_part.ensures.gives)
