@@ -36,28 +36,27 @@ pub record Duty (Job E : Type 0) : Type 1 where
   pub reads : Job → Bool
   pub IsDue : Job → List ℕ → Due E → Type 0
 
-module _ {Job E : Type 0} (duty : Duty Job E) where
-  -- what is due for a job and all the bytes that a source has
-  pub data IsDueFor (job : Job) (bytes : List ℕ) : Due E → Type 0 where
-    unread : (due : Due E) → duty.reads job ≡ false → duty.IsDue job [] due → IsDueFor job bytes due
-    too_long : duty.reads job ≡ true → duty.limit < length bytes → IsDueFor job bytes (silent (ends.TooLong duty.limit))
-    within : (due : Due E) → duty.reads job ≡ true → length bytes ≤ duty.limit → duty.IsDue job bytes due → IsDueFor job bytes due
+-- what is due for a job and all the bytes that a source has
+pub data IsDueFor {Job E : Type 0} (duty : Duty Job E) (job : Job) (bytes : List ℕ) : Due E → Type 0 where
+  unread : (due : Due E) → duty.reads job ≡ false → duty.IsDue job [] due → IsDueFor duty job bytes due
+  too_long : duty.reads job ≡ true → duty.limit < length bytes → IsDueFor duty job bytes (silent (ends.TooLong duty.limit))
+  within : (due : Due E) → duty.reads job ≡ true → length bytes ≤ duty.limit → duty.IsDue job bytes due → IsDueFor duty job bytes due
 
-  -- what a program may say is due: no refusal of the words and no fault; texts and notes only with an answer
-  pub record IsOwed (due : Due E) : Type 0 where
-    pub usage : due.outcome ≢ ends.Usage
-    pub read : due.outcome ≢ ends.ReadFault
-    pub write : due.outcome ≢ ends.WriteFault
-    pub answer : HasText duty.way due.outcome ⊎ (due ≡ silent due.outcome)
+-- what a program may say is due: no refusal of the words and no fault; texts and notes only with an answer
+pub record IsOwed {Job E : Type 0} (duty : Duty Job E) (due : Due E) : Type 0 where
+  pub usage : due.outcome ≢ ends.Usage
+  pub read : due.outcome ≢ ends.ReadFault
+  pub write : due.outcome ≢ ends.WriteFault
+  pub answer : HasText duty.way due.outcome ⊎ (due ≡ silent due.outcome)
 
-  -- the words ask for one job at most, and one thing at most is due for it
-  pub record IsLawful : Type 0 where
-    pub apart : (words : List (List ℕ)) (job : Job) → duty.IsRefused words → ¬ duty.IsAsked words job
-    pub one_job : (words : List (List ℕ)) (a b : Job) → duty.IsAsked words a → duty.IsAsked words b → a ≡ b
-    pub one_due : (job : Job) (bytes : List ℕ) (a b : Due E) → duty.IsDue job bytes a → duty.IsDue job bytes b → a ≡ b
-    pub owed : (job : Job) (bytes : List ℕ) (due : Due E) → duty.IsDue job bytes due → IsOwed due
-    pub own : (e : E) → IsOwnStatus (duty.way e).status
+-- the words ask for one job at most, and one thing at most is due for it
+pub record IsLawful {Job E : Type 0} (duty : Duty Job E) : Type 0 where
+  pub apart : (words : List (List ℕ)) (job : Job) → duty.IsRefused words → ¬ duty.IsAsked words job
+  pub one_job : (words : List (List ℕ)) (a b : Job) → duty.IsAsked words a → duty.IsAsked words b → a ≡ b
+  pub one_due : (job : Job) (bytes : List ℕ) (a b : Due E) → duty.IsDue job bytes a → duty.IsDue job bytes b → a ≡ b
+  pub owed : (job : Job) (bytes : List ℕ) (due : Due E) → duty.IsDue job bytes due → IsOwed duty due
+  pub own : (e : E) → IsOwnStatus (duty.way e).status
 
-  -- one thing at most is due for a job and all bytes
-  abbrev pub OneIsDue : Type 0
-  OneIsDue = (job : Job) (bytes : List ℕ) (a b : Due E) → IsDueFor job bytes a → IsDueFor job bytes b → a ≡ b
+-- so one thing at most is due for a job and all bytes
+abbrev pub OneIsDue : {Job E : Type 0} → Duty Job E → Type 0
+OneIsDue {Job = Job} {E = E} duty = (job : Job) (bytes : List ℕ) (a b : Due E) → IsDueFor duty job bytes a → IsDueFor duty job bytes b → a ≡ b

@@ -25,25 +25,24 @@ pub data Answers {E : Type 0} (own : E → Way) (is_due earned : Due E → Type 
   cut_off : (due : Due E) → is_due due → HasText own due.outcome → GainsLess old new (concat due.pages)
       → TellsFirst old new due.pages due.notes before after → earned due → Answers own is_due earned old new before after ends.WriteFault
 
-module _ {Job E : Type 0} (duty : Duty Job E) where
-  -- words give no job: they are refused, or memory ran out while they were read
-  pub data GivesNoJob (words : List (List ℕ)) : Outcome E → Type 0 where
-    refused : duty.IsRefused words → GivesNoJob words ends.Usage
-    no_memory_for_words : duty.WordsTakeMemory → GivesNoJob words ends.Memory
+-- words give no job: they are refused, or memory ran out while they were read
+pub data GivesNoJob {Job E : Type 0} (duty : Duty Job E) (words : List (List ℕ)) : Outcome E → Type 0 where
+  refused : duty.IsRefused words → GivesNoJob duty words ends.Usage
+  no_memory_for_words : duty.WordsTakeMemory → GivesNoJob duty words ends.Memory
 
-  -- a run with these words on these bytes ends so
-  pub data Ends (earned : Job → Due E → Type 0) (words : List (List ℕ)) (bytes : List ℕ) (old new : Option (List ℕ))
-      (before after : List WatcherState) : Outcome E → Type 0 where
-    no_job : (o : Outcome E) → GivesNoJob words o → Keeps old new → after ≡ before → Ends earned words bytes old new before after o
-    read_fault : (job : Job) → duty.IsAsked words job → duty.reads job ≡ true → Keeps old new → after ≡ before
-        → Ends earned words bytes old new before after ends.ReadFault
-    answered : (job : Job) (o : Outcome E) → duty.IsAsked words job
-        → Answers duty.way (IsDueFor duty job bytes) (earned job) old new before after o
-        → Ends earned words bytes old new before after o
+-- a run with these words on these bytes ends so
+pub data Ends {Job E : Type 0} (duty : Duty Job E) (earned : Job → Due E → Type 0) (words : List (List ℕ)) (bytes : List ℕ)
+    (old new : Option (List ℕ)) (before after : List WatcherState) : Outcome E → Type 0 where
+  no_job : (o : Outcome E) → GivesNoJob duty words o → Keeps old new → after ≡ before → Ends duty earned words bytes old new before after o
+  read_fault : (job : Job) → duty.IsAsked words job → duty.reads job ≡ true → Keeps old new → after ≡ before
+      → Ends duty earned words bytes old new before after ends.ReadFault
+  answered : (job : Job) (o : Outcome E) → duty.IsAsked words job
+      → Answers duty.way (IsDueFor duty job bytes) (earned job) old new before after o
+      → Ends duty earned words bytes old new before after o
 
-  -- it ends so on some bytes: those that the source told, where it told them
-  pub record Ran (earned : Job → Due E → Type 0) (words : List (List ℕ)) (left old new : Option (List ℕ))
-      (before after : List WatcherState) (o : Outcome E) : Type 0 where
-    pub bytes : List ℕ
-    pub told : (all : List ℕ) → left ≡ Some all → bytes ≡ all
-    pub ended : Ends earned words bytes old new before after o
+-- it ends so on some bytes: those that the source told, where it told them
+pub record Ran {Job E : Type 0} (duty : Duty Job E) (earned : Job → Due E → Type 0) (words : List (List ℕ)) (left old new : Option (List ℕ))
+    (before after : List WatcherState) (o : Outcome E) : Type 0 where
+  pub bytes : List ℕ
+  pub told : (all : List ℕ) → left ≡ Some all → bytes ≡ all
+  pub ended : Ends duty earned words bytes old new before after o

@@ -3,6 +3,7 @@
 #![tactic(auto)]
 
 mod descriptions;
+pub mod laws;
 mod lines;
 mod outcome;
 mod pages;

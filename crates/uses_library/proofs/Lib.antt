@@ -1,2 +1,3 @@
 mod ListedPoints
 mod InMemory
+mod RowsCounted
