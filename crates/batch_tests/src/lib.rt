@@ -1,0 +1,6 @@
+//! Tests of the files of a stream and of what becomes of them, with a module for each crate that is
+//! tested.
+#![tactic(auto)]
+
+#[cfg(test)]
+mod of_file_stream;

@@ -1,0 +1,6 @@
+mod Begun
+mod Digests
+mod Joined
+mod Keeping
+mod Kept
+mod Words

@@ -1,0 +1,4 @@
+pub mod Files
+pub mod Digests
+pub mod Cutters
+pub mod Laws
