@@ -3,4 +3,6 @@
 #![tactic(auto)]
 
 #[cfg(test)]
+mod of_file_relay;
+#[cfg(test)]
 mod of_file_stream;

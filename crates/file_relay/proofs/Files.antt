@@ -1,0 +1,46 @@
+-- The files that were sent, when one more is.
+use Rattle.std.proofs.Common.{◌≡◌, ℕ, suc, ◌+◌, true, List, [], ◌∷◌, ◌++◌, length, refl, sym, ap, ◌∙◌, subst, append_assoc, append-nil}
+use Rattle.std.proofs.Common.{take, drop, take-append-drop, arith}
+use Rattle.std.specs.Prelude.{Result, Ok, Err, OnErr}
+use Rattle.file_stream.specs.Files.{files_of, IsFirstFile}
+use Rattle.file_relay.specs.Messages.{HasFile, HaveFiles, IsCut, has_no_end}
+use Rattle.file_relay.specs.Reading.{ArePartly}
+use Rattle.file_relay.specs.declared.message.Message.{Message}
+use Rattle.file_relay.specs.declared.message.Message.TheVariants.{File, End}
+
+-- one more file
+pub have-snoc : (n : ℕ) (ms : List Message) (fs : List (List ℕ)) (m : Message) (f : List ℕ) → HaveFiles n ms fs
+    → HasFile (n + length fs) m f
+    → HaveFiles n (ms ++ m ∷ []) (fs ++ f ∷ [])
+have-snoc n [] [] m f h k = let e : n + 0 ≡ n = omega arith in (subst (λ x. HasFile x m f) e k, tt)
+have-snoc n [] (g ∷ fs) m f h k = absurd h
+have-snoc n (x ∷ ms) [] m f h k = absurd h
+have-snoc n (x ∷ ms) (g ∷ fs) m f h k =
+    let e : n + suc (length fs) ≡ n + 1 + length fs = omega arith in (h.0, have-snoc (n + 1) ms fs m f h.1 (subst (λ x. HasFile x m f) e k))
+
+-- no end mark is among messages that have files
+pub no_end_of : (n : ℕ) (ms : List Message) (fs : List (List ℕ)) → HaveFiles n ms fs → has_no_end ms ≡ true
+no_end_of n [] fs h = refl
+no_end_of n (m ∷ ms) [] h = absurd h
+no_end_of n (File k piece ∷ ms) (f ∷ fs) h = no_end_of (n + 1) ms fs h.1
+no_end_of n (End ∷ ms) (f ∷ fs) h = absurd h.0
+
+-- more was read
+pub cut_more : (read : List ℕ) (done : List (List ℕ)) (rest x : List ℕ) → IsCut read done rest → IsCut (read ++ x) done (rest ++ x)
+cut_more read done rest x h more =
+    ap files_of (append_assoc read x more) ∙ (h (x ++ more) ∙ ap (λ t. done ++ files_of t) (sym (append_assoc rest x more)))
+
+-- what was left ends a file with the bytes that follow
+pub cut_file : (read : List ℕ) (done : List (List ℕ)) (rest x : List ℕ) → IsCut read done rest → IsFirstFile (rest ++ x)
+    → IsCut (read ++ x) (done ++ (rest ++ x) ∷ []) []
+cut_file read done rest x h first more =
+    cut_more read done rest x h more ∙ (ap (λ t. done ++ t) (first more) ∙ sym (append_assoc done ((rest ++ x) ∷ []) (files_of more)))
+
+-- at the end of the stream
+pub cut_end : (read : List ℕ) (done : List (List ℕ)) (rest : List ℕ) → IsCut read done rest → files_of read ≡ done ++ files_of rest
+cut_end read done rest h = ap files_of (sym (append-nil read)) ∙ (h [] ∙ ap (λ t. done ++ files_of t) (append-nil rest))
+
+-- a fact of every error, at one result
+pub on_err : {X E : Type 0} {P : Type 0} (r : Result X E) → P → OnErr r P
+on_err (Ok x) p = tt
+on_err (Err e) p = p
