@@ -3,6 +3,8 @@
 #![tactic(auto)]
 
 #[cfg(test)]
+mod of_file_batch;
+#[cfg(test)]
 mod of_file_relay;
 #[cfg(test)]
 mod of_file_stream;

@@ -1,0 +1,4 @@
+mod Gains
+mod Pages
+mod Parts
+mod Told
