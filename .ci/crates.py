@@ -2,7 +2,9 @@
 """Checks that what is said of the crates agrees, and fails with a message for each place where it does not.
 
 The comment above a crate's line in crates.txt is the documentation that its root file begins with, the line names those
-libraries alone that the crate uses, and each crate has a row in the tables of docs/ARCHITECTURE.md and docs/PROVED.md.
+libraries alone that the crate uses, and each crate has a row in the tables of docs/ARCHITECTURE.md and docs/PROVED.md. Each crate
+that is no crate of tests has a page, README.md in its folder, which begins with its name and the same line, says where its tests
+are, and names files that are there.
 """
 
 import pathlib
@@ -12,6 +14,9 @@ import sys
 TOP = pathlib.Path(__file__).resolve().parent.parent
 # Crates of tests alone have no contracts, so the page on what is proved names them together.
 OF_TESTS = re.compile(r"\w+_tests$")
+
+# A file that a page names, in the crate or in the repository.
+FILE = re.compile(r"`((?:specs|proofs|src|must-fail|crates|tests|docs)/[\w./-]*)`")
 
 
 def crates():
@@ -39,6 +44,23 @@ def uses(crate, library):
     return any(named.search(path.read_text()) for path in paths)
 
 
+def page_faults(name, crate):
+    """What is wrong with the page of a crate."""
+    page = crate / "README.md"
+    if not page.is_file():
+        yield "has no page"
+        return
+    text = page.read_text()
+    title, first, *rest = text.split("\n\n")
+    if title != f"# {name}" or " ".join(first.split()) != promise(crate):
+        yield "has a page that does not begin with its name and what its documentation says"
+    if "**Tests**" not in rest[-1]:
+        yield "has a page that does not say where its tests are"
+    for file in FILE.findall(text):
+        if not (crate / file).exists() and not (TOP / file).exists():
+            yield f"has a page that names {file}, which is not there"
+
+
 def faults():
     tables = {name: (TOP / "docs" / name).read_text() for name in ("ARCHITECTURE.md", "PROVED.md")}
     for name, comment, libraries in crates():
@@ -48,6 +70,8 @@ def faults():
                 yield f"crates.txt: {name} does not use {library}"
         if comment != promise(crate):
             yield f"crates.txt: {name} is not said to be what its documentation says: {promise(crate)}"
+        if not OF_TESTS.match(name):
+            yield from (f"{name} {fault}" for fault in page_faults(name, crate))
         for page, table in tables.items():
             if f"| `{name}` |" not in table and not (page == "PROVED.md" and OF_TESTS.match(name)):
                 yield f"docs/{page}: {name} has no row"
