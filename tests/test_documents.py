@@ -155,7 +155,7 @@ class Library(Test):
 
     def test_callers(self):
         document = (TOP / "docs/LIBRARY.md").read_text()
-        for name in ("listed", "whole"):
+        for name in ("listed", "whole", "counted"):
             with self.case(f"{name}.rt"):
                 source = (TOP / f"crates/uses_library/src/{name}.rt").read_text()
                 lines = source.splitlines(keepends=True)

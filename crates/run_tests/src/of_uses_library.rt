@@ -1,10 +1,12 @@
 use interp_list::{are_care_points, least_list};
 use lattice::{Memory, Mono, Words};
+use outside::{MemSink, SureSource};
+use program::run;
 use std::alloc::{AllocError, Global};
 use std::process::Abort;
 use std::test::Fail;
 use std::thread::Threads;
-use uses_library::{Refusal, least_terms, run_on};
+use uses_library::{Refusal, RowCount, least_terms, run_on};
 
 const TWO_POINTS: &str = ".i 2\n.o 1\n.type fr\n11 1\n00 0\n";
 
@@ -99,5 +101,43 @@ fn a_file_in_memory(rt: HostRuntime) -> Result<(), Fail> {
     check(&rt, rt.alloc(), "anf", (0, "f1 = x2\n"))?;
     check(&rt, rt.alloc(), "basis", (0, "f1 = x2\n0 = x1 + x2\n"))?;
     check(&rt, rt.alloc(), "solve", (2, ""))?;
+    Ok(())
+}
+
+// The status of the program that counts rows on a file, called with so many words, and what it
+// wrote to both sinks.
+fn count_rows(alloc: Global, count: u32, file: &str) -> Result<(u8, MemSink, MemSink), Memory> {
+    let mut words = Words::new(alloc);
+    for _ in 0..count {
+        words.push("rows")?;
+    }
+    let mut out = MemSink::make(alloc, 64, 5, &[])?;
+    let mut err = MemSink::make(alloc, 64, 64, &[])?;
+    let status = run(
+        alloc,
+        &mut RowCount,
+        &words,
+        &mut SureSource::new(file.as_bytes()),
+        &mut out,
+        &mut err,
+        &mut Vec::new(alloc),
+    );
+    Ok((status, out, err))
+}
+
+// The sinks have room for each text.
+#[test]
+fn rows_counted(rt: HostRuntime) -> Result<(), Fail> {
+    let cases = [
+        (1, TWO_POINTS, 0, "rows 2\n", ""),
+        (1, ".i 2\n.o 1\n1 1\n", 3, "", "rows: line 3: RowLength\n"),
+        (2, TWO_POINTS, 2, "", "rows: usage: rows\n"),
+    ];
+    for (count, file, status, text, line) in cases {
+        let (found, out, err) = count_rows(rt.alloc(), count, file)?;
+        assert_eq!(rt; found, status);
+        assert_eq!(rt; out.bytes(), text.as_bytes());
+        assert_eq!(rt; err.bytes(), line.as_bytes());
+    }
     Ok(())
 }
