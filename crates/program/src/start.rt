@@ -1,11 +1,13 @@
 //! What a program's `main` does.
 ghost use Rattle.std.specs.Prelude.{◌≡◌, ◌⊎◌, ◌+◌, All, List, [], ℕ};
 ghost use Rattle.std.specs.Io.KnownBytes.{Keeps};
-ghost use Rattle.outside.specs.Causes.{LosesAtMost};
+ghost use Rattle.lattice.specs.Counts.{Rose};
+ghost use Rattle.outside.specs.Causes.{GainsUnlessRose, LosesAtMost};
 ghost use Rattle.watch.specs.Notes.{states_by};
-ghost use Rattle.program.specs.Outcomes.{status_of};
+ghost use Rattle.program.specs.Outcomes.{line_of, status_of};
 ghost use Rattle.program.specs.Runs.{Ran};
 ghost use Rattle.program.specs.declared.outcome.Outcome.{Outcome};
+ghost use Rattle.program.specs.declared.outcome.Outcome.TheVariants as outcomes;
 
 use crate::outcome::Outcome;
 use crate::programs::Program;
@@ -50,17 +52,23 @@ pub fn start_program<R: Env + Alloc, G: Program, S: Source, K: Sink, E: Sink>(
     requires ready { G.ready program.old }
     requires untold { All (λ s. s.told ≡ []) (states_by told patience watchers.old.items) }
 
-    // There are words for which the run was as is due, or there was no memory for them.
-    ensures ran { ((words : List (List ℕ)) × (outcome : Outcome G.Ends)
+    // There are words for which the run was as is due, or there was no memory for them; and err
+    // gained the line of the outcome.
+    ensures ran { (outcome : Outcome G.Ends)
         × (result ≡ status_of (G.duty program.old).way outcome)
+        × (((words : List (List ℕ))
         × Ran (G.duty program.old) (λ job due. G.earned job due program.new) words
         (S.left source.old) (K.held out.old) (K.held out.new)
-        (states_by told patience watchers.old.items) (states_by told patience watchers.new.items)
-        outcome)
-        ⊎ ((result ≡ 7) × Keeps (K.held out.old) (K.held out.new)
-        × (S.left source.new ≡ S.left source.old)
+        (states_by told patience watchers.old.items)
+        (states_by told patience watchers.new.items) outcome)
+        ⊎ ((outcome ≡ outcomes.Memory) × Keeps (K.held out.old) (K.held out.new)
         × (states_by told patience watchers.new.items
-        ≡ states_by told patience watchers.old.items)) }
+        ≡ states_by told patience watchers.old.items)))
+        × GainsUnlessRose (E.held err.old) (E.held err.new)
+        (line_of (G.duty program.old).way (G.duty program.old).name (G.duty program.old).usage
+        outcome) (E.faults err.old) (E.faults err.new) }
+    ensures read { result ≡ 8 → Rose (S.faults source.old) (S.faults source.new) }
+    ensures write { result ≡ 9 → Rose (K.faults out.old) (K.faults out.new) }
     ensures keeps { G.keeps program.old program.new }
     ensures few { LosesAtMost (S.left source.old) (S.left source.new)
         ((G.duty program.old).limit + 1) }

@@ -1,0 +1,12 @@
+use Rattle.std.proofs.Common.{inr, refl}
+use Rattle.program.specs.declared.outcome.Outcome.TheVariants as ends
+use Rattle.program.proofs.Streams.{keeps_same}
+use Rattle.program.proofs.start.start_program.Goals as goal
+
+pub returns-in_default-clause-ran : goal.returns-in_default-clause-ran
+returns-in_default-clause-ran g c = (
+  ends.Memory,
+  c.report.ensures.status,
+  inr (refl, keeps_same (g.K.Sink.held c.args.out.now), refl),
+  rw (← c.name.ensures.name) c.report.ensures.line,
+)
