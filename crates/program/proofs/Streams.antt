@@ -1,9 +1,7 @@
 -- What a run writes to its sinks, and what it reads of its source.
 use Rattle.std.proofs.Common.{◌≡◌, ◌∙◌, ℕ, ◌+◌, ◌<◌, ◌≤◌, List, [], length, length-take, min, take, take_all, append-nil, ap, refl}
-use Rattle.std.proofs.Common.{sym, inl, inr, arith, Option, Some, None}
-use Rattle.std.specs.Prelude.{Ok, Err, Result, OnOk}
+use Rattle.std.proofs.Common.{sym, arith, Option, Some, None}
 use Rattle.std.specs.Io.KnownBytes.{Appends, Keeps}
-use Rattle.outside.specs.Causes.{GainsFront, GainsUnlessRose, HasCause}
 
 -- ---- what was written
 
@@ -22,12 +20,6 @@ pub keeps_nothing : (old new : Option (List ℕ)) → Appends old new [] → Kee
 keeps_nothing None new a = tt
 keeps_nothing (Some xs) None a = absurd a
 keeps_nothing (Some xs) (Some ys) a = a ∙ append-nil xs
-
--- A line is gained whole, or the count of faults rose.
-pub gains_line : {T E : Type 0} (old new : Option (List ℕ)) (text : List ℕ) (before now : ℕ) (r : Result T E)
-    → OnOk r (Appends old new text) → GainsFront old new text → HasCause before now r → GainsUnlessRose old new text before now
-gains_line old new text before now (Ok x) whole front cause = (front, inl whole)
-gains_line old new text before now (Err e) whole front cause = (front, inr cause.rose)
 
 -- ---- what was read
 

@@ -38,8 +38,8 @@ pub trait Program {
     /// What is true of each job that words ask for.
     ghost fits: { Self.Job → Type 0 };
 
-    /// Does nothing. Its contract is a law: the words ask for one job at most, and one thing at most
-    /// is due for it.
+    /// Does nothing. Its contract is a law: words ask for one job at most, and one thing at most is
+    /// due for it.
     fn lawful(&self)
         ensures { IsLawful (duty self.now) };
 
