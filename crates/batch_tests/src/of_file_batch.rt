@@ -1,4 +1,4 @@
-use file_batch::{Answerer, BatchStop, FileAnswer, write_batch};
+use file_batch::{Answerer, BatchStop, FileAnswer, write_alone, write_batch};
 use file_stream::Piece;
 use lattice::{Memory, Pages, Text};
 use outside::{Failed, Gate, MemSink, MemSource, Rendezvous, Sink, Source};
@@ -39,6 +39,44 @@ fn blocks_are_written_in_order(rt: HostRuntime) -> Result<(), Fail> {
 }
 
 #[test]
+fn one_thread_writes_the_same(rt: HostRuntime) -> Result<(), Fail> {
+    let alloc = rt.alloc();
+    let streams: [&[u8]; 5] = [
+        b"",
+        b"\n# none\n",
+        b"1\n.e",
+        b"1\r\n.end\r\n2",
+        b".e\n.e\n.e\n.e\n.e\n.e\n \t\n",
+    ];
+    for stream in streams {
+        let mut source = MemSource::make(alloc, stream, 4, &[]).map_err(|_| "memory")?;
+        let mut one = MemSink::make(alloc, 200, 3, &[]).map_err(|_| "memory")?;
+        assert!(rt; write_alone(alloc, &Echo, &mut source, &mut one).is_ok());
+        let mut source = MemSource::make(alloc, stream, 4, &[]).map_err(|_| "memory")?;
+        let mut two = MemSink::make(alloc, 200, 3, &[]).map_err(|_| "memory")?;
+        assert!(rt; write_batch(&rt, alloc, &Echo, &mut source, &mut two).is_ok());
+        assert_eq!(rt; one.bytes(), two.bytes());
+    }
+    Ok(())
+}
+
+#[test]
+fn faults_stop_one_thread(rt: HostRuntime) -> Result<(), Fail> {
+    let alloc = rt.alloc();
+    let mut source = MemSource::make(alloc, b".e\n.e\n.e\n", 4, &[2]).map_err(|_| "memory")?;
+    let mut out = MemSink::make(alloc, 200, 100, &[]).map_err(|_| "memory")?;
+    let result = write_alone(alloc, &Echo, &mut source, &mut out);
+    assert!(rt; result == Err(BatchStop::ReadFault));
+    assert_eq!(rt; out.bytes(), b"file 1 0\n.e\n".as_slice());
+    let mut source = MemSource::make(alloc, b".e\n.e\n.e\n", 4, &[]).map_err(|_| "memory")?;
+    let mut out = MemSink::make(alloc, 200, 100, &[3]).map_err(|_| "memory")?;
+    let result = write_alone(alloc, &Echo, &mut source, &mut out);
+    assert!(rt; result == Err(BatchStop::WriteFault));
+    assert_eq!(rt; out.bytes(), b"file 1 0\n.e\n".as_slice());
+    Ok(())
+}
+
+#[test]
 fn nothing_is_written_of_an_empty_stream(rt: HostRuntime) -> Result<(), Fail> {
     let alloc = rt.alloc();
     let mut source = MemSource::make(alloc, b"", 5, &[]).map_err(|_| "memory")?;
@@ -68,6 +106,7 @@ fn faults_stop_a_batch(rt: HostRuntime) -> Result<(), Fail> {
 const LOOKS: u64 = 100_000_000;
 
 // It gives two files, and waits before it gives the second.
+#[derive(Drop)]
 struct Giver<'a> {
     gate: &'a Rendezvous,
     reads: u32,
@@ -95,6 +134,7 @@ impl<'a> Source for Giver<'a> {
 }
 
 // It waits at the first write.
+#[derive(Drop)]
 struct Taker<'a> {
     gate: &'a Rendezvous,
     writes: u32,

@@ -1,3 +1,4 @@
+mod Answered
 mod Gains
 mod Pages
 mod Parts

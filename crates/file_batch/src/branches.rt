@@ -9,26 +9,21 @@ ghost use Rattle.file_relay.specs.Relayed.{log};
 ghost use Rattle.file_relay.specs.declared.reader.StreamStop.TheVariants as reads;
 ghost use Rattle.file_batch.specs.Progress.{IsCaused, Progress};
 ghost use Rattle.file_batch.specs.Batches.{IsWritten, IsWrittenPart};
-ghost use Rattle.file_batch.specs.declared.progress.Halt.TheVariants as halts;
-ghost use Rattle.file_batch.specs.declared.branches.BatchStop.TheVariants.{ReadFault, TooLong};
-ghost use Rattle.file_batch.specs.declared.branches.BatchStop.TheVariants.{WriteFault};
+ghost use Rattle.file_batch.specs.declared.stop.BatchStop.TheVariants.{ReadFault, TooLong};
+ghost use Rattle.file_batch.specs.declared.stop.BatchStop.TheVariants.{WriteFault};
 
+use crate::alone::write_alone;
 use crate::answerer::Answerer;
 use crate::progress::{Halt, write_blocks};
+use crate::stop::{BatchStop, stop_of};
 use file_relay::{Inlet, Link, Outlet, StreamStop, Token, open_link, send_files, settle};
-use outside::{Sink, Source};
+use outside::{Gate, Rendezvous, Sink, Source};
 use std::alloc::Global;
 use std::sync::Wait;
-use std::thread::{Threads, join_mut};
+use std::thread::{Threads, join, join_mut};
 
-/// Why a batch stopped before its end.
-#[derive(Clone, Copy, Debug, Drop, PartialEq, Eq)]
-pub enum BatchStop {
-    Memory,
-    ReadFault,
-    WriteFault,
-    TooLong,
-}
+// How often a branch looks for another at most, before there is none.
+const MOST_LOOKS: u64 = 100_000_000;
 
 // Both branches, and what each left in what it was lent. The answers come first: where the system
 // gives no thread, the second branch runs first, and what it sends must find room.
@@ -71,26 +66,9 @@ fn run_both<R: Threads + Wait + Sync, A: Answerer + Sync, S: Source + Send, K: S
     )
 }
 
-// How the batch ends: what stopped the reading comes first.
-fn stop_of(read: Result<(), StreamStop>, written: Result<(), Halt>) -> Result<(), BatchStop>
-    ensures done { OnOk result (IsOk read × IsOk written) }
-    ensures read { IsErrOf result ReadFault → IsErrOf read reads.Fault }
-    ensures long { IsErrOf result TooLong → IsErrOf read reads.TooLong }
-    ensures write { IsErrOf result WriteFault → IsErrOf written halts.Fault }
-{
-    match (read, written) {
-        (Err(StreamStop::Fault), _) => Err(BatchStop::ReadFault),
-        (Err(StreamStop::TooLong), _) => Err(BatchStop::TooLong),
-        (Err(StreamStop::Memory), _) => Err(BatchStop::Memory),
-        (Ok(()), Err(Halt::Fault)) => Err(BatchStop::WriteFault),
-        (Ok(()), Err(Halt::Memory)) => Err(BatchStop::Memory),
-        (Ok(()), Ok(())) => Ok(()),
-    }
-}
-
-/// Answers the files of the stream, and writes a block for each, in order: by two threads, of which
-/// one reads on while the other answers.
-pub fn write_batch<R: Threads + Wait + Sync, A: Answerer + Sync, S: Source + Send, K: Sink + Send>(
+// Answers the files of the stream, and writes a block for each, in order: by two threads, of which
+// one reads on while the other answers.
+fn write_by_two<R: Threads + Wait + Sync, A: Answerer + Sync, S: Source + Send, K: Sink + Send>(
     rt: &R,
     alloc: Global,
     answerer: &A,
@@ -127,4 +105,35 @@ pub fn write_batch<R: Threads + Wait + Sync, A: Answerer + Sync, S: Source + Sen
     );
     settle(&outlet, sending, taking);
     stop_of(read, written)
+}
+
+// Whether two branches run at once: each waits for the other, for so many looks at most.
+fn threads_come<R: Threads>(rt: &R) -> bool {
+    let gate = Rendezvous::waiting(MOST_LOOKS);
+    join(rt, || gate.enter(0), || gate.enter(1));
+    gate.met()
+}
+
+/// Answers the files of the stream, and writes a block for each, in order: by two threads, of which
+/// one reads on while the other answers, or, where the system gives no second thread, by one.
+pub fn write_batch<R: Threads + Wait + Sync, A: Answerer + Sync, S: Source + Send, K: Sink + Send>(
+    rt: &R,
+    alloc: Global,
+    answerer: &A,
+    source: &mut S,
+    out: &mut K,
+) -> Result<(), BatchStop>
+    ensures whole { OnOk result (IsWritten (A.answers answerer.now) (S.left source.old)
+        (S.left source.new) (K.held out.old) (K.held out.new)) }
+    ensures part { IsWrittenPart (A.answers answerer.now) (S.left source.old) (S.left source.new)
+        (K.held out.old) (K.held out.new) }
+    ensures read { IsErrOf result ReadFault → Rose (S.faults source.old) (S.faults source.new) }
+    ensures write { IsErrOf result WriteFault → Rose (K.faults out.old) (K.faults out.new) }
+    ensures long { IsErrOf result TooLong → IsReadPast (S.left source.old) (S.left source.new) }
+{
+    if threads_come(rt) {
+        write_by_two(rt, alloc, answerer, source, out)
+    } else {
+        write_alone(alloc, answerer, source, out)
+    }
 }

@@ -47,7 +47,7 @@ fn write_answer<A: Answerer, K: Sink>(
 }
 
 // Writes the block of the message's file, unless something stopped the writing before.
-fn write_next<A: Answerer, K: Sink>(
+pub(crate) fn write_next<A: Answerer, K: Sink>(
     alloc: Global,
     answerer: &A,
     out: &mut K,

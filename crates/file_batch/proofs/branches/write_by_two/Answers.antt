@@ -4,7 +4,7 @@ use Rattle.crossbeam_channel.specs.Claims.{view}
 use Rattle.file_relay.specs.declared.message.Message.TheVariants.{End}
 use Rattle.file_batch.proofs.Gains.{all_front}
 use Rattle.file_batch.proofs.Parts.{all_written, progress_part, sent_whole}
-use Rattle.file_batch.proofs.branches.write_batch.Goals as goal
+use Rattle.file_batch.proofs.branches.write_by_two.Goals as goal
 
 pub returns-in_default-clause-part : goal.returns-in_default-clause-part
 returns-in_default-clause-part g c = record {

@@ -1,0 +1,51 @@
+use Rattle.std.proofs.Common.{◌≡◌, ◌+◌, ◌++◌, [], ◌∷◌, length, length-append, arith}
+use Rattle.file_relay.specs.declared.message.Message.TheVariants.{File}
+use Rattle.file_relay.proofs.Files.{cut_file, cut_more, have-snoc, on_err}
+use Rattle.file_batch.proofs.alone.answer_next.Goals as goal
+
+pub returns-in_err-file-clause-refused : goal.returns-in_err-file-clause-refused
+returns-in_err-file-clause-refused g c start read h = on_err c.from_residual.result (record {
+  told = h.told;
+  done = h.done;
+  rest = h.rest;
+  at = c.in_err-file.ensures.refused h.rest h.at;
+  cut = h.cut;
+  files = h.files;
+  count = h.count;
+  progress = h.progress;
+})
+
+pub returns-in-Some-clause-fed : goal.returns-in-Some-clause-fed
+returns-in-Some-clause-fed g c start read h =
+    let b = c.args.byte in
+    let file = h.rest ++ b ∷ [] in
+    let m = File (c.args.reading.now.number + 1) c.in-Some.file in
+    let fed = c.in_ok-file.ensures.fed h.rest h.at in
+    let ended = rw c.in-Some.is at fed in
+    let number : c.args.reading.now.number + 1 ≡ 1 + length h.done = omega (arith, h.count) in
+    record {
+      told = h.told ++ m ∷ [];
+      done = h.done ++ file ∷ [];
+      rest = [];
+      at = ended.2;
+      cut = cut_file read h.done h.rest (b ∷ []) h.cut ended.1;
+      files = have-snoc 1 h.told h.done m file h.files (number, ended.0);
+      count = omega (arith, length-append h.done (file ∷ []), h.count);
+      progress = c.write_next-reading.ensures.progress start h.told h.progress;
+    }
+
+pub returns-in_default-clause-fed : goal.returns-in_default-clause-fed
+returns-in_default-clause-fed g c start read h =
+    let b = c.args.byte in
+    let fed = c.in_ok-file.ensures.fed h.rest h.at in
+    let open_still = rw c.in_default.is at fed in
+    record {
+      told = h.told;
+      done = h.done;
+      rest = h.rest ++ b ∷ [];
+      at = open_still;
+      cut = cut_more read h.done h.rest (b ∷ []) h.cut;
+      files = h.files;
+      count = h.count;
+      progress = h.progress;
+    }

@@ -1,0 +1,20 @@
+use Rattle.std.proofs.Common.{◌≡◌, ◌++◌, take, drop, ap, ◌∙◌, subst, append_assoc, take-append-drop}
+use Rattle.file_relay.specs.Messages.{IsCut}
+use Rattle.file_relay.proofs.Files.{cut_more, on_err}
+use Rattle.file_batch.proofs.alone.answer_piece.Goals as goal
+
+pub returns-in_err-answer_next-clause-refused : goal.returns-in_err-answer_next-clause-refused
+returns-in_err-answer_next-clause-refused g c start read h =
+    let bytes = c.args.bytes.now in let i = c.loop-byte.byte-index in
+    let front = take i bytes in let later = drop i bytes in
+    let k = c.in_err-answer_next.ensures.refused start (read ++ front) (c.loop-byte.invariant.fed start read h) in
+    let text : (read ++ front) ++ later ≡ read ++ bytes = append_assoc read front later ∙ ap (λ t. read ++ t) (take-append-drop i bytes) in
+    on_err c.from_residual.result (record {
+      told = k.told;
+      done = k.done;
+      rest = k.rest ++ later;
+      written = c.answer_next.new.reading.written;
+      cut = subst (λ t. IsCut t k.done (k.rest ++ later)) text (cut_more (read ++ front) k.done k.rest later k.cut);
+      files = k.files;
+      progress = k.progress;
+    })
