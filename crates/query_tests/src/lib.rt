@@ -4,4 +4,4 @@
 #[cfg(test)]
 mod of_point_ideals;
 #[cfg(test)]
-mod of_query_run;
+mod of_nf_run;

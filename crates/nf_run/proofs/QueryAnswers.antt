@@ -1,0 +1,210 @@
+-- The care points of the outputs and the answers to queries, one after the other.
+use Rattle.std.proofs.Common.{◌≡◌, ℕ, zero, suc, ◌+◌, ◌-◌, ◌<◌, ◌≤◌, Ok, Bool, true, List, [], ◌∷◌, ◌++◌, length, take, get_or, ◌^◌, ◌||◌}
+use Rattle.std.proofs.Common.{map, reverse, refl, sym, ◌∙◌, ap, subst, arith}
+use Rattle.std.specs.Prelude.{◌==◌}
+use Rattle.std.specs.List.{All, AllZip, list_any, sum_by}
+use Rattle.std.proofs.lemmas.Bool.{eqb-true}
+use Rattle.std.proofs.lemmas.List.{flat_map_more, get_or_append_left, get_or_push, length_push, map-id, take_more}
+use Rattle.std.proofs.lemmas.List.Elements.{All-cons, All-map, All-nil}
+use Rattle.std.proofs.lemmas.List.Folds.{Any-from_list_any, fold-map}
+use Rattle.std.proofs.lemmas.Slice.Zip.{all_zipped_more}
+use borrow.Author.Count.{below_more}
+use Rattle.lattice.specs.Words.{Covers, Family, IsFamily, working_set, care_ones, care_zeros}
+use Rattle.lattice.proofs.Diagrams.{Has-append_left, Has-append_right, covers_append, covers_left, covers_nil, covers_part, covers_right}
+use Rattle.lattice.proofs.Polynomials.{IsFamily-combine, terms_below}
+use Rattle.run_parts.specs.Found.{terms_of}
+use Rattle.run_parts.proofs.FoundTerms.{fits}
+use Rattle.nf_run.proofs.LeastValues.{reduced_is, reduced_once}
+use Rattle.node_store.specs.Stores.{Denotes, Gives, Grows, IsSound, Knows, State, family}
+use Rattle.node_store.specs.declared.store.Handle.{Handle}
+use Rattle.node_store.proofs.StoreLaws.{Denotes-family, Denotes-knows, Grows-refl, Grows-trans}
+use Rattle.pla_reader.specs.Reading.{Description}
+use Rattle.point_ideals.specs.Cares.{HoldsPoints, points_list}
+use Rattle.point_ideals.proofs.HeldPoints.{points_later}
+use Rattle.nf_run.specs.Answers.{AreAnswered, HoldsAll, IsAnswerTo, answer_terms, answer_to, no_handle, points_of, queries_list}
+use Rattle.nf_run.specs.Answers.{query_list, query_nodes}
+use Rattle.nf_run.specs.Queries.{IsQueryOver}
+use Rattle.nf_run.specs.Reduced.{reduced, reduced_list, sum_of_terms}
+use Rattle.nf_run.specs.declared.queries.Query.{Query}
+
+-- what holds of two lists whose elements stand side by side in R, from what each pair adds
+zipped : {X Y : Type 0} {R : X → Y → Type 0} (P : List X → List Y → Type 0) → P [] []
+    → ((x : X) (y : Y) (xs : List X) (ys : List Y) → R x y → P xs ys → P (x ∷ xs) (y ∷ ys)) → (xs : List X) (ys : List Y)
+    → AllZip R xs ys → P xs ys
+zipped P none more [] [] z = none
+zipped P none more [] (y ∷ ys) z = absurd z
+zipped P none more (x ∷ xs) [] z = absurd z
+zipped P none more (x ∷ xs) (y ∷ ys) z = more x y xs ys z.0 (zipped P none more xs ys z.1)
+
+pub zip_all : {X Y : Type 0} (R : X → Y → Type 0) (P : Y → Type 0) → ((x : X) (y : Y) → R x y → P y) → (xs : List X) (ys : List Y)
+    → AllZip R xs ys → All P ys
+zip_all R P each = zipped (λ _. All P) (All-nil P) (λ x y xs ys r p. All-cons P y ys (each x y r) p)
+
+zip_map : {X Y Z : Type 0} {R : X → Y → Type 0} (f : X → Z) (g : Y → Z) → ((x : X) (y : Y) → R x y → g y ≡ f x)
+    → (xs : List X) (ys : List Y) → AllZip R xs ys → map g ys ≡ map f xs
+zip_map f g same = zipped (λ xs ys. map g ys ≡ map f xs) refl (λ x y xs ys r p. cc (same x y r))
+
+zip_from : {X Y Z : Type 0} (R : X → Y → Type 0) (f : X → Z) (g : Y → Z) → ((x : X) (y : Y) → g y ≡ f x → R x y)
+    → (xs : List X) (ys : List Y) → map g ys ≡ map f xs → AllZip R xs ys
+zip_from R f g same [] [] e = tt
+zip_from R f g same [] (y ∷ ys) e = cc
+zip_from R f g same (x ∷ xs) [] e = cc
+zip_from R f g same (x ∷ xs) (y ∷ ys) e = (same x y (cc), zip_from R f g same xs ys (cc))
+
+-- the list of a query is a part of that of all
+query_listed : (d : Description) (queries : List Query) (i : ℕ) (q : Query) → i < length queries
+    → Covers (queries_list d queries) (query_list d (get_or queries i q))
+query_listed d [] i q less f h = absurd (omega arith)
+query_listed d (p ∷ queries) zero q less f h = Has-append_left (query_list d p) (queries_list d queries) f h
+query_listed d (p ∷ queries) (suc i) q less f h =
+    Has-append_right (query_list d p) (queries_list d queries) f (query_listed d queries i q (omega (arith, less)) f h)
+
+module _ (d : Description) (queries : List Query) where
+  abbrev is_named : ℕ → Bool
+  is_named output = list_any (λ q. q.output == output) queries
+
+  abbrev Planned : List Family → Type 0
+  Planned fs = Covers fs (working_set d.inputs (queries_list d queries))
+
+  query_planned : (fs : List Family) → Planned fs → (i : ℕ) (q : Query) → i < length queries → q ≡ get_or queries i q
+      → Covers fs (working_set d.inputs (query_list d q))
+  query_planned fs planned i q less is = covers_part d.inputs fs (queries_list d queries) (query_list d q) planned
+      (subst (λ r. Covers (queries_list d queries) (query_list d r)) (sym is) (query_listed d queries i q less))
+
+  -- the plan has what the care points of a named output need
+  pub named_planned : (fs : List Family) → Planned fs → (output : ℕ) → is_named output ≡ true
+      → Covers fs (working_set d.inputs (points_list d output))
+  named_planned fs planned output named =
+      let any = Any-from_list_any (λ q. q.output == output) queries named in
+      let at : any.1.output ≡ output = eqb-true any.1.output output any.4 in
+      subst (λ o. Covers fs (working_set d.inputs (points_list d o))) at
+      (covers_left d.inputs fs (points_list d any.1.output) _ (query_planned fs planned any.0 any.1 any.2 (sym any.3)))
+
+  -- the terms of a query are below the bound of the variables
+  pub query_below : (outputs : ℕ) → All (IsQueryOver d.inputs outputs) queries → (i : ℕ) (q : Query) → i < length queries
+      → q ≡ get_or queries i q → All (λ m. m < 2 ^ d.inputs) q.terms
+  query_below outputs over i q less is =
+      let fits = subst (IsQueryOver d.inputs outputs) (sym is) (over i q less) in terms_below d.inputs q.terms fits.polynomial
+
+  -- the care points of the first outputs
+  pub record HoldsFirst (s : State) (count : ℕ) (points : List Handle) : Type 0 where
+    pub many : length points ≡ count
+    pub each : (j : ℕ) → j < count → is_named (j + 1) ≡ true → HoldsPoints s d (j + 1) (get_or points j no_handle)
+
+  pub none_held : (s : State) → HoldsFirst s 0 []
+  none_held s = record { many = refl; each = λ j less. absurd (omega arith) }
+
+  pub held_more : (s t : State) (count : ℕ) (points more : List Handle) (h : Handle) → Grows s t → HoldsFirst s count points
+      → (is_named (count + 1) ≡ true → HoldsPoints t d (count + 1) h) → more ≡ points ++ h ∷ [] → HoldsFirst t (count + 1) more
+  held_more s t count points more h grows first here items = rw items (record {
+    many = grind (arith, first.many, length_push points h);
+    each = below_more (λ j. is_named (j + 1) ≡ true → HoldsPoints t d (j + 1) (get_or (points ++ h ∷ []) j no_handle)) count
+        (λ j less named. rw (get_or_append_left points (h ∷ []) no_handle j (omega (arith, first.many)))
+        (points_later s t d (j + 1) _ grows (first.each j less named)))
+        (λ named. rw (get_or_push points h no_handle count first.many) (here named));
+  })
+
+  -- ---- the answers; s is the state before them, and t the one after i of them
+
+  pub record Answers (s t : State) (i : ℕ) (found : List Handle) : Type 0 where
+    pub grows : Grows s t
+    pub are : AreAnswered t d (take i queries) found
+
+  pub no_answers : (s : State) → Answers s s 0 []
+  no_answers s = record { grows = Grows-refl s; are = record { each = tt; held = covers_nil d.inputs s.held } }
+
+  module _ (s : State) (vars_are : s.vars ≡ d.inputs) (planned : Planned s.plan) (points : List Handle)
+      (holds : HoldsAll s d queries points) (i : ℕ) (less : i < length queries) (q : Query) (is : q ≡ get_or queries i q) (here : Handle)
+      (here_is : here ≡ get_or points (q.output - 1) no_handle) {t : State} {answers : List Handle} (so_far : Answers s t i answers) where
+    later_points : HoldsPoints t d q.output here
+    later_points = points_later s t d q.output here so_far.grows (rw (here_is, is) (holds i q less))
+
+    points_are : family t here ≡ points_of d q
+    points_are = Denotes-family t here (points_of d q) later_points.denotes
+
+    t_vars : t.vars ≡ d.inputs
+    t_vars = so_far.grows.vars ∙ vars_are
+
+    list_is : working_set t.vars (reduced_list t.vars q.terms (family t here)) ≡
+        working_set d.inputs (reduced_list d.inputs q.terms (points_of d q))
+    list_is = rw (t_vars, points_are) refl
+
+    pub answer_planned : Covers t.plan (working_set t.vars (reduced_list t.vars q.terms (family t here)))
+    answer_planned = rw (list_is, so_far.grows.plan)
+        (covers_right d.inputs s.plan (points_list d q.output) _ (query_planned s.plan planned i q less is))
+
+    pub one_answer : {u : State} {h : Handle} {more : List Handle}
+        → Gives t u (Ok h) (reduced t.vars (sum_of_terms t.vars q.terms) (family t here))
+        (working_set t.vars (reduced_list t.vars q.terms (family t here)))
+        → more ≡ answers ++ h ∷ [] → Answers s u (i + 1) more
+    one_answer {u = u} {h = h} {more = more} gives items =
+        let next : take (i + 1) queries ≡ take i queries ++ q ∷ [] =
+        take_more queries i q less ∙ ap (λ r. take i queries ++ r ∷ []) (sym is) in
+        record {
+          grows = Grows-trans s t u so_far.grows gives.grows;
+          are = record {
+            each = rw (next, items) (all_zipped_more (λ r k. Denotes u k (answer_to d r)) (take i queries) answers q h
+                (zipped (AllZip (λ r k. Denotes u k (answer_to d r))) tt (λ r k rs ks h so. (gives.grows.known k.0 _ h, so))
+                (take i queries) answers so_far.are.each) (rw (t_vars, points_are) at gives.ok));
+            held = rw (next, sym (flat_map_more (query_list d) [] (take i queries) q))
+                (covers_append d.inputs u.held (queries_list d (take i queries)) (query_list d q)
+                (λ f j. gives.grows.held f (so_far.are.held f j))
+                (covers_append d.inputs u.held (points_list d q.output) (reduced_list d.inputs q.terms (points_of d q))
+                (λ f j. gives.grows.held f (later_points.held f j)) (rw list_is at gives.held)));
+          };
+        }
+
+-- ---- what is counted and printed
+
+module _ (d : Description) where
+  points_fit : (q : Query) → IsFamily d.inputs (points_of d q)
+  points_fit q = IsFamily-combine (λ a b. a || b) d.inputs (care_zeros d.inputs d.kind d.rows q.output)
+      (care_ones d.inputs d.kind d.rows q.output)
+
+  answer_right : (q : Query) → IsAnswerTo d q (answer_to d q)
+  answer_right q = reduced_is d.inputs (sum_of_terms d.inputs q.terms) (points_of d q) (points_fit q)
+
+  same_answer : (q : Query) (p : Family) → IsAnswerTo d q p → p ≡ answer_to d q
+  same_answer q p is = reduced_once d.inputs (sum_of_terms d.inputs q.terms) (points_of d q) (points_fit q) p (answer_to d q) is
+      (answer_right q)
+
+  -- each query has an answer
+  pub all_answered : (queries : List Query) → AllZip (IsAnswerTo d) queries (map (answer_to d) queries)
+  all_answered queries = zip_from (IsAnswerTo d) (answer_to d) (λ p. p) (λ q p e. rw e (answer_right q)) queries _ (map-id _)
+
+  -- and one answer
+  pub answers_are : {Y : Type 0} (g : Y → Family) (queries : List Query) (ys : List Y) → AllZip (λ q y. IsAnswerTo d q (g y)) queries ys
+      → map g ys ≡ map (answer_to d) queries
+  answers_are g = zip_map (answer_to d) g (λ q y. same_answer q (g y))
+
+  -- so answers have as many terms as those that are found by families
+  pub answers_count : (queries : List Query) → sum_by length (map (answer_to d) queries) ≡ answer_terms d queries
+  answers_count queries = fold-map _ (answer_to d) 0 queries
+
+  -- and they are polynomials
+  pub answers_over : (queries : List Query) → All (IsFamily d.inputs) (map (answer_to d) queries)
+  answers_over queries = All-map (IsFamily d.inputs) (answer_to d) queries (λ k q less. (answer_right (get_or queries k q)).family)
+
+-- t is the state after the answers
+
+module _ {t : State} {d : Description} {queries : List Query} {found : List Handle} (are : AreAnswered t d queries found) where
+  pub handles_known : All (Knows t) found
+  handles_known = zip_all (λ q h. Denotes t h (answer_to d q)) (Knows t) (λ q h. Denotes-knows t h (answer_to d q)) queries found are.each
+
+  families_are : map (family t) found ≡ map (answer_to d) queries
+  families_are = zip_map (answer_to d) (family t) (λ q h. Denotes-family t h (answer_to d q)) queries found are.each
+
+  pub terms_are : terms_of t found ≡ answer_terms d queries
+  terms_are = sym (fold-map _ (family t) 0 found) ∙ (ap (sum_by length) families_are ∙ answers_count d queries)
+
+  pub lists_right : (lists : List (List ℕ)) → map reverse lists ≡ map (family t) found
+      → AllZip (λ q terms. IsAnswerTo d q (reverse terms)) queries lists
+  lists_right lists e = zip_from (λ q terms. IsAnswerTo d q (reverse terms)) (answer_to d) reverse
+      (λ q terms e. rw e (answer_right d q)) queries lists (e ∙ families_are)
+
+  pub nodes_fit : IsSound t → query_nodes d queries ≤ t.capacity
+  nodes_fit sound = fits t d.inputs (queries_list d queries) sound are.held
+
+-- ---- what the care points use
+
+pub ruleset points_rules = (named_planned, none_held, Grows-refl, Grows-trans)

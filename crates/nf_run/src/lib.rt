@@ -1,0 +1,24 @@
+//! Normal forms of given polynomials on the care points of a description, and the top call of the
+//! program that finds them.
+#![tactic(auto)]
+
+mod answer;
+mod answering;
+mod ends;
+pub mod laws;
+mod mode;
+mod queries;
+mod reading;
+mod reduction;
+mod solving;
+mod texts;
+mod top;
+
+pub use crate::answering::answer_queries;
+pub use crate::ends::QueryEnd;
+pub use crate::mode::QueryMode;
+pub use crate::queries::{Queries, Query, QueryRefusal, QueryWhy};
+pub use crate::reading::read_queries;
+pub use crate::reduction::reduce_polynomial;
+pub use crate::solving::{ReduceRefusal, reduce};
+pub use crate::top::{nf_run, start_nf_run};

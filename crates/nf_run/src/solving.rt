@@ -1,0 +1,201 @@
+//! Queries answered on a table of their own.
+ghost use Rattle.std.specs.Prelude.{◌≡◌, ◌<◌, ◌≤◌, ◌^◌, IfOk, IsErrOf, OnOk, reverse};
+ghost use Rattle.std.specs.List.{All, AllZip};
+ghost use Rattle.lattice.specs.WorkingLists.{working_set};
+ghost use Rattle.lattice.specs.declared.limits.TheConstants.{MIN_BITS, MAX_BITS};
+ghost use Rattle.lattice.proofs.Diagrams.{working_set_is_node_list};
+ghost use Rattle.pla_reader.specs.Reading.{description};
+ghost use Rattle.nf_run.specs.Answers.{IsAnswerTo, answer_terms, queries_list, query_nodes};
+ghost use Rattle.nf_run.specs.Queries.{IsQueryOver};
+
+use crate::answering::answer_queries;
+use crate::queries::Query;
+use computed_cache::CachedPass;
+use cube_build::CubesRefusal;
+use lattice::{Memory, MonoLists, Plan, Planned, plan_of};
+use node_store::Store;
+use pla_reader::Pla;
+use run_parts::{SMALL_BITS, first_bits, lists_of, next_bits};
+use set_algebra::WalkRefusal;
+use std::alloc::Global;
+use unique_table::Shared;
+
+/// Why queries were not answered.
+#[derive(Clone, Copy, Debug, PartialEq, Eq)]
+pub enum ReduceRefusal {
+    /// More nodes are needed than there are slots.
+    Exhausted,
+    /// The answers have more terms than the limit.
+    Terms,
+    /// Memory ran out.
+    Memory,
+}
+
+impl From<CubesRefusal> for ReduceRefusal {
+    ghost use Rattle.nf_run.specs.Answers.{refusal_of};
+
+    ghost from_gives = { λ refusal e. e ≡ refusal_of refusal };
+
+    fn from(refusal: CubesRefusal) -> Self {
+        match refusal {
+            CubesRefusal::Full => ReduceRefusal::Exhausted,
+            CubesRefusal::Memory => ReduceRefusal::Memory,
+        }
+    }
+}
+
+impl From<WalkRefusal> for ReduceRefusal {
+    ghost use Rattle.set_algebra.specs.declared.counted.WalkRefusal.TheVariants as unlisted;
+    ghost use Rattle.nf_run.specs.declared.solving.ReduceRefusal.TheVariants as unreduced;
+
+    ghost from_gives = { λ refusal e. (refusal ≡ unlisted.Over → e ≡ unreduced.Terms)
+        × (refusal ≡ unlisted.Memory → e ≡ unreduced.Memory) };
+
+    fn from(refusal: WalkRefusal) -> Self {
+        match refusal {
+            WalkRefusal::Over => ReduceRefusal::Terms,
+            WalkRefusal::Memory => ReduceRefusal::Memory,
+        }
+    }
+}
+
+impl From<Memory> for ReduceRefusal {
+    ghost use Rattle.nf_run.specs.declared.solving.ReduceRefusal.TheVariants as unreduced;
+
+    ghost from_gives = { λ _ e. e ≡ unreduced.Memory };
+
+    fn from(_: Memory) -> Self {
+        ReduceRefusal::Memory
+    }
+}
+
+/// Queries on a description.
+#[derive(Drop)]
+struct QueryRun<'a>(&'a Pla, &'a [Query]);
+
+impl Planned for QueryRun<'_> {
+    ghost families = { λ r. working_set r.0.now.inputs
+        (queries_list (description r.0.now) r.1.now) };
+
+    ghost node_list = { λ r. working_set_is_node_list r.0.now.inputs
+        (queries_list (description r.0.now) r.1.now) };
+}
+
+/// The plan of queries: the working set of their families. It does nothing at run time.
+fn query_plan(p: &Pla, queries: &[Query]) -> Plan
+    ensures { result.families ≡ working_set p.now.inputs
+        (queries_list (description p.now) queries.now) }
+{
+    plan_of(&QueryRun(p, queries))
+}
+
+/// The answers' terms, each from the greatest to the least, found in a store with the plan of the
+/// queries.
+fn reduce_in<S: Store>(
+    alloc: Global,
+    store: &mut S,
+    p: &Pla,
+    queries: &[Query],
+    limit: u64,
+) -> Result<MonoLists, ReduceRefusal>
+    requires over { All (IsQueryOver p.now.inputs p.now.outputs) queries.now }
+    requires vars { (S.state store.old).vars ≡ p.now.inputs }
+    requires plan { (S.state store.old).plan
+        ≡ working_set p.now.inputs (queries_list (description p.now) queries.now) }
+    ensures answers { IfOk result
+        (AllZip (λ q terms. IsAnswerTo (description p.now) q (reverse terms)) queries.now) }
+    ensures fits { OnOk result (query_nodes (description p.now) queries.now
+        ≤ (S.state store.old).capacity) }
+    ensures few { OnOk result (answer_terms (description p.now) queries.now ≤ limit) }
+    ensures exhausted { IsErrOf result ReduceRefusal.Exhausted
+        → (S.state store.old).capacity < query_nodes (description p.now) queries.now }
+    ensures terms { IsErrOf result ReduceRefusal.Terms
+        → (query_nodes (description p.now) queries.now ≤ (S.state store.old).capacity)
+        × (limit < answer_terms (description p.now) queries.now) }
+{
+    let found = answer_queries(alloc, store, p, queries)?;
+    let mut left = limit;
+    Ok(lists_of(alloc, store, &found, &mut left)?)
+}
+
+/// The same on a table of 2^bits slots, which all queries share.
+fn reduce_on(
+    alloc: Global,
+    bits: u32,
+    p: &Pla,
+    queries: &[Query],
+    limit: u64,
+) -> Result<MonoLists, ReduceRefusal>
+    requires bits { (MIN_BITS ≤ bits) × (bits ≤ MAX_BITS) }
+    requires over { All (IsQueryOver p.now.inputs p.now.outputs) queries.now }
+    ensures answers { IfOk result
+        (AllZip (λ q terms. IsAnswerTo (description p.now) q (reverse terms)) queries.now) }
+    ensures fits { OnOk result (query_nodes (description p.now) queries.now ≤ 2 ^ bits) }
+    ensures few { OnOk result (answer_terms (description p.now) queries.now ≤ limit) }
+    ensures exhausted { IsErrOf result ReduceRefusal.Exhausted
+        → 2 ^ bits < query_nodes (description p.now) queries.now }
+    ensures terms { IsErrOf result ReduceRefusal.Terms
+        → (query_nodes (description p.now) queries.now ≤ 2 ^ bits)
+        × (limit < answer_terms (description p.now) queries.now) }
+{
+    let (table, token) = Shared::make(alloc, bits, p.inputs, query_plan(p, queries))?;
+    let mut pass = CachedPass::new(table.pass(token));
+    reduce_in(alloc, &mut pass, p, queries, limit)
+}
+
+/// Whether the terms of the queries may need more nodes than a small table has: the points where a
+/// polynomial is 1 may need twice as many for each term more.
+fn need_many(p: &Pla, queries: &[Query]) -> bool {
+    let mut nodes = 0u64;
+    for query in queries {
+        let terms = query.terms.len().min(32);
+        nodes = nodes.saturating_add(u64::from(p.inputs) << terms);
+    }
+    nodes >= 1 << (SMALL_BITS - 1)
+}
+
+/// The size of the tables that queries begin with where the last ones have 2^bits slots.
+fn first_bits_for(p: &Pla, queries: &[Query], bits: u32) -> u32
+    requires { MIN_BITS ≤ bits }
+    ensures { (MIN_BITS ≤ result) × (result ≤ bits) }
+{
+    let first = first_bits(p, bits, false);
+    if first == SMALL_BITS && first < bits && need_many(p, queries) {
+        next_bits(first, bits)
+    } else {
+        first
+    }
+}
+
+/// Answers the queries on a table of 2^bits slots: for each the terms, from the greatest to the
+/// least, of the least polynomial that has the values of the query's at the care points of its
+/// output, where all have at most `limit` terms. The care points of an output are found once,
+/// however many queries are on it. Smaller tables are tried first that the description may do with.
+pub fn reduce(
+    alloc: Global,
+    bits: u32,
+    p: &Pla,
+    queries: &[Query],
+    limit: u64,
+) -> Result<MonoLists, ReduceRefusal>
+    requires bits { (MIN_BITS ≤ bits) × (bits ≤ MAX_BITS) }
+    requires over { All (IsQueryOver p.now.inputs p.now.outputs) queries.now }
+    ensures answers { IfOk result
+        (AllZip (λ q terms. IsAnswerTo (description p.now) q (reverse terms)) queries.now) }
+    ensures fits { OnOk result (query_nodes (description p.now) queries.now ≤ 2 ^ bits) }
+    ensures few { OnOk result (answer_terms (description p.now) queries.now ≤ limit) }
+    ensures exhausted { IsErrOf result ReduceRefusal.Exhausted
+        → 2 ^ bits < query_nodes (description p.now) queries.now }
+    ensures terms { IsErrOf result ReduceRefusal.Terms
+        → (query_nodes (description p.now) queries.now ≤ 2 ^ bits)
+        × (limit < answer_terms (description p.now) queries.now) }
+{
+    let mut tried = first_bits_for(p, queries, bits);
+    while tried < bits {
+        match reduce_on(alloc, tried, p, queries, limit) {
+            Err(ReduceRefusal::Exhausted) => tried = next_bits(tried, bits),
+            answers => return answers,
+        }
+    }
+    reduce_on(alloc, bits, p, queries, limit)
+}

@@ -1,5 +1,0 @@
-use Rattle.query_run.proofs.Inhabited.{due_for_examples}
-use Rattle.query_run.proofs.laws.due_for_examples.Goals as goal
-
-pub returns : goal.returns
-returns c = due_for_examples

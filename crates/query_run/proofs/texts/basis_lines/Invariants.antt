@@ -1,7 +1,0 @@
-use Rattle.std.proofs.Common.{◌≡◌, map, reverse, take}
-use Rattle.anf_printer.specs.Text.{shown_line}
-use Rattle.anf_printer.specs.declared.lines.Left.TheVariants.{Zero}
-use Rattle.query_run.proofs.texts.basis_lines.Given as goal
-
-abbrev pub invariant-loop-terms : goal.invariant-loop-terms
-invariant-loop-terms l = map shown_line l.lines.items ≡ map (λ e. (Zero, e)) (map reverse (take l.terms-index l.basis))
