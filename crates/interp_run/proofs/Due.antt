@@ -19,7 +19,7 @@ use Rattle.lattice.specs.Words.{IsConsistent, care_zeros, care_ones, care_set, i
 use Rattle.lattice.specs.declared.kind.Mode.{Mode}
 use Rattle.lattice.specs.declared.kind.Mode.TheVariants.{Anf, Basis, Check, Gen}
 use Rattle.lattice.proofs.Polynomials.{IsLeast-unique, IsReducedBasis-unique}
-use Rattle.outside.specs.Causes.{GainsFront, GainsLess}
+use Rattle.outside.specs.Causes.{GainsLess}
 use Rattle.pla_reader.specs.Orders.{IsOrder, arranged, order_named}
 use Rattle.pla_reader.specs.PrintedNames.{input_names, output_names}
 use Rattle.pla_reader.specs.Reading.{Description, bytes_taken, description, reading_of}
@@ -44,7 +44,9 @@ use Rattle.cli_words.specs.declared.job.Job.{Job}
 use Rattle.watch.specs.Notes.{WatcherState, left_after_all}
 use Rattle.watch.specs.declared.note.Note.{Note}
 use Rattle.watch.proofs.LeftAfter.{left_after_all-nil}
-use Rattle.run_parts.proofs.Runs.{appends_nothing, bytes_behind, bytes_of_source, err_is, keeps_nothing, keeps_same, ok_is, read_whole}
+use Rattle.program.proofs.Endings.{appends_nothing, bytes_of_source, keeps_nothing, keeps_same}
+use Rattle.program.proofs.Written.{stopped_at}
+use Rattle.run_parts.proofs.Runs.{bytes_behind, err_is, ok_is, read_whole}
 use Rattle.interp_run.specs.Answers.{AreAnswers, IsAnswerOf, notes_from}
 use Rattle.interp_run.specs.Due.{Due, IsDue, IsDueChecking, IsDueSolving, IsSolving, checking, contradicted, contradiction}
 use Rattle.interp_run.specs.Due.{contradiction_behind, file_of, first_passed, given_of, has_answers, in_order, is_gen, judged, least_jobs}
@@ -55,7 +57,7 @@ use Rattle.interp_run.specs.Run.{Ends, HasText, IsAsked, IsRefused, Ran, as_due,
 use Rattle.interp_run.specs.declared.outcome.Outcome.{Outcome}
 use Rattle.interp_run.specs.declared.outcome.Outcome.TheVariants as ends
 use Rattle.interp_run.proofs.SolvedAnswers.{answers_are}
-use Rattle.interp_run.proofs.Written.{stopped_at, told}
+use Rattle.interp_run.proofs.Written.{told}
 
 -- ==== the one job that words ask for
 
@@ -325,11 +327,10 @@ module _ {words : List (List ℕ)} {bytes : List ℕ} {job : Job} (asked : IsAsk
       ends_paged gained = as_due job (paged o text) asked due (rw append-nil gained) (sym (left_after_all-nil states))
 
       -- with a part of it
-      pub ends_within : HasText o → GainsFront old new text → GainsLess old new text
-          → Ends words bytes old new states states ends.WriteFault
-      ends_within has front less = write_fault job (paged o text) asked due has (rw append-nil front)
-          (stopped_at old old new (paged o text) 0 text states states (omega arith) refl (appends_nothing old) less
-          (sym (left_after_all-nil states)))
+      pub ends_within : HasText o → GainsLess old new text → Ends words bytes old new states states ends.WriteFault
+      ends_within has less = write_fault job (paged o text) asked due has (rw append-nil less)
+          (stopped_at old old new (paged o text).pages (paged o text).notes 0 text states states (omega arith) refl (appends_nothing old)
+          less (sym (left_after_all-nil states)))
 
 -- ==== what the status says
 

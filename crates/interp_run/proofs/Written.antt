@@ -1,20 +1,15 @@
--- What is counted and printed of one output after the other, and texts that are written so, with what the watchers are told of each.
-use Rattle.std.proofs.Common.{rules, ◌≡◌, ℕ, suc, ◌+◌, ◌<◌, ◌≤◌, ◌^◌, List, [], ◌∷◌, ◌++◌, length, map, get_or, reverse, sym, ◌∙◌, ap, ap₂}
-use Rattle.std.proofs.Common.{arith, refl, codes, decimal, take, drop, append_assoc, append-nil, Option, Some, length-append, length-take}
-use Rattle.std.proofs.Common.{⊎_elim, inl, inr, Bool, not}
-use Rattle.std.specs.Prelude.{Result, IsErr, OnErr, IfNone, IfSome, IsSome}
-use Rattle.std.specs.Io.{StartsWith}
-use Rattle.std.specs.Io.KnownBytes.{Appends}
-use Rattle.std.specs.List.{All, concat, enumerate_from, flat_map, sum_by}
+-- What is counted and printed of one output after the other.
+use Rattle.std.proofs.Common.{◌≡◌, ℕ, suc, ◌+◌, ◌<◌, ◌≤◌, ◌^◌, List, [], ◌∷◌, ◌++◌, length, map, get_or, reverse, sym, ◌∙◌, ap, ap₂}
+use Rattle.std.proofs.Common.{arith, refl, codes, decimal, take, append_assoc, Option, Some, length-take}
+use Rattle.std.proofs.Common.{inl, inr, Bool, not}
+use Rattle.std.specs.Prelude.{IfNone, IfSome, IsSome}
+use Rattle.std.specs.List.{All, enumerate_from, flat_map, sum_by}
 use Rattle.std.proofs.Math.Pow.{pow_mono}
-use Rattle.std.proofs.Math.Seq.{take-append_seam}
 use Rattle.std.proofs.lemmas.Bool.{cases_Bool}
-use Rattle.std.proofs.lemmas.Bool.Decides.{leb_tells}
-use Rattle.std.proofs.lemmas.List.{append_cancel_left, flat_map_more, get_or-map, length-map, length-reverse, map-append, map_more}
-use Rattle.std.proofs.lemmas.List.{map_push, reverse-reverse, take_more, take-append-drop, take-take}
+use Rattle.std.proofs.lemmas.List.{flat_map_more, get_or-map, length-map, length-reverse, map-append, map_more}
+use Rattle.std.proofs.lemmas.List.{map_push, reverse-reverse}
 use Rattle.std.proofs.lemmas.List.Elements.{All-cons, All-get_or, All-nil}
 use Rattle.std.proofs.lemmas.List.Filters.{length-filter_both}
-use Rattle.std.proofs.lemmas.List.Folds.{concat-append}
 use Rattle.std.proofs.lemmas.List.Sums.{sum_by-cons, sum_by-take-le, sum_by_more}
 use Rattle.std.proofs.lemmas.Option.{slice_get-get_or}
 use Rattle.std.proofs.lemmas.Slice.Zip.{length-zip}
@@ -30,18 +25,12 @@ use Rattle.node_store.specs.declared.store.Handle.{Handle}
 use Rattle.pla_reader.specs.Reading.{Description, description}
 use Rattle.pla_reader.specs.declared.pla.Pla.{Pla}
 use Rattle.pla_reader.proofs.ArrangedInputs.{count_printed}
-use Rattle.anf_printer.specs.Text.{Answer, IsAnswerOver as IsAnswer, shown_answer, texts_of}
+use Rattle.anf_printer.specs.Text.{Answer, shown_answer, texts_of}
 use Rattle.anf_printer.specs.declared.answer.Shown.{Shown}
-use Rattle.outside.specs.Causes.{GainsFront, GainsLess}
-use Rattle.outside.proofs.Known.{appends_both}
-use Rattle.watch.specs.Notes.{WatcherState, left_after, left_after_all}
 use Rattle.watch.specs.declared.note.Note.{Note}
-use Rattle.watch.proofs.LeftAfter.{left_after_all-push, room_left}
 use Rattle.run_parts.proofs.FoundTerms.{All_known-later, families_later, length-later, terms_of-later}
 use Rattle.interp_run.specs.Answers.{AreAnswers, IsAnswerOf, notes_from, summary_line, texts}
-use Rattle.interp_run.specs.Due.{Due}
 use Rattle.interp_run.specs.Phases.{AreHandles, KnowsOutput, OutputHandles, answer_in, second_terms, terms_of}
-use Rattle.interp_run.specs.Run.{HoldsFirst, TellsFirst}
 use Rattle.interp_run.proofs.OutputLists.{zip_fold}
 
 -- ==== sums of terms over the outputs so far, and what a store knows of them later
@@ -170,81 +159,3 @@ points_counted test n rows output s h o le is over =
 
 pub within_some : (o : Option ℕ) (k limit : ℕ) → o ≡ Some k → IfSome o (λ n. n ≤ limit) → k ≤ limit
 within_some o k limit is within = grind arith
-
--- ==== texts that are written one after the other
-
-module _ (pages : List (List ℕ)) (i : ℕ) (d : List ℕ) (within : i < length pages) where
-  page_more : concat (take (i + 1) pages) ≡ concat (take i pages) ++ get_or pages i d
-  page_more = rw (take_more pages i d within, concat-append) (simp append-nil)
-
-  module _ (old middle new : Option (List ℕ)) (page : List ℕ) (is : page ≡ get_or pages i d)
-      (before : Appends old middle (concat (take i pages))) where
-    pub page_written : Appends middle new page → Appends old new (concat (take (i + 1) pages))
-    page_written here = rw (page_more, ← is) (appends_both old middle new (concat (take i pages)) page before here)
-
-    pub page_begun : GainsFront middle new page → GainsFront old new (concat pages)
-    page_begun here =
-        let start : List ℕ = concat (take i pages) in let part : List ℕ = here.0 in
-        let rest : List ℕ = drop (length part) page ++ concat (drop (i + 1) pages) in
-        let cut : page ≡ part ++ drop (length part) page = sym (take-append-drop (length part) page)
-        ∙ ap (λ (l : List ℕ). l ++ drop (length part) page) here.1 in
-        let whole : concat pages ≡ (start ++ part) ++ rest = sym (ap concat (take-append-drop (i + 1) pages))
-        ∙ (concat-append (take (i + 1) pages) (drop (i + 1) pages)
-        ∙ (ap (λ (l : List ℕ). l ++ concat (drop (i + 1) pages)) (page_more ∙ ap (λ (l : List ℕ). start ++ l) (sym is ∙ cut))
-        ∙ simp append_assoc)) in (
-          start ++ part,
-          ap (take (length (start ++ part))) whole ∙ take-append_seam (start ++ part) rest,
-          appends_both old middle new start part before here.2,
-        )
-
--- ---- the watchers that are left while the texts are written
-
-pub told_more : (notes : List Note) (i : ℕ) (note : Note) (before middle after : List WatcherState) → i < length notes
-    → note ≡ get_or notes i note
-    → middle ≡ left_after_all (take i notes) before → after ≡ left_after note middle → after ≡ left_after_all (take (i + 1) notes) before
-told_more notes i note before middle after within is sofar here =
-    rw (here, sofar, take_more notes i note within, ← is) (sym (left_after_all-push (take i notes) note before))
-
-pub room_for_more : (notes : List Note) (i : ℕ) (before middle : List WatcherState) → i < length notes → length notes ≤ 64
-    → All (λ s. s.told ≡ []) before → middle ≡ left_after_all (take i notes) before → All (λ s. length s.told < 64) middle
-room_for_more notes i before middle within few untold is =
-    rw is (room_left (take i notes) 64 before untold (omega (arith, length-take i notes)))
-
--- ---- what out gained when a write failed
-
-holds_first : (pages : List (List ℕ)) (i : ℕ) (page part gained : List ℕ) → i < length pages → page ≡ get_or pages i page
-    → length part < length page → gained ≡ concat (take i pages) ++ part → HoldsFirst pages gained i
-holds_first pages i page part gained within is less all = record {
-  within = omega (arith, within);
-  front = ap (take (length (concat (take i pages)))) all ∙ take-append_seam (concat (take i pages)) part;
-  greatest = λ more fits starts. ⊎_elim (λ le. le.1) (λ over. absurd (too_long more (omega (arith, over.1)) starts)) (leb_tells more i);
-}
-  where
-    too_long : (more : ℕ) → i + 1 ≤ more → StartsWith gained (concat (take more pages)) → ⊥
-    too_long more over starts =
-        let longer = simp (concat-append, length-append, take-take) at (ap (λ ps. length (concat ps))
-        (take-append-drop (i + 1) (take more pages))) in
-        omega (
-          arith,
-          longer,
-          ap length (page_more pages i page within),
-          length-append (concat (take i pages)) (get_or pages i page),
-          ap length is,
-          ap length all,
-          length-append (concat (take i pages)) part,
-          ap length starts,
-          length-take (length (concat (take more pages))) gained,
-        )
-
-gained_is : (old middle new : Option (List ℕ)) (start part bytes gained : List ℕ) → Appends old middle start → Appends middle new part
-    → old ≡ Some bytes → new ≡ Some (bytes ++ gained) → gained ≡ start ++ part
-gained_is old middle new start part bytes gained h k a b = grind (arith, append_assoc, append_cancel_left)
-
-pub stopped_at : (old middle new : Option (List ℕ)) (due : Due) (i : ℕ) (page : List ℕ) (before after : List WatcherState)
-    → i < length due.pages → page ≡ get_or due.pages i page
-    → Appends old middle (concat (take i due.pages)) → GainsLess middle new page → after ≡ left_after_all (take i due.notes) before
-    → TellsFirst old new due before after
-stopped_at old middle new due i page before after within is sofar here left = search (rules, arith, holds_first, gained_is)
-
-pub on_err : {T E : Type 0} (r : Result T E) (P : Type 0) → IsErr r → P → OnErr r P
-on_err r P is p = grind arith

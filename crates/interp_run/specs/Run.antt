@@ -1,15 +1,15 @@
 -- What a run owes for the words and the bytes: its outcome, its status, what it writes, and who is told.
-use Rattle.std.specs.Prelude.{◌≡◌, ◌≢◌, ◌++◌, ◌≤◌, [], false, ℕ, List, length, take, Option, Some, codes, decimal}
+use Rattle.std.specs.Prelude.{◌≡◌, ◌≢◌, ◌++◌, [], false, ℕ, List, Option, Some, codes, decimal}
 use Rattle.std.specs.List.{concat}
-use Rattle.std.specs.Io.{StartsWith}
 use Rattle.std.specs.Io.KnownBytes.{Appends, Keeps}
-use Rattle.outside.specs.Causes.{GainsFront}
+use Rattle.outside.specs.Causes.{GainsLess}
 use Rattle.pla_reader.specs.Causes.{why_name}
 use Rattle.cert_check.specs.Causes.{answer_why_name}
 use Rattle.clap.specs.Words.{fault_of, matches_of}
 use Rattle.cli_words.specs.CommandLine.{IsJob, interp_command}
 use Rattle.cli_words.specs.declared.job.Job.{Job}
 use Rattle.watch.specs.Notes.{WatcherState, left_after_all}
+use Rattle.program.specs.Pages.{TellsFirst}
 use Rattle.interp_run.specs.Due.{Due, IsDue, is_gen}
 use Rattle.interp_run.specs.declared.outcome.Outcome.{Outcome}
 use Rattle.interp_run.specs.declared.outcome.Outcome.TheVariants as ends
@@ -57,18 +57,6 @@ HasText o = status_of o ≤ 1
 
 -- ---- what a run does
 
--- of so many texts, and no more, the whole is in what was gained
-pub record HoldsFirst (pages : List (List ℕ)) (gained : List ℕ) (count : ℕ) : Type 0 where
-  pub within : count ≤ length pages
-  pub front : StartsWith gained (concat (take count pages))
-  pub greatest : (more : ℕ) → more ≤ length pages → StartsWith gained (concat (take more pages)) → more ≤ count
-
--- the watchers were told of so many outputs, as many as out gained whole, where it tells its bytes
-pub record TellsFirst (old new : Option (List ℕ)) (due : Due) (before after : List WatcherState) : Type 0 where
-  pub count : ℕ
-  pub left : after ≡ left_after_all (take count due.notes) before
-  pub holds : (bytes gained : List ℕ) → old ≡ Some bytes → new ≡ Some (bytes ++ gained) → HoldsFirst due.pages gained count
-
 -- a run with these words on these bytes ends with an outcome: with the one that is due, or for a fault or want of memory. The
 -- rest says what out gained, and who of the watchers is left.
 pub data Ends (words : List (List ℕ)) (bytes : List ℕ) (old new : Option (List ℕ)) (before after : List WatcherState) : Outcome → Type 0 where
@@ -76,7 +64,7 @@ pub data Ends (words : List (List ℕ)) (bytes : List ℕ) (old new : Option (Li
   as_due : (job : Job) (due : Due) → IsAsked words job → IsDue job bytes due → Appends old new (concat due.pages)
       → after ≡ left_after_all due.notes before → Ends words bytes old new before after due.outcome
   write_fault : (job : Job) (due : Due) → IsAsked words job → IsDue job bytes due → HasText due.outcome
-      → GainsFront old new (concat due.pages) → TellsFirst old new due before after
+      → GainsLess old new (concat due.pages) → TellsFirst old new due.pages due.notes before after
       → Ends words bytes old new before after ends.WriteFault
   read_fault : (job : Job) → IsAsked words job → is_gen job.mode ≡ false → Keeps old new → after ≡ before
       → Ends words bytes old new before after ends.ReadFault

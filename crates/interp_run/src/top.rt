@@ -1,17 +1,16 @@
 //! The top call: the words, the reading, the answer and the writing.
-ghost use Rattle.std.specs.Prelude.{◌≡◌, ◌≢◌, false, ◌⊎◌, ◌+◌, ◌≤◌, [], List, ℕ, All, OnOk, OnErr};
-ghost use Rattle.std.specs.Prelude.{Some, length, take};
+ghost use Rattle.std.specs.Prelude.{◌≡◌, ◌≢◌, false, ◌⊎◌, ◌+◌, ◌≤◌, [], List, ℕ, All};
+ghost use Rattle.std.specs.Prelude.{Some, take};
 ghost use Rattle.std.specs.List.{concat};
 ghost use Rattle.std.specs.Io.KnownBytes.{Appends, Keeps};
 ghost use Rattle.lattice.specs.Counts.{Rose};
 ghost use Rattle.lattice.specs.declared.kind.Mode.TheVariants.{Anf, Basis, Check, Gen};
-ghost use Rattle.outside.specs.Causes.{GainsFront, GainsUnlessRose, HasCause, LosesAtMost};
+ghost use Rattle.outside.specs.Causes.{GainsUnlessRose, LosesAtMost};
 ghost use Rattle.cli_words.specs.CommandLine.{IsWithin};
 ghost use Rattle.cli_words.specs.declared.job.Job.{Job};
-ghost use Rattle.watch.specs.Notes.{WatcherState, left_after_all, states_by};
+ghost use Rattle.watch.specs.Notes.{WatcherState, states_by};
 ghost use Rattle.interp_run.specs.Due.{Due, IsDue, is_gen, least_jobs};
-ghost use Rattle.interp_run.specs.Run.{Ends, HasText, IsAsked, IsRefused, Ran, TellsFirst, line_of};
-ghost use Rattle.interp_run.specs.Run.{status_of};
+ghost use Rattle.interp_run.specs.Run.{Ends, HasText, IsAsked, IsRefused, Ran, line_of, status_of};
 ghost use Rattle.interp_run.specs.declared.outcome.Outcome.{Outcome};
 ghost use Rattle.interp_run.specs.declared.outcome.Outcome.TheVariants as outcomes;
 
@@ -24,38 +23,11 @@ use cli_words::{Job, WordsRefusal, read_words};
 use fork_branches::Pool;
 use lattice::{Mode, Text, Words};
 use outside::{Failed, ReadStop, Rendezvous, Sink, Source, read_up_to, write_whole};
+use program::write_pages;
 use run_parts::MOST_BYTES;
 use std::alloc::Global;
 use std::thread::Threads;
-use watch::{Note, Watch, tell};
-
-// Writes the texts, one after the other, and tells the watchers of each as soon as it was written
-// whole.
-fn write_pages<K: Sink>(
-    out: &mut K,
-    pages: &[Text],
-    notes: &[Note],
-    watchers: &mut Vec<Box<dyn Watch>>,
-) -> Result<(), Failed>
-    requires size { length notes.now ≡ length pages.now }
-    requires few { length pages.now ≤ 64 }
-    requires untold { All (λ s. s.told ≡ []) (states_by told patience watchers.old.items) }
-    ensures whole { OnOk result (Appends (K.held out.old) (K.held out.new) (concat pages.now)) }
-    ensures front { GainsFront (K.held out.old) (K.held out.new) (concat pages.now) }
-    ensures cause { HasCause (K.faults out.old) (K.faults out.new) result }
-    ensures told { OnOk result (states_by told patience watchers.new.items
-        ≡ left_after_all notes.now (states_by told patience watchers.old.items)) }
-    ensures stopped { OnErr result
-        (TellsFirst (K.held out.old) (K.held out.new)
-        (record { outcome = outcomes.Done; pages = pages.now; notes = notes.now })
-        (states_by told patience watchers.old.items) (states_by told patience watchers.new.items)) }
-{
-    for (page, note) in pages.iter().zip(notes) {
-        write_whole(out, page.as_slice())?;
-        tell(watchers, note);
-    }
-    Ok(())
-}
+use watch::Watch;
 
 // Solves the description, and writes the answer.
 fn write_answer<R: Threads + Sync, K: Sink, P: Pool>(

@@ -1,29 +1,13 @@
 -- What a run reads of its source, what it writes, and results that it finds twice.
-use Rattle.std.proofs.Common.{◌≡◌, ◌⊎◌, ◌∙◌, ℕ, ◌+◌, ◌<◌, ◌≤◌, List, [], length, length-take, min, take, take_all, append-nil, ap, refl}
+use Rattle.std.proofs.Common.{◌≡◌, ◌⊎◌, ◌∙◌, ℕ, ◌+◌, ◌<◌, ◌≤◌, List, length, length-take, min, take, take_all, ap, refl}
 use Rattle.std.proofs.Common.{sym, inl, inr, ⊎_elim, arith, Option, Some, None}
 use Rattle.std.specs.Prelude.{Ok, Err, Result, OnOk}
 use Rattle.std.proofs.lemmas.Bool.{cases_lt}
-use Rattle.std.specs.Io.KnownBytes.{Appends, Keeps}
+use Rattle.std.specs.Io.KnownBytes.{Appends}
 use Rattle.outside.specs.Causes.{GainsFront, GainsUnlessRose, HasCause}
 use Rattle.run_parts.specs.declared.describe.TheConstants.{MOST_BYTES}
 
 -- ---- what was written
-
--- What a sink holds it keeps where nothing is written.
-pub keeps_same : (old : Option (List ℕ)) → Keeps old old
-keeps_same None = tt
-keeps_same (Some xs) = refl
-
--- It then gains the empty text.
-pub appends_nothing : (old : Option (List ℕ)) → Appends old old []
-appends_nothing None = tt
-appends_nothing (Some xs) = sym (append-nil xs)
-
--- A sink that gains the empty text keeps what it holds.
-pub keeps_nothing : (old new : Option (List ℕ)) → Appends old new [] → Keeps old new
-keeps_nothing None new a = tt
-keeps_nothing (Some xs) None a = absurd a
-keeps_nothing (Some xs) (Some ys) a = a ∙ append-nil xs
 
 -- A line is gained whole, or the count of faults rose.
 pub gains_line : {T E : Type 0} (old new : Option (List ℕ)) (text : List ℕ) (before now : ℕ) (r : Result T E)
@@ -49,11 +33,7 @@ unfolding told_or
 read_is None read told few = sym (take_all (MOST_BYTES + 1) read few)
 read_is (Some xs) read told few = told xs refl
 
--- There are bytes that a source has: those that it told, where it told them.
-pub bytes_of_source : (left : Option (List ℕ)) → (bytes : List ℕ) × ((all : List ℕ) → left ≡ Some all → bytes ≡ all)
-bytes_of_source left = (told_or left [], told_is left [])
-
--- And such bytes that begin with those that were read.
+-- There are bytes that a source has, those that it told where it told them, which begin with those that were read.
 pub bytes_behind : (left : Option (List ℕ)) (read : List ℕ) → ((xs : List ℕ) → left ≡ Some xs → read ≡ take (MOST_BYTES + 1) xs)
     → length read ≤ MOST_BYTES + 1
     → (bytes : List ℕ) × ((all : List ℕ) → left ≡ Some all → bytes ≡ all) × (read ≡ take (MOST_BYTES + 1) bytes)

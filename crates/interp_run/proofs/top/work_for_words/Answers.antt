@@ -1,6 +1,6 @@
 use Rattle.std.proofs.Common.{refl, rules, ⊎_elim}
 use Rattle.interp_run.specs.Run.{memory, refused}
-use Rattle.run_parts.proofs.Runs.{keeps_same}
+use Rattle.program.proofs.Endings.{keeps_same}
 use Rattle.interp_run.proofs.Due.{ran_short, reading_mode, same_job}
 use Rattle.interp_run.proofs.top.work_for_words.Goals as goal
 

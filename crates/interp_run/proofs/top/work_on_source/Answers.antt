@@ -1,6 +1,6 @@
 use Rattle.std.proofs.Common.{◌∙◌, refl, rules}
 use Rattle.interp_run.specs.Run.{memory, read_fault}
-use Rattle.run_parts.proofs.Runs.{keeps_same}
+use Rattle.program.proofs.Endings.{keeps_same}
 use Rattle.interp_run.proofs.Due.{ran_read, ran_short}
 use Rattle.interp_run.proofs.top.work_on_source.Goals as goal
 

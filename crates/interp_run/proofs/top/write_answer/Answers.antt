@@ -22,7 +22,7 @@ returns-in-Ok-write_pages-clause-ends g c = λ words whole asked is.
 pub returns-clause-ends : goal.returns-clause-ends
 returns-clause-ends g c = λ words whole asked is.
     write_fault c.args.job.now _ asked (due_of_read (solves_without_gen _ c.requires.mode).1 is c.in-Ok.ensures.ok) (omega arith)
-    (rw c.as_slice.ensures at c.in-Err-write_pages.ensures.front)
+    (rw c.as_slice.ensures at c.in-Err-write_pages.ensures.less)
     (rw (c.as_slice.ensures, c.as_slice-2.ensures) at c.in-Err-write_pages.ensures.stopped)
 
 pub returns-in-Ok-write_pages-clause-jobs : goal.returns-in-Ok-write_pages-clause-jobs

@@ -24,7 +24,7 @@ returns-in-Err g c =
 
 pub returns-then-is_err-clause-ends : goal.returns-then-is_err-clause-ends
 returns-then-is_err-clause-ends g c = λ words whole states asked.
-    ends_within asked (c.in-Ok.ensures.ok whole) (omega arith) (rw c.as_slice.ensures at c.write_whole.ensures.front)
+    ends_within asked (c.in-Ok.ensures.ok whole) (omega arith)
     (rw c.as_slice.ensures at (after_err c.write_whole.result _ (sym c.is_err.ensures.value ∙ c.if-is_err.true) c.write_whole.ensures.less))
 
 pub returns-clause-ends : goal.returns-clause-ends

@@ -28,5 +28,4 @@ pub returns-in-Err-write_whole-clause-ends : goal.returns-in-Err-write_whole-cla
 returns-in-Err-write_whole-clause-ends g c = λ words whole states asked is.
     let written = judged_is c.in-Ok.verdict _ c.print_verdict.ensures in
     ends_within asked (due_of_read (ap is_gen c.requires.mode) is (rw written.0 at c.in-Ok.ensures.ok)) written.1
-    (rw (c.as_bytes.ensures.value, c.as_str.ensures.value) at c.in-Err-write_whole.ensures.front)
     (rw (c.as_bytes.ensures.value, c.as_str.ensures.value) at c.in-Err-write_whole.ensures.less)
