@@ -5,6 +5,4 @@
 #[cfg(test)]
 mod of_file_batch;
 #[cfg(test)]
-mod of_file_relay;
-#[cfg(test)]
 mod of_file_stream;
