@@ -1,8 +1,8 @@
 """Queries and bases of nfq on files that need many nodes, how long these runs take, and how nfq ends where calls fail.
 
 A run on such a file ends: by its answer, or by the count of nodes or terms that is due, in a time that is told here. On
-random files no mode takes more than twice the processor time that `interp basis` takes on the same file, or more than it
-takes on one of the joined points, where their basis is the larger one.
+random files no mode takes more than twice the processor time that `interp basis` takes on the same file, or on one of
+the joined points, where their basis is the larger one.
 Where memory is refused a run ends with status 7, where a read fails with 8, and where a write fails with 9. The other
 statuses are in test_queries.
 """
@@ -195,8 +195,8 @@ class Compared(Test):
                     self.compare(file, mode, whole)
 
     def compare(self, file, mode, whole):
-        """It takes at most twice what interp takes for the bases of both outputs, or at most what interp takes for the
-        one basis of the joined points, a quarter more or less. The answer is this one."""
+        """It takes at most twice what interp takes for the bases of both outputs, or for the one basis of the joined
+        points, where that is larger. The answer is this one."""
         asked = Timed([program("nfq"), mode], file.text + file.queries)
         self.assertIn(asked.ended.status, (0, 5, 6))
         is_fast = asked.is_within(2, whole)
@@ -205,7 +205,7 @@ class Compared(Test):
             other = Timed([program("interp"), "basis"], joined)
             if (asked.ended.status, other.ended.status) == (0, 0):
                 self.assertEqual(asked.ended.out, other.ended.out.partition("\n")[2])
-            is_fast = is_fast or asked.is_within(1.25, other)
+            is_fast = is_fast or asked.is_within(2, other)
         self.assertTrue(is_fast, f"{asked.seconds} s, where interp takes {whole.seconds} s")
 
 

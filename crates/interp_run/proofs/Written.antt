@@ -25,7 +25,7 @@ use Rattle.node_store.specs.declared.store.Handle.{Handle}
 use Rattle.pla_reader.specs.Reading.{Description, description}
 use Rattle.pla_reader.specs.declared.pla.Pla.{Pla}
 use Rattle.pla_reader.proofs.ArrangedInputs.{count_printed}
-use Rattle.anf_printer.specs.Text.{Answer, shown_answer, texts_of}
+use Rattle.anf_printer.specs.Text.{Answer, IsAnswerOver as IsAnswer, shown_answer, texts_of}
 use Rattle.anf_printer.specs.declared.answer.Shown.{Shown}
 use Rattle.watch.specs.declared.note.Note.{Note}
 use Rattle.run_parts.proofs.FoundTerms.{All_known-later, families_later, length-later, terms_of-later}

@@ -1,5 +1,5 @@
 -- What a run owes for the words and the bytes: its outcome, its status, what it writes, and who is told.
-use Rattle.std.specs.Prelude.{◌≡◌, ◌≢◌, ◌++◌, [], false, ℕ, List, Option, Some, codes, decimal}
+use Rattle.std.specs.Prelude.{◌≡◌, ◌≢◌, ◌++◌, ◌≤◌, [], false, ℕ, List, Option, Some, codes, decimal}
 use Rattle.std.specs.List.{concat}
 use Rattle.std.specs.Io.KnownBytes.{Appends, Keeps}
 use Rattle.outside.specs.Causes.{GainsLess}

@@ -14,12 +14,5 @@ fn main(rt: HostRuntime) -> ExitCode {
     let mut source = StdSource::new(rt.stdin());
     let mut out = StdSink::new(rt.stdout());
     let mut err = StdSink::new(rt.stderr());
-    ExitCode::from(start_nf_run(
-        &rt,
-        rt.alloc(),
-        BITS,
-        &mut source,
-        &mut out,
-        &mut err,
-    ))
+    ExitCode::from(start_nf_run(&rt, rt.alloc(), BITS, &mut source, &mut out, &mut err))
 }

@@ -53,9 +53,9 @@ pub trait End: Copy {
     ghost own: { (e : Self) → IsOwnStatus (way e).status };
 }
 
-/// No end: that of a program that has none of its own.
+/// What stands for an end of its own in a program that has none: what is due there never names it.
 #[derive(Clone, Copy, Debug, PartialEq, Eq)]
-pub enum NoEnd {}
+pub struct NoEnd;
 
 impl End for NoEnd {
     ghost way = { λ _. record { status = 1; message = [] } };

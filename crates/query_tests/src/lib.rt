@@ -2,6 +2,6 @@
 #![tactic(auto)]
 
 #[cfg(test)]
-mod of_point_ideals;
-#[cfg(test)]
 mod of_nf_run;
+#[cfg(test)]
+mod of_point_ideals;

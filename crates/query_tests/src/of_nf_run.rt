@@ -1,9 +1,9 @@
 ghost use Rattle.std.specs.Prelude.{◌<◌, length};
 
 use lattice::{Mono, MonoLists, Words};
+use nf_run::{QueryRefusal, QueryWhy, nf_run, read_queries, reduce};
 use outside::{MemSink, MemSource};
 use pla_reader::read;
-use nf_run::{QueryRefusal, QueryWhy, nf_run, read_queries, reduce};
 use std::alloc::Global;
 use std::process::Abort;
 use std::test::Fail;

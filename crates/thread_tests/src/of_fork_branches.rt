@@ -311,22 +311,9 @@ fn operations_by_workers(rt: HostRuntime) -> Result<(), Fail> {
 // The first step of an operation that goes on into halves runs them in two branches, which meet.
 #[test]
 fn branches_meet(rt: HostRuntime) -> Result<(), Fail> {
-    let cases: [(Op, usize); 4] = [
-        (Op::Union, 7),
-        (Op::Inter, 1),
-        (Op::Minus, 3),
-        (Op::Xor, 6),
-    ];
+    let cases: [(Op, usize); 4] = [(Op::Union, 7), (Op::Inter, 1), (Op::Minus, 3), (Op::Xor, 6)];
     for (op, members) in cases {
-        let (met, found) = given_by(
-            &rt,
-            rt.alloc(),
-            2,
-            LOOKS,
-            op,
-            &[1, 2, 4, 7],
-            &[3, 5, 6, 7],
-        )?;
+        let (met, found) = given_by(&rt, rt.alloc(), 2, LOOKS, op, &[1, 2, 4, 7], &[3, 5, 6, 7])?;
         assert!(rt; met);
         assert_eq!(rt; found.len(), members);
     }
