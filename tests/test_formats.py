@@ -278,7 +278,9 @@ class Rings(Folder):
         self.write("f.sing", "\n".join([*text, "quit;", ""]))
         ended = run([installed("Singular"), "-q", "f.sing"], cwd=self.here)
         self.assertNotIn("?", ended.out, ended.out[:2000])
-        self.expect_all(ended.out.split())
+        # Singular's own remarks, as where a library that would make it faster is not installed.
+        values = [line for line in ended.out.splitlines() if not line.startswith("//")]
+        self.expect_all(values)
 
     def singular_values(self, given):
         variables = rings.SINGULAR.names(given.inputs, len(given.outputs or ()))
