@@ -2,12 +2,16 @@
 -- nodes. The comment above each lemma says what it gives.
 -- Lists of families.
 pub use Rattle.lattice.proofs.Families.{Has-nil, Has-cases, Has-head, Has-tail, Has-append_left, Has-append_right, Has-append_cases}
--- Distinct lists, and lists behind a map or with one element more.
-pub use Rattle.lattice.proofs.Families.{Has_at, index_of, distinct_from, none_of, covered_length, get_map, get_cases}
+-- Distinct lists.
+pub use Rattle.lattice.proofs.Families.{Has_at, index_of, distinct_from, none_of, covered_length}
+-- Lists behind a map or with one element more, and lists of zeros.
+pub use Rattle.lattice.proofs.ListLaws.{get_map, get_cases, no_word}
 -- The two constants.
 pub use Rattle.lattice.proofs.Families.{IsFamily-nil, IsFamily-unit}
--- Empty families, and what is steady.
-pub use Rattle.lattice.proofs.Cofactors.{cases_empty, not_empty, steady}
+-- Empty families.
+pub use Rattle.lattice.proofs.Cofactors.{cases_empty, not_empty}
+-- What is steady, and what `1 << k` computes.
+pub use Rattle.lattice.proofs.NumberLaws.{steady, weight_is}
 -- Cofactors and joins.
 pub use Rattle.lattice.proofs.Cofactors.{high_cofactor_none, low_cofactor_whole, join-nil, join_cofactors_suc, IsFamily-join_suc}
 -- The parts of a join, and the family of one number.
@@ -41,13 +45,15 @@ pub use Rattle.lattice.proofs.WorkingSets.{covers_nothing, covers_more, covers_l
 -- What working sets are.
 pub use Rattle.lattice.proofs.WorkingSets.{working_set_members, working_set_is_node_list}
 -- The number of slots.
-pub use Rattle.lattice.proofs.Tables.{shifted_one, slots_most, weight_is, ℕ_trichotomy}
+pub use Rattle.lattice.proofs.Tables.{shifted_one, slots_most}
 -- Filled slots, and filling one.
-pub use Rattle.lattice.proofs.Tables.{fills, filling_grows, grows_handle, grows_filled, filled_within, no_word, none_filled, node_some}
+pub use Rattle.lattice.proofs.Tables.{fills, filling_grows, grows_handle, grows_filled, filled_within, none_filled, node_some}
 -- What handles denote.
 pub use Rattle.lattice.proofs.Tables.{denoted, denotes_grows, denotes_handle, denotes_one, high_after, low_after, slot_level, some_members}
 -- One handle for each family.
 pub use Rattle.lattice.proofs.Tables.{one_handle, variables_from, known_one, union_agrees, held_fits, stored_grows, true_word_stays}
+-- Sound tables.
+pub use Rattle.lattice.proofs.SoundTables.{result_handle, sound_on, sound_table, sound_word}
 -- Histories.
 pub use Rattle.lattice.proofs.Histories.{refused-append, legal, fits_append, fits_grows, IsLegal-prop, met_slot, slot_holds}
 -- Counts of refusals.

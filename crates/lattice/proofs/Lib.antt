@@ -1,3 +1,5 @@
+mod NumberLaws
+mod ListLaws
 mod Families
 mod Cofactors
 mod Values
@@ -10,5 +12,7 @@ mod Pointwise
 mod WorkingSets
 mod Tables
 mod Histories
+mod SoundTables
+mod Ideals
 pub mod Polynomials
 pub mod Diagrams

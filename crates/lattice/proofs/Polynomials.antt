@@ -1,5 +1,6 @@
 -- What other crates use of the laws of families, points and polynomials: membership, cofactors, values, least polynomials, standard
--- monomials, leads and reduced bases. The comment above each lemma says what it gives.
+-- monomials, leads, reduced bases and ideals; and of those of lists and numbers, which are in std's words alone. The comment above each
+-- lemma says what it gives.
 -- Members of a list.
 pub use Rattle.lattice.proofs.Families.{has-nil, has-cons, has_none, has_head, has_tail, has_other, has_cases, has-append, has-filter}
 -- Members of a list that is lowered, and of one with one more element.
@@ -13,7 +14,7 @@ pub use Rattle.lattice.proofs.Families.{is_family, below_bound, not_above_bound,
 -- The numbers below n.
 pub use Rattle.lattice.proofs.Families.{has-numbers_below, length-numbers_below}
 -- Families by a test.
-pub use Rattle.lattice.proofs.Families.{IsFamily-family_where, has-family_where, has-family_where_below, only_below}
+pub use Rattle.lattice.proofs.Families.{IsFamily-family_where, has-family_where, has-family_where_below}
 -- Families by tests that agree.
 pub use Rattle.lattice.proofs.Families.{family_where_has, family_where-agree, family_where-none}
 -- Two families combined.
@@ -27,13 +28,13 @@ pub use Rattle.lattice.proofs.Values.{divides_high_point, divides_high_monomial,
 -- How many monomials of a polynomial divide a point.
 unfoldable pub use Rattle.lattice.proofs.Values.{count}
 -- Laws of these counts.
-pub use Rattle.lattice.proofs.Values.{count-append, count_agree, count_join_low, count_join_high, value-count}
+pub use Rattle.lattice.proofs.Values.{count-append, count-cons, count_agree, count_join_low, count_join_high, value-count}
 -- Values.
 pub use Rattle.lattice.proofs.Values.{value_cases, value-lt, value-nil, value-one}
 -- Values by cofactors, and of one monomial.
 pub use Rattle.lattice.proofs.Values.{value-single, value_join_low, value_join_high, value-at_high, value-at_low}
 -- Empty and constant families, and sums over fewer variables.
-pub use Rattle.lattice.proofs.Values.{empty_is, not_constant, sum_after, sum_narrow, value-sum, twice}
+pub use Rattle.lattice.proofs.Values.{empty_is, not_constant, sum_after, sum_narrow, value-sum}
 -- Two lists of points, cut at the greatest variable.
 pub use Rattle.lattice.proofs.Least.{IsCut, upper_part, lower_part, some_member, some_variable, disjoint_from_test}
 -- Least polynomials.
@@ -57,4 +58,24 @@ pub use Rattle.lattice.proofs.Results.{split_at, IsLeast-normal_form_of, IsBasis
 -- The reduced basis, and polynomials by their values.
 pub use Rattle.lattice.proofs.Results.{reduced_basis_exists, IsReducedBasis-unique, polynomial_by_values, product_by_values}
 -- Care points.
-pub use Rattle.lattice.proofs.Results.{care_points_disjoint, consistent_by_rows}
+pub use Rattle.lattice.proofs.Results.{IsFamily-care_set, care_points_disjoint, consistent_by_rows}
+-- Ideals of points.
+pub use Rattle.lattice.proofs.Ideals.{basis_same, intersection_law, sum_law}
+-- Powers of two, and their bits.
+pub use Rattle.lattice.proofs.NumberLaws.{by_halves, max_is_one, twice, weight_bit}
+-- The answers of tests.
+pub use Rattle.lattice.proofs.NumberLaws.{only_below, or_second, or_third, positive}
+-- Elements of lists.
+pub use Rattle.lattice.proofs.ListLaws.{All-from_map, at_or, contains_cases, contains_filter, drop_next, none_before}
+-- Lists that are put together.
+pub use Rattle.lattice.proofs.ListLaws.{ascend_push, concat-line, enumerate_from-append, left_nil, reverse_cons, some_more}
+-- Lists that are empty.
+pub use Rattle.lattice.proofs.ListLaws.{empty_from_test, nonempty_from_test}
+-- How many elements pass a test, whether one does, and which is the first.
+pub use Rattle.lattice.proofs.ListLaws.{any_either, any_kept, any_push, counts_none, first_or_len, place_within}
+-- Two lists, place by place.
+pub use Rattle.lattice.proofs.ListLaws.{zip_at, zip_fold, zip_weaker}
+-- A last element that is taken off.
+pub use Rattle.lattice.proofs.ListLaws.{strip_last-append, strip_last-cons, strip_last-cons₂, strip_one}
+-- Options.
+pub use Rattle.lattice.proofs.ListLaws.{is_some_given, map_or, or_none, value_given}

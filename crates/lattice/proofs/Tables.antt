@@ -1,15 +1,16 @@
 -- Canonical tables: what may be filled, what handles denote, and that each family has one handle at most.
-use Rattle.std.proofs.Common.{pow_mono, All, ◌≡◌, ℕ, ◌*◌, ◌%◌, ◌^◌, ◌<◌, ◌≤◌, ap, ◌∙◌, arith, one-mul, mod-eq_of_lt, ◌≢◌, zero, suc, ◌⊎◌}
+use Rattle.std.proofs.Common.{pow_mono, All, ◌≡◌, ℕ, ◌*◌, ◌%◌, ◌^◌, ◌<◌, ◌≤◌, ap, ◌∙◌, arith, ◌≢◌, zero, suc, ◌⊎◌}
 use Rattle.std.proofs.Common.{List, [], ◌∷◌, length, slice_index, set, sym, refl, subst, length-set, get_or-set_same, get_or-set_other}
 use Rattle.std.proofs.Common.{replicate, ◌-◌, true, Option, Some, None, ⊎_elim, map, lt-ltb}
 use Rattle.std.proofs.lemmas.List.{length-map, length-replicate, get_or-replicate}
 use Rattle.lattice.specs.Words.{Has, Covers, numbers_below, has, Family, IsFamily, is_distinct, var_of, lo_of, hi_of, place, IsFilled}
 use Rattle.lattice.specs.Words.{IsHandle, var_at, IsNodeWord, IsReached, IsCanonical, MayFill, KeepsWords, DenotesIn, nothing, unit, slot}
 use Rattle.lattice.specs.Words.{IsStored, join, level, IsTrueWord, KnownIsOneToOne, UnionAgrees, first_known}
-use Rattle.std.proofs.Math.Pow.{pow-lt}
+use Rattle.std.proofs.lemmas.Bool.{cases_order}
 use Rattle.lattice.specs.declared.limits.TheConstants.{MAX_BITS}
 use native.Mathlib.Decide.{ℕ_discrete}
 use Rattle.lattice.proofs.Cofactors.{join_parts, IsFamily-join_suc, level-join, level-unit, level-nil}
+use Rattle.lattice.proofs.NumberLaws.{weight_is}
 use Rattle.lattice.proofs.WordParts.{same_word}
 use Rattle.lattice.proofs.Families.{has_none, has_cases, has-numbers_below, length-numbers_below, Has-nil, Has-cases, covered_length}
 use Rattle.lattice.proofs.Families.{IsFamily_wider, IsFamily-nil, IsFamily-unit, Has-head, Has-tail}
@@ -18,10 +19,6 @@ use Rattle.std.proofs.lemmas.List.Elements.{All-head, All-tail, All-weaker}
 -- No table has more slots than the largest one.
 pub slots_most : (bits : ℕ) → bits ≤ MAX_BITS → 2 ^ bits ≤ 2 ^ MAX_BITS
 slots_most bits le = pow_mono le
-
--- What `1 << k` computes.
-pub weight_is : (k : ℕ) → k < 64 → 1 * 2 ^ k % 18446744073709551616 ≡ 2 ^ k
-weight_is k l = ap (λ (x : ℕ). x % 18446744073709551616) (one-mul (2 ^ k)) ∙ mod-eq_of_lt (pow-lt l)
 
 -- `1 << bits` is the number of slots.
 pub shifted_one : (bits : ℕ) → bits ≤ MAX_BITS → 1 * 2 ^ bits % 18446744073709551616 ≡ 2 ^ bits
@@ -58,10 +55,6 @@ node_some vars ws w is e = let h = is.first in omega arith
 pub filling_grows : (ws : List ℕ) (i w : ℕ) → slice_index ws i ≡ 0 → KeepsWords ws (set ws i w)
 filling_grows ws i w vacant j is = grind (arith, get_or-set_other ws i j w 0)
 
--- Of two numbers the first is below, equal to or above the second.
-pub ℕ_trichotomy : (a b : ℕ) → (a < b) ⊎ ((a ≡ b) ⊎ (b < a))
-ℕ_trichotomy a b = grind arith
-
 module _ (bits vars : ℕ) (ws : List ℕ) (i w : ℕ) (can : IsCanonical bits vars ws) (vacant : slice_index ws i ≡ 0) (inside : i < 2 ^ bits)
     (may : MayFill bits vars ws i w) where
   slot_is : (j : ℕ) → ((j ≡ i) × (slice_index (set ws i w) j ≡ w)) ⊎ ((j ≢ i) × (slice_index (set ws i w) j ≡ slice_index ws j))
@@ -69,7 +62,7 @@ module _ (bits vars : ℕ) (ws : List ℕ) (i w : ℕ) (can : IsCanonical bits v
 
   -- no other slot has the word: it would stand behind the vacant place on the path, or have been met before it
   new : (j : ℕ) → slice_index ws j ≡ w → ⊥
-  new j is = grind (arith, node_some, ℕ_trichotomy)
+  new j is = grind (arith, node_some, cases_order)
 
   -- A canonical table stays canonical where a node's word is put into a vacant slot on its path.
   pub fills : IsCanonical bits vars (set ws i w)
@@ -85,12 +78,6 @@ module _ (bits vars : ℕ) (ws : List ℕ) (i w : ℕ) (can : IsCanonical bits v
             (λ p. rw p.1 (grows_path bits ws _ keeps _ j (can.paths j (rw p.1 at is)))) (slot_is j);
         apart = λ j k is same. grind (arith, slot_is j, slot_is k, new j, new k, can.apart j k);
       }
-
--- Each word of a list of vacant words is vacant.
-pub no_word : (n i : ℕ) → slice_index (replicate n 0) i ≡ 0
-no_word zero i = refl
-no_word (suc n) zero = refl
-no_word (suc n) (suc i) = no_word n i
 
 -- A table of vacant places has no filled slot.
 pub none_filled : (n i : ℕ) → IsFilled (replicate n 0) i → ⊥

@@ -1,7 +1,14 @@
--- Laws on tables: filling keeps words, each handle of a canonical one denotes a family, and what is known of handles is one-to-one.
-use Rattle.std.specs.Prelude.{◌≡◌, ℕ, List, Option, Some, None, slice_index, slice_set}
+-- Laws on tables: filling keeps words, each handle of a canonical one denotes a family, what is known of handles is one-to-one, and
+-- what makes a table sound.
+use Rattle.std.specs.Prelude.{◌≡◌, ◌^◌, ℕ, List, Option, Some, None, length, slice_index, slice_set}
+use Rattle.std.specs.List.{All}
 use Rattle.lattice.specs.Family.{Family}
 use Rattle.lattice.specs.Tables.{IsHandle, IsCanonical, KeepsWords, DenotesIn}
+use Rattle.lattice.specs.NodeWords.{cache_bits}
+use Rattle.lattice.specs.CacheWords.{IsVacantOrTrue}
+use Rattle.lattice.specs.History.{FitsHistory}
+use Rattle.lattice.specs.SoundTables.{IsSoundOn, IsSoundTable}
+use Rattle.lattice.specs.declared.entry.Entry.{Entry}
 
 -- Filling a vacant place keeps the words of all filled ones.
 abbrev pub FillingKeepsWords : Type 0
@@ -45,3 +52,15 @@ abbrev pub AgreementStays : Type 0
 AgreementStays =
     (vars : ℕ) (ws later : List ℕ) (known : ℕ → Option Family) → KeepsWords ws later → AgreesWith vars ws known
     → AgreesWith vars later known
+
+-- A canonical table is sound with as many cache words as it has, each of them vacant or true at its place.
+abbrev pub WordsAreSound : Type 0
+WordsAreSound =
+    (bits vars : ℕ) (ws : List ℕ) → IsCanonical bits vars ws → (words : List ℕ) → length words ≡ 2 ^ cache_bits bits
+    → ((place : ℕ) → IsVacantOrTrue (cache_bits bits) vars ws place (slice_index words place)) → IsSoundTable bits vars ws words
+
+-- A history that fits a canonical table is sound on it, with handles of the table.
+abbrev pub FittingIsSound : Type 0
+FittingIsSound =
+    (bits vars : ℕ) (ws : List ℕ) → IsCanonical bits vars ws → (met : List Entry) (handles : List ℕ) → FitsHistory (2 ^ bits) ws met
+    → All (IsHandle ws) handles → IsSoundOn bits vars ws met handles

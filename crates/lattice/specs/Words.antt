@@ -1,7 +1,7 @@
 -- The words of the crate on one page: its proofs, and those of its callers, import them from here.
 pub use Rattle.lattice.specs.Basis.{IsBasisElement, IsLead, IsReducedBasis, IsSplitBy, IsStandard, ones_at, zeros_at}
 unfoldable pub use Rattle.lattice.specs.Basis.{basis_element_of, has_divisors, leads_of, normal_form_of, reduced_basis_of, standard_of}
-pub use Rattle.lattice.specs.CacheWords.{IsTrueWord, key_for, number_of}
+pub use Rattle.lattice.specs.CacheWords.{IsTrueWord, IsVacantOrTrue, key_for, number_of}
 pub use Rattle.lattice.specs.Cofactors.{is_constant, is_empty}
 unfoldable pub use Rattle.lattice.specs.Cofactors.{high_cofactor, join, level, low_cofactor, sub}
 pub use Rattle.lattice.specs.Counts.{Rose, one_more}
@@ -10,6 +10,7 @@ pub use Rattle.lattice.specs.Family.{is_node_list, minus_of, power, sum_of, unio
 unfoldable pub use Rattle.lattice.specs.Family.{combine, divides, family_where, has, includes, numbers_below}
 pub use Rattle.lattice.specs.History.{Agrees, FitsFrom, FitsHistory, HoldsWord, IsFullFor, IsLegal, LegalFrom, handles_of, refusals_of}
 pub use Rattle.lattice.specs.History.{refused}
+pub use Rattle.lattice.specs.Ideals.{Ideal, Intersection, IsElementOf, IsLeadOf, IsReducedBasisOf, IsTop, Polynomials, Sum}
 pub use Rattle.lattice.specs.Interpolation.{Fits, IsLeast, IsLowerPart, IsUpperPart}
 unfoldable pub use Rattle.lattice.specs.Interpolation.{interpolate, lower_points, upper_ones, upper_zeros}
 pub use Rattle.lattice.specs.NodeWords.{cache_bits, cache_word, hi_of, key_at, lo_of, mixed, mixed_key, node_word, result_of, var_of}
@@ -21,6 +22,7 @@ unfoldable pub use Rattle.lattice.specs.Polynomial.{ones_of, value}
 pub use Rattle.lattice.specs.Rows.{IsConsistent, care_ones, care_zeros, dc_rows, dc_set, is_one, is_zero, off_rows, off_set, on_rows}
 pub use Rattle.lattice.specs.Rows.{on_set}
 unfoldable pub use Rattle.lattice.specs.Rows.{cover, cube, in_cube, points_where, rows_with}
+pub use Rattle.lattice.specs.SoundTables.{HasFamily, IsKeptWord, IsSoundOn, IsSoundTable}
 pub use Rattle.lattice.specs.TableLaws.{AgreesWith, KnownIsOneToOne, UnionAgrees, first_known}
 pub use Rattle.lattice.specs.Tables.{DenotesIn, IsCanonical, IsFilled, IsHandle, IsNodeWord, IsReached, IsStored, KeepsWords, MayFill}
 pub use Rattle.lattice.specs.Tables.{nothing, slot, unit, var_at}

@@ -1,5 +1,5 @@
-//! Functions that do nothing. Their contracts are the laws of `specs/Laws.antt` and
-//! `specs/TableLaws.antt`, so a check proves these.
+//! Functions that do nothing. Their contracts are the laws of `specs/Laws.antt`,
+//! `specs/TableLaws.antt` and `specs/IdealLaws.antt`, so a check proves these.
 ghost use Rattle.lattice.specs.Laws.{DividesByBits, OrderIsStrict, InterpolateIsLeast};
 ghost use Rattle.lattice.specs.Laws.{LeastIsUnique, LeastSplits, DivisorsAreStandard};
 ghost use Rattle.lattice.specs.Laws.{StandardSplitsLow, StandardSplitsHigh, LeastIsStandard};
@@ -15,6 +15,9 @@ ghost use Rattle.lattice.specs.Laws.{StoredFit, FittingIsLegal, HistoriesAppend,
 ghost use Rattle.lattice.specs.Laws.{ConsistentByRows, RoseIsGreater};
 ghost use Rattle.lattice.specs.TableLaws.{FillingKeepsWords, HandlesDenote, KnownIsOneToOne};
 ghost use Rattle.lattice.specs.TableLaws.{UnionAgrees, AgreementStays};
+ghost use Rattle.lattice.specs.TableLaws.{WordsAreSound, FittingIsSound};
+ghost use Rattle.lattice.specs.IdealLaws.{IntersectionIsOfUnion, SumIsOfIntersection};
+ghost use Rattle.lattice.specs.IdealLaws.{LeadsOfIdeal, BasisOfIdeal};
 
 /// A monomial divides a point exactly where every bit of it is a bit of the point.
 #[tactic(auto, using(crate::proofs::Values::divides_by_bits))]
@@ -242,4 +245,34 @@ pub fn union_agrees()
 /// What is known of handles stays true.
 pub fn agreement_stays()
     ensures { AgreementStays }
+{}
+
+/// A canonical table with vacant or true cache words is sound.
+pub fn words_are_sound()
+    ensures { WordsAreSound }
+{}
+
+/// A history that fits a canonical table, and handles of the table, are sound on it.
+pub fn fitting_is_sound()
+    ensures { FittingIsSound }
+{}
+
+/// The intersection of the ideals of two sets of points is the ideal of their union.
+pub fn intersection_is_of_union()
+    ensures { IntersectionIsOfUnion }
+{}
+
+/// Their sum is the ideal of the intersection of the two sets.
+pub fn sum_is_of_intersection()
+    ensures { SumIsOfIntersection }
+{}
+
+/// The leads of the ideal of points are the leads of the points.
+pub fn leads_of_ideal()
+    ensures { LeadsOfIdeal }
+{}
+
+/// Its reduced bases are those of the points.
+pub fn basis_of_ideal()
+    ensures { BasisOfIdeal }
 {}

@@ -9,7 +9,7 @@ use Rattle.std.proofs.lemmas.Bool.{cases_eq}
 use Rattle.std.proofs.lemmas.Bool.Decides.{nat_tests}
 use Rattle.std.proofs.lemmas.List.{map-id}
 use Rattle.std.proofs.lemmas.Slice.Zip.{AllZip-long}
-use Rattle.lattice.specs.Words.{Family, IsFamily, exactly_one, IsConsistent}
+use Rattle.lattice.specs.Words.{Family, IsElementOf, IsFamily, exactly_one, IsConsistent}
 use Rattle.lattice.proofs.Polynomials.{IsFamily-combine}
 use Rattle.pla_reader.specs.Reading.{Description, GivesReading, bytes_taken, reading_of}
 use Rattle.pla_reader.specs.declared.refusal.ReadRefusal.{ReadRefusal}
@@ -17,7 +17,6 @@ use Rattle.pla_reader.specs.declared.refusal.Refusal.{Refusal}
 use Rattle.cube_sets.specs.Clashes.{IsClash, IsLeastOf}
 use Rattle.cube_sets.specs.declared.clash.Clash.{Clash}
 use Rattle.cube_sets.proofs.OneClash.{none_of_consistent, one_least}
-use Rattle.point_ideals.specs.Ideals.{IsElementOf}
 use Rattle.point_ideals.specs.Joined.{IsJointBasis, first_refused, joint_ideal}
 use Rattle.point_ideals.specs.declared.joined.BasisRefusal.{BasisRefusal}
 use Rattle.point_ideals.specs.declared.joined.BasisRefusal.TheVariants as stops

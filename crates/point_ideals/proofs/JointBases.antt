@@ -1,16 +1,12 @@
 -- The reduced basis of the intersection and of the sum of the ideals of two outputs' care points.
-use Rattle.std.proofs.Common.{◌≡◌, ℕ, ◌↔◌, List, map, refl}
-use Rattle.lattice.specs.Words.{IsReducedBasis, basis_element_of, reduced_basis_of, Family, IsFamily}
-use Rattle.lattice.proofs.Polynomials.{IsFamily-combine, IsReducedBasis-unique, reduced_basis_exists}
+use Rattle.std.proofs.Common.{◌≡◌, ◌↔◌, List, map, refl}
+use Rattle.lattice.specs.Words.{Ideal, IsReducedBasis, basis_element_of, reduced_basis_of, Family, IsFamily}
+use Rattle.lattice.proofs.Polynomials.{IsFamily-care_set, IsFamily-combine, IsReducedBasis-unique, basis_same, intersection_law}
+use Rattle.lattice.proofs.Polynomials.{reduced_basis_exists, sum_law}
 use Rattle.pla_reader.specs.Reading.{Description}
-use Rattle.point_ideals.specs.Ideals.{Ideal}
 use Rattle.point_ideals.specs.Joined.{IsJointBasis, joint_basis_of, joint_ideal, joint_leads, joint_points, output_points}
 use Rattle.point_ideals.specs.declared.joined.Joining.{Joining}
 use Rattle.point_ideals.specs.declared.joined.Joining.TheVariants.{Meet, Union}
-use Rattle.point_ideals.proofs.IdealLaws.{basis_same, intersection_law, sum_law}
-
-points_fit : (d : Description) (output : ℕ) → IsFamily d.inputs (output_points d output)
-points_fit d output = IsFamily-combine _ d.inputs _ _
 
 -- the points put together are a family
 pub joint_fits : (d : Description) (joining : Joining) → IsFamily d.inputs (joint_points d joining)
@@ -24,8 +20,10 @@ unfolding reduced_basis_of
 basis_listed d joining = refl
 
 same_ideal : (d : Description) (joining : Joining) (p : Family) → joint_ideal d joining p ↔ Ideal d.inputs (joint_points d joining) p
-same_ideal d Union = intersection_law d.inputs (output_points d 1) (output_points d 2) (points_fit d 1) (points_fit d 2)
-same_ideal d Meet = sum_law d.inputs (output_points d 1) (output_points d 2) (points_fit d 1) (points_fit d 2)
+same_ideal d Union = intersection_law d.inputs (output_points d 1) (output_points d 2) (IsFamily-care_set d.inputs d.kind d.rows 1)
+    (IsFamily-care_set d.inputs d.kind d.rows 2)
+same_ideal d Meet = sum_law d.inputs (output_points d 1) (output_points d 2) (IsFamily-care_set d.inputs d.kind d.rows 1)
+    (IsFamily-care_set d.inputs d.kind d.rows 2)
 
 joint_same : (d : Description) (joining : Joining) (basis : List Family)
     → IsJointBasis d joining basis ↔ IsReducedBasis d.inputs (joint_points d joining) basis

@@ -4,6 +4,7 @@ use Rattle.std.specs.Prelude.{IfOk, IsErrOf, OnOk, Result}
 use Rattle.std.specs.List.{All, flat_map}
 use Rattle.lattice.specs.Basis.{basis_element_of, leads_of, reduced_basis_of, standard_of}
 use Rattle.lattice.specs.Family.{Covers, Family, inter_of, union_of}
+use Rattle.lattice.specs.Ideals.{Ideal, Intersection, IsReducedBasisOf, Polynomials, Sum}
 use Rattle.lattice.specs.WorkingLists.{basis_element_list, care_set, working_set}
 use Rattle.node_store.specs.Stores.{Denotes, Knows, State, family}
 use Rattle.node_store.specs.declared.store.Handle.{Handle}
@@ -14,7 +15,6 @@ use Rattle.cube_build.specs.declared.rows.CubesRefusal.TheVariants as unbuilt
 use Rattle.set_algebra.specs.declared.counted.WalkRefusal.{WalkRefusal}
 use Rattle.set_algebra.specs.declared.counted.WalkRefusal.TheVariants as unlisted
 use Rattle.point_ideals.specs.Cares.{points_list}
-use Rattle.point_ideals.specs.Ideals.{Ideal, Intersection, IsReducedBasisOf, Polynomials, Sum}
 use Rattle.point_ideals.specs.declared.joined.Joining.{Joining}
 use Rattle.point_ideals.specs.declared.joined.Joining.TheVariants.{Meet, Union}
 use Rattle.point_ideals.specs.declared.phases.Joint.{Joint}

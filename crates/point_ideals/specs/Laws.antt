@@ -1,29 +1,9 @@
--- Laws of ideals of points. The functions of src/laws.rt have them as their contracts.
-use Rattle.std.specs.Prelude.{◌≡◌, ℕ, ◌^◌, ◌<◌, ◌↔◌, List}
-use Rattle.lattice.specs.Basis.{IsLead, IsReducedBasis}
-use Rattle.lattice.specs.Family.{Family, IsFamily, inter_of, union_of}
+-- Laws of the reduced bases of two outputs. The functions of src/laws.rt have them as their contracts.
+use Rattle.std.specs.Prelude.{◌≡◌, List}
+use Rattle.lattice.specs.Family.{Family}
 use Rattle.pla_reader.specs.Reading.{Description}
-use Rattle.point_ideals.specs.Ideals.{Ideal, Intersection, IsLeadOf, IsReducedBasisOf, Sum}
 use Rattle.point_ideals.specs.Joined.{IsJointBasis, joint_basis_of}
 use Rattle.point_ideals.specs.declared.joined.Joining.{Joining}
-
--- what is common to the ideals of two sets of points vanishes on both
-abbrev pub IntersectionIsOfUnion : Type 0
-IntersectionIsOfUnion = (n : ℕ) (points others : Family) → IsFamily n points → IsFamily n others → (p : Family)
-    → Intersection (Ideal n points) (Ideal n others) p ↔ Ideal n (union_of n points others) p
-
--- what vanishes on the common points of two sets is a sum of what vanishes on the one and what vanishes on the other
-abbrev pub SumIsOfIntersection : Type 0
-SumIsOfIntersection = (n : ℕ) (points others : Family) → IsFamily n points → IsFamily n others → (p : Family)
-    → Sum n (Ideal n points) (Ideal n others) p ↔ Ideal n (inter_of n points others) p
-
--- the leads of the ideal of points are the leads of the points, and its reduced bases are those of the points
-abbrev pub LeadsOfIdeal : Type 0
-LeadsOfIdeal = (n : ℕ) (points : Family) → IsFamily n points → (m : ℕ) → IsLeadOf (Ideal n points) m ↔ ((m < 2 ^ n) × IsLead n points m)
-
-abbrev pub BasisOfIdeal : Type 0
-BasisOfIdeal = (n : ℕ) (points : Family) → IsFamily n points → (basis : List Family)
-    → IsReducedBasisOf (Ideal n points) basis ↔ IsReducedBasis n points basis
 
 -- the intersection and the sum of the ideals of two outputs' care points have a reduced basis each, and only one
 abbrev pub JointBasisExists : Type 0

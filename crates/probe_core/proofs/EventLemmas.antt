@@ -1,29 +1,29 @@
 -- Each event leaves a sound machine, over every list of events.
 use Rattle.std.proofs.Common.{◌≡◌, ◌≢◌, ℕ, zero, suc, ◌+◌, ◌^◌, ◌<◌, ◌≤◌, true, ◌&&◌, ◌==◌, if◌then◌else◌, List, [], ◌∷◌, ◌++◌, length}
-use Rattle.std.proofs.Common.{replicate, take, slice_index, get_or, set, sym, refl, ◌∙◌, subst, arith, inl, inr, ◌⊎◌, eq-eqb, ne_eqb, eqb}
+use Rattle.std.proofs.Common.{replicate, take, slice_index, set, sym, refl, ◌∙◌, subst, arith, inl, inr, eq-eqb, ne_eqb, eqb}
 use Rattle.std.proofs.Common.{Result, Ok, Err, OnOk, OnErr, get_or-set_same, get_or-set_other, length-set}
 use Rattle.std.specs.List.{All}
 use Rattle.std.proofs.lemmas.Bool.{or_cases, eqb-true, cases_Bool}
 use Rattle.std.proofs.lemmas.List.{length-replicate}
-use Rattle.std.proofs.lemmas.List.Elements.{All-nil, All-cons, All-head, All-tail, All-push, All-set, All-weaker}
+use Rattle.std.proofs.lemmas.List.Elements.{All-nil, All-cons, All-head, All-map, All-tail, All-push, All-set, All-weaker}
 use mathlib.Core.Logic.{dite}
 use native.Mathlib.Decide.{ℕ_discrete}
 use Rattle.lattice.specs.declared.entry.Entry.TheVariants.{Met}
 use Rattle.lattice.specs.Words.{lo_of, hi_of, place, cache_bits, key_at, result_of, IsTrueWord, IsFilled, IsHandle, IsNodeWord, IsCanonical}
-use Rattle.lattice.specs.Words.{MayFill, KeepsWords, FitsHistory}
+use Rattle.lattice.specs.Words.{MayFill, KeepsWords, FitsHistory, HasFamily, IsVacantOrTrue}
 use Rattle.lattice.proofs.Diagrams.{grows_handle, fits_append, fits_grows, slot_holds, fills, filling_grows, node_some, no_word}
-use Rattle.lattice.proofs.Diagrams.{none_filled, legal, denoted, met_slot, true_word_stays}
+use Rattle.lattice.proofs.Diagrams.{none_filled, met_slot, result_handle, sound_on, sound_table, sound_word, true_word_stays}
+use Rattle.lattice.proofs.Polynomials.{All-from_map, at_or}
 use Rattle.node_store.specs.declared.store.Handle.{Handle}
 use Rattle.lattice.specs.declared.memory.Memory.{Memory}
 use Rattle.probe_core.specs.declared.event.Event.{Event}
 use Rattle.probe_core.specs.declared.event.Seen.{Seen}
 use Rattle.probe_core.specs.declared.event.Event.TheVariants.{Load, Exchange, CacheLoad, CacheStore, Split, Join}
 use Rattle.probe_core.specs.Machines.{SeatState, Machine}
-use Rattle.probe_core.specs.Seats.{handle, knows, knows_key, learned, united, met_more, told_more, first_seat, twin, joined, ended}
+use Rattle.probe_core.specs.Seats.{handle, knows, knows_key, learned, numbers, united, met_more, told_more, first_seat, twin, joined, ended}
 use Rattle.probe_core.specs.Events.{start, no_seat, seat_at, MayExchange, MayTake, meets, takes, looks, after, after_all, MayTakeAll}
-use Rattle.probe_core.specs.Soundness.{HasFamily, IsKeptWord, IsSoundSeat, IsSoundMachine, IsLawful}
+use Rattle.probe_core.specs.Soundness.{IsSoundSeat, IsSoundMachine, IsLawful}
 use Rattle.probe_core.proofs.Places.{place_below}
-use Rattle.probe_core.proofs.KeptWords.{own_key, own_result, result_handle}
 
 -- ---- what a seat has fits the table
 
@@ -69,10 +69,6 @@ module _ (ws : List ℕ) where
 
 -- ---- sound machines are those that fit
 
--- the cache word is vacant, or true at the place
-abbrev IsVacantOrTrue : Machine → ℕ → ℕ → Type 0
-IsVacantOrTrue s place w = (w ≡ 0) ⊎ IsTrueWord (cache_bits s.bits) s.vars s.words place w
-
 -- the seat fits the table
 abbrev IsSeated : Machine → SeatState → Type 0
 IsSeated s = SeatFits (2 ^ s.bits) s.words
@@ -81,42 +77,25 @@ IsSeated s = SeatFits (2 ^ s.bits) s.words
 record Fits (s : Machine) : Type 0 where
   pub canonical : IsCanonical s.bits s.vars s.words
   pub size : length s.cache ≡ 2 ^ cache_bits s.bits
-  pub cache : (place : ℕ) → IsVacantOrTrue s place (slice_index s.cache place)
+  pub cache : (place : ℕ) → IsVacantOrTrue (cache_bits s.bits) s.vars s.words place (slice_index s.cache place)
   pub seats : All (IsSeated s) s.seats
-
-abbrev Knows : Machine → Handle → Type 0
-Knows s h = HasFamily s.vars s.words h.0
-
-family_of : (s : Machine) → Fits s → (h : ℕ) → IsHandle s.words h → HasFamily s.vars s.words h
-family_of s fits h is =
-    let f = denoted s.bits s.vars s.words fits.canonical h is in record { is_handle = is; family = f.0; denotes = f.1 }
-
-kept : (s : Machine) (place w : ℕ) → IsVacantOrTrue s place w → (w ≡ 0) ⊎ IsKeptWord s place w
-kept s place w (inl none) = inl none
-kept s place w (inr is) = let c = cache_bits s.bits in
-    inr (record { is_true = is; key = own_key c s.vars s.words place w is; result = own_result c s.vars s.words place w is })
 
 sound : (s : Machine) → Fits s → IsSoundMachine s
 sound s fits = record {
-  canonical = fits.canonical;
-  slots = λ i is. family_of s fits (suc (suc i)) is;
-  size = fits.size;
-  cache = λ place. kept s place (slice_index s.cache place) (fits.cache place);
-  seats = All-weaker (IsSeated s) (IsSoundSeat s) (λ seat f. record {
-    fits = f.met;
-    legal = legal s.bits s.vars s.words fits.canonical seat.met f.met;
-    known = All-weaker (IsHandleOf s.words) (Knows s) (λ h is. family_of s fits h.0 is) seat.known f.known;
-  }) s.seats fits.seats;
+  table = sound_table s.bits s.vars s.words fits.canonical s.cache fits.size fits.cache;
+  seats = All-weaker (IsSeated s) (IsSoundSeat s) (λ seat f. sound_on s.bits s.vars s.words fits.canonical seat.met (numbers seat.known)
+      f.met (All-map (IsHandle s.words) (λ (h : Handle). h.0) seat.known f.known)) s.seats fits.seats;
 }
 
 fitting : (s : Machine) → IsSoundMachine s → Fits s
-fitting s is = record {
-  canonical = is.canonical;
-  size = is.size;
-  cache = λ place. elim (is.cache place) [ inl none ↦ inl none | inr kept ↦ inr kept.is_true ];
+fitting s is = let table = is.table in record {
+  canonical = table.canonical;
+  size = table.size;
+  cache = sound_word s.bits s.vars s.words s.cache table;
   seats = All-weaker (IsSoundSeat s) (IsSeated s) (λ seat f. record {
     met = f.fits;
-    known = All-weaker (Knows s) (IsHandleOf s.words) (λ h has. has.is_handle) seat.known f.known;
+    known = All-weaker (λ (h : Handle). HasFamily s.vars s.words h.0) (IsHandleOf s.words) (λ h has. has.is_handle) seat.known
+        (All-from_map (HasFamily s.vars s.words) (λ (h : Handle). h.0) seat.known f.known);
   }) s.seats is.seats;
 }
 
@@ -134,11 +113,6 @@ start_fits bits vars =
     }
 
 -- ---- one event
-
-at_or : {X : Type 0} (P : X → Type 0) (xs : List X) (i : ℕ) (d : X) → P d → All P xs → P (get_or xs i d)
-at_or P [] i d is all = is
-at_or P (x ∷ xs) zero d is all = All-head P x xs all
-at_or P (x ∷ xs) (suc i) d is all = at_or P xs i d is (All-tail P x xs all)
 
 -- an exchange is made at a place of the table
 pub within : (s : Machine) (seat : SeatState) (at w : ℕ) → MayExchange s seat at w → at < 2 ^ s.bits

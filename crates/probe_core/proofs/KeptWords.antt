@@ -1,40 +1,10 @@
--- What a true cache word tells: its key, and its result.
-use Rattle.std.proofs.Common.{◌≡◌, ℕ, ◌+◌, ◌-◌, ◌*◌, ◌/◌, ◌%◌, ◌^◌, ◌<◌, ◌≤◌, List, sym, ap, ◌∙◌, subst, pow-add, arith}
-use Rattle.std.proofs.Math.Nat.{div-add-mod, mod-eq_of_lt, add-mul-mod_self_left}
+-- The key of a cache word, as the code finds it.
+use Rattle.std.proofs.Common.{◌≡◌, ℕ, ◌+◌, ◌-◌, ◌*◌, ◌/◌, ◌%◌, ◌^◌, ◌<◌, ◌≤◌, sym, ap, ◌∙◌, subst, pow-add, arith}
+use Rattle.std.proofs.Math.Nat.{mod-eq_of_lt}
 use Rattle.std.proofs.Math.Pow.{mod-mod-pow}
-use Rattle.std.proofs.lemmas.Nat.{mul-mod_first, mul-add-lt, pow_pos}
-use Rattle.lattice.specs.declared.limits.TheConstants.{MAX_BITS, HANDLE_UNIT, KEY_BITS, MIXING, UNMIXING}
-use Rattle.lattice.specs.Words.{mixed_key, cache_bits, cache_place, quotient, key_at, result_of, key_for, IsTrueWord, IsHandle}
-use Rattle.lattice.proofs.Diagrams.{key_below, quotient_of-word, result_of-word, denotes_handle}
-
--- a key from its place and its quotient
-unmixed : (c key place q : ℕ) → key < 2 ^ KEY_BITS → cache_place c key ≡ place → q ≡ quotient c key
-    → (place * 2 ^ (KEY_BITS - c) + q) * UNMIXING % 2 ^ KEY_BITS ≡ key
-unfolding cache_place quotient
-unmixed c key place q less there is =
-    let parts : mixed_key key / 2 ^ (KEY_BITS - c) * 2 ^ (KEY_BITS - c) + mixed_key key % 2 ^ (KEY_BITS - c) ≡ mixed_key key =
-    omega (arith, div-add-mod (mixed_key key) (2 ^ (KEY_BITS - c))) in
-    let whole : key * MIXING * UNMIXING ≡ key + 2 ^ KEY_BITS * (key * 10342700773199193759) = omega arith in
-    (λ i. (sym there i * 2 ^ (KEY_BITS - c) + is i) * UNMIXING % 2 ^ KEY_BITS)
-    ∙ (ap (λ n. n * UNMIXING % 2 ^ KEY_BITS) parts ∙ (mul-mod_first (key * MIXING) UNMIXING (2 ^ KEY_BITS)
-    ∙ (ap (λ n. n % 2 ^ KEY_BITS) whole ∙ (add-mul-mod_self_left key (2 ^ KEY_BITS) (key * 10342700773199193759) ∙ mod-eq_of_lt less))))
-
-module _ (c vars : ℕ) (ws : List ℕ) (place w : ℕ) (is : IsTrueWord c vars ws place w) where
-  abbrev own : ℕ
-  own = key_for is.op is.a is.b
-
-  pub own_key : key_at c place w ≡ own
-  own_key = unmixed c own place (w / HANDLE_UNIT) (key_below is.op is.a is.b is.a_fits is.b_fits) is.there
-      (ap (λ n. n / HANDLE_UNIT) is.word ∙ quotient_of-word c own is.result is.result_fits)
-
-  pub own_result : result_of w ≡ is.result
-  own_result = ap result_of is.word ∙ result_of-word c own is.result is.result_fits
-
-  -- the result has a handle
-  pub result_handle : IsHandle ws (result_of w)
-  result_handle = subst (IsHandle ws) (sym own_result) (denotes_handle vars ws is.denotes)
-
--- ---- the key, as the code finds it
+use Rattle.std.proofs.lemmas.Nat.{mul-add-lt, pow_pos}
+use Rattle.lattice.specs.declared.limits.TheConstants.{MAX_BITS, HANDLE_UNIT, KEY_BITS, UNMIXING}
+use Rattle.lattice.specs.Words.{cache_bits, key_at}
 
 -- a place is the upper part of a key's mixing
 pub place_part : (bits at : ℕ) → bits ≤ MAX_BITS → at < 2 ^ cache_bits bits → at * 2 ^ (KEY_BITS - cache_bits bits) < 2 ^ KEY_BITS

@@ -3,7 +3,7 @@ use Rattle.std.proofs.Common.{◌≡◌, ◌≢◌, ℕ, ◌+◌, ◌^◌, ◌<�
 use borrow.Author.Count.{below_more}
 use Rattle.lattice.specs.declared.entry.Entry.{Entry}
 use Rattle.lattice.specs.Words.{place}
-use Rattle.lattice.proofs.Diagrams.{ℕ_trichotomy}
+use Rattle.std.proofs.lemmas.Bool.{cases_order}
 use Rattle.probe_core.specs.Events.{HasPassed, HasProbed}
 
 -- no place of the first steps is the one sought, and each was met with another word
@@ -23,4 +23,4 @@ module _ (bits : ℕ) (met : List Entry) (at w steps : ℕ) (walked : HasWalked 
 
   -- a place before it was not met with another word
   pub not_probed : here ≢ at → (HasPassed met here w → ⊥) → HasProbed bits met at w → ⊥
-  not_probed other not_met p = grind (arith, walked p.steps, p.passed steps, ℕ_trichotomy p.steps steps, rw is at not_met)
+  not_probed other not_met p = grind (arith, walked p.steps, p.passed steps, cases_order p.steps steps, rw is at not_met)

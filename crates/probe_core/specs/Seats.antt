@@ -1,5 +1,5 @@
 -- What a seat learns of the slots that it meets, of kept results, and of other seats.
-use Rattle.std.specs.Prelude.{ℕ, ◌+◌, Bool, true, false, nat_lt, ◌==◌, ◌&&◌, ◌||◌, if◌then◌else◌, List, [], ◌∷◌, ◌++◌}
+use Rattle.std.specs.Prelude.{ℕ, ◌+◌, Bool, true, false, nat_lt, ◌==◌, ◌&&◌, ◌||◌, if◌then◌else◌, List, [], ◌∷◌, ◌++◌, map}
 use Rattle.std.specs.List.{list_any}
 use Rattle.lattice.specs.declared.entry.Entry.TheVariants.{Met}
 use Rattle.lattice.specs.declared.op.Op.TheVariants.{Least}
@@ -11,6 +11,10 @@ use Rattle.probe_core.specs.Machines.{SeatState}
 -- the handle with this number
 abbrev pub handle : ℕ → Handle
 handle h = record { 0 = h }
+
+-- the numbers of handles
+abbrev pub numbers : List Handle → List ℕ
+numbers known = map (λ (k : Handle). k.0) known
 
 -- the handle with this number is among the known ones
 abbrev pub knows : List Handle → ℕ → Bool

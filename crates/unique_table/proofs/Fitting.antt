@@ -13,7 +13,7 @@ use Rattle.lattice.specs.Words.{unit, slot, IsStored, AgreesWith, FitsFrom, Fits
 use Rattle.lattice.specs.declared.entry.Entry.{Entry}
 use Rattle.lattice.specs.declared.entry.Entry.TheVariants.{Met, Ask, Full}
 use Rattle.lattice.specs.declared.limits.TheConstants.{HANDLE_UNIT, MAX_BITS}
-use Rattle.lattice.proofs.Polynomials.{IsFamily_wider, has_head, has_tail}
+use Rattle.lattice.proofs.Polynomials.{IsFamily_wider, contains_cases, has_head, has_tail, left_nil, some_more}
 use Rattle.lattice.proofs.Diagrams.{Has-nil, Has-cases, none_of, covered_length, IsFamily-unit, Has-append_right, sub-zero, sub-nil}
 use Rattle.lattice.proofs.Diagrams.{sub-narrow, sub-join_cases, level-below, fills, filling_grows, filled_within, node_some, legal}
 use Rattle.lattice.proofs.Diagrams.{fits_append, fits_grows, met_slot, denotes_grows, denotes_handle, denotes_one, known_one, one_handle}
@@ -25,7 +25,7 @@ use Rattle.unique_table.specs.Views.{Steps, known_by, steps_of, view_state}
 use Rattle.unique_table.specs.Rule.{IsTable, IsPair, LiveFits, IsNew, IsSoundView, merged}
 use Rattle.unique_table.specs.Told.{Goes, Meets, MetOther, IsAsked, IsNext, EndsPath, passing, HasNoRoom, IsCrowded}
 use Rattle.unique_table.proofs.Lists.{merged_keeps, merged_has, merged_distinct, merged_all, All-Has, append_cases, first_stays}
-use Rattle.unique_table.proofs.Lists.{contains_cases, agrees_of, pairs_known, second_stays, subs_of, covers_subs, all_subs}
+use Rattle.unique_table.proofs.Lists.{agrees_of, pairs_known, second_stays, subs_of, covers_subs, all_subs}
 use Rattle.std.proofs.Math.Nat.{mod-lt}
 use Rattle.std.proofs.lemmas.Nat.{pow_pos, mod-mul-add}
 
@@ -228,15 +228,6 @@ module _ (v : View) (ws : List ℕ) (table : IsTable v.terms ws) (fits : LiveFit
     pairs = pairs_known v.terms.vars ws v.known fits.known;
   }
 
--- the front of an empty list is empty, and nothing with an element is
-pub left_nil : {A : Type 0} (xs ys : List A) → xs ++ ys ≡ [] → xs ≡ []
-left_nil [] ys e = refl
-left_nil (x ∷ xs) ys e = absurd (omega (arith, ap length e))
-
-some_more : {A : Type 0} (xs ys : List A) (y : A) → xs ++ y ∷ ys ≡ [] → ⊥
-some_more [] ys y e = omega (arith, ap length e)
-some_more (x ∷ xs) ys y e = omega (arith, ap length e)
-
 -- a view that goes on from one without a step of the cache is new only where that one was
 pub goes_new : (v u : View) (more : List Entry) → Goes v more u → steps_of u ≡ steps_of v → IsNew u → IsNew v
 goes_new v u more goes steps new = record {
@@ -375,9 +366,6 @@ module _ (v : View) (ws : List ℕ) (table : IsTable v.terms ws) (fits : LiveFit
         others = λ e less. met_other (2 ^ bits) ws v.history fits.history w (place bits w e) (next.others e less);
       }
 
-      pub keeps : KeepsWords ws (set ws i w)
-      keeps = filling_grows ws i w vacant
-
       pub here : slice_index (set ws i w) i ≡ w
       here = grind (arith, get_or-set_same, table.canonical)
 
@@ -385,8 +373,9 @@ module _ (v : View) (ws : List ℕ) (table : IsTable v.terms ws) (fits : LiveFit
       here_filled e = node_some vars ws w node (sym here ∙ e)
 
       own_slot : DenotesIn vars (set ws i w) (suc (suc i)) (join (vars - var_of w) asked.low asked.high)
-      own_slot = slot i asked.low asked.high (join (vars - var_of w) asked.low asked.high) here_filled
-          (rw here (denotes_grows vars ws (set ws i w) keeps low_denotes)) (rw here (denotes_grows vars ws (set ws i w) keeps high_denotes))
+      own_slot = let still = filling_grows ws i w vacant in
+          slot i asked.low asked.high (join (vars - var_of w) asked.low asked.high) here_filled
+          (rw here (denotes_grows vars ws (set ws i w) still low_denotes)) (rw here (denotes_grows vars ws (set ws i w) still high_denotes))
           (rw here refl)
 
       planned : (s : ℕ) → IsFilled (set ws i w) s → (f : Family) × DenotesIn vars (set ws i w) (suc (suc s)) f × Has v.terms.plan f
@@ -397,7 +386,8 @@ module _ (v : View) (ws : List ℕ) (table : IsTable v.terms ws) (fits : LiveFit
             asked.planned,
           ))
           (λ ne. let same : slice_index (set ws i w) s ≡ slice_index ws s = get_or-set_other ws i s w 0 ne in
-          let t = table.planned s (λ none'. filled (same ∙ none')) in (t.0, denotes_grows vars ws (set ws i w) keeps t.1, t.2))
+          let t = table.planned s (λ none'. filled (same ∙ none')) in
+          (t.0, denotes_grows vars ws (set ws i w) (filling_grows ws i w vacant) t.1, t.2))
 
       pub filled_table : IsTable v.terms (set ws i w)
       filled_table = record {

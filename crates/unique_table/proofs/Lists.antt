@@ -1,10 +1,11 @@
 -- Lists of held families, with those of another list, and what lists of pairs know of handles.
-use Rattle.std.proofs.Common.{◌≡◌, ℕ, zero, suc, true, ◌⊎◌, inl, inr, Some, is_some, List, [], ◌∷◌, ◌++◌, ap, ◌∙◌, eqb-true, eq-eqb, arith}
+use Rattle.std.proofs.Common.{◌≡◌, ℕ, true, ◌⊎◌, inl, inr, Some, is_some, List, [], ◌∷◌, ◌++◌, ap, ◌∙◌, eqb-true, eq-eqb, arith}
 use Rattle.std.specs.List.{All, Contains}
 use Rattle.std.proofs.lemmas.List.Elements.{All-contains, All-nil, All-cons, All-head, All-tail, All-append, Contains-append_right}
 use Rattle.std.proofs.lemmas.Bool.{cases_Bool, and_from}
 use Rattle.lattice.specs.Words.{Family, Has, Covers, is_distinct, sub, AgreesWith}
 use Rattle.lattice.proofs.Diagrams.{Has-nil, Has-cases, Has-head, Has-tail, Has-append_left, Has-append_right, denotes_one}
+use Rattle.lattice.proofs.Polynomials.{contains_cases}
 use Rattle.node_store.proofs.StoreLaws.{some_is}
 use Rattle.unique_table.specs.Views.{known_by}
 use Rattle.unique_table.specs.Rule.{IsPair, with_family, merged}
@@ -73,10 +74,6 @@ first_stays (p ∷ xs) ys h f is = grind (arith, first_stays xs ys h f)
 pub pair_cases : (h : ℕ) (f : Family) (ys : List (ℕ × Family)) (k : ℕ) (g : Family) → known_by ((h, f) ∷ ys) k ≡ Some g
     → ((h ≡ k) × (f ≡ g)) ⊎ (known_by ys k ≡ Some g)
 pair_cases h f ys k g is = grind (arith, eqb-true)
-
-pub contains_cases : {A : Type 0} (x y : A) (xs : List A) → Contains (y ∷ xs) x → (y ≡ x) ⊎ Contains xs x
-contains_cases x y xs (zero, less, is) = inl is
-contains_cases x y xs (suc k, less, is) = inr (k, omega arith, is)
 
 -- a pair that is there makes its handle known
 pair_some : (xs : List (ℕ × Family)) (h : ℕ) (f : Family) → Contains xs (h, f) → is_some (known_by xs h) ≡ true

@@ -1,5 +1,5 @@
 -- The steps of the shared table keep its rule, and so do its opening, splits and joins.
-use Rattle.std.proofs.Common.{◌≡◌, ℕ, zero, suc, ◌+◌, ◌^◌, ◌<◌, ◌≤◌, ◌⊎◌, Bool, true, cond, is_some, unwrap_or, eqb, Option, Some, None}
+use Rattle.std.proofs.Common.{◌≡◌, ℕ, suc, ◌+◌, ◌^◌, ◌<◌, ◌≤◌, ◌⊎◌, Bool, true, cond, is_some, unwrap_or, eqb, Option, Some, None}
 use Rattle.std.proofs.Common.{List, [], ◌∷◌, ◌++◌, slice_index, set, take, replicate, sym, refl, ap, ◌∙◌, subst, inl, inr, arith}
 use Rattle.std.specs.List.{All}
 use Rattle.std.proofs.lemmas.Bool.{cases_Bool}
@@ -10,20 +10,21 @@ use native.Mathlib.Decide.{ℕ_discrete}
 use prog.Atomic.{either}
 use Rattle.atomic_table.specs.Table.{opening, Allows, Splits, Joins}
 use Rattle.atomic_table.specs.Seated.{TableId}
-use Rattle.lattice.specs.Words.{Family, Covers, sub, cache_bits, IsTrueWord, takes_family, answer, needs, IsFilled, KeepsWords, DenotesIn}
-use Rattle.lattice.specs.Words.{nothing, unit, IsStored, HoldsWord, FitsHistory}
+use Rattle.lattice.specs.Words.{Family, Covers, sub, cache_bits, IsTrueWord, IsVacantOrTrue, takes_family, answer, needs, IsFilled}
+use Rattle.lattice.specs.Words.{KeepsWords, DenotesIn, nothing, unit, IsStored, HoldsWord, FitsHistory}
 use Rattle.lattice.specs.declared.entry.Entry.{Entry}
 use Rattle.lattice.specs.declared.entry.Entry.TheVariants.{Met, Ask}
 use Rattle.lattice.specs.declared.limits.TheConstants.{MAX_VARS, MAX_BITS, HANDLE_UNIT}
 use Rattle.lattice.proofs.Diagrams.{Has-nil, Has-append_left, sub-nil, fits_append, denotes_one, denotes_handle, true_word_stays}
-use Rattle.lattice.proofs.Diagrams.{no_word, none_filled, refusals_of-append, refusals_of-grows}
+use Rattle.lattice.proofs.Diagrams.{filling_grows, no_word, none_filled, refusals_of-append, refusals_of-grows}
+use Rattle.lattice.proofs.Polynomials.{left_nil}
 use Rattle.node_store.specs.Stores.{Adds, Knows, IsResult}
 use Rattle.node_store.proofs.StoreLaws.{some_is}
 use Rattle.unique_table.specs.declared.view.View.{View}
 use Rattle.unique_table.specs.declared.view.About.{About}
 use Rattle.unique_table.specs.declared.view.Terms.{Terms}
 use Rattle.unique_table.specs.Views.{name_of, terms_of, known_by, steps_of, after_store, view_state}
-use Rattle.unique_table.specs.Rule.{Rule, IsTable, IsVacantOrTrue, IsWhole, IsPair, LiveFits, Fits, FitsWhole, IsSoundView, first_view}
+use Rattle.unique_table.specs.Rule.{Rule, IsTable, IsWhole, IsPair, LiveFits, Fits, FitsWhole, IsSoundView, first_view}
 use Rattle.unique_table.specs.Rule.{IsNew, split_view, second_view, merged, joined_view, no_view}
 use Rattle.unique_table.specs.Kept.{IsShown, IsKept}
 use Rattle.unique_table.specs.Told.{Sat, IsAsked, IsNext, EndsPath, passing, Passes, Stands, Goes, Meets, Keeps, Probed, Exchanged, Checked}
@@ -32,9 +33,13 @@ use Rattle.unique_table.specs.Passes.{IsJoined}
 use Rattle.unique_table.proofs.Lists.{merged_keeps, merged_has, merged_only, merged_distinct, merged_all, All-Has, All-from_Has}
 use Rattle.unique_table.proofs.Lists.{append_cases, pair_cases, pair_there, first_stays}
 use Rattle.unique_table.proofs.Fitting.{unit_none, small, live_grows, agrees, sound, Addition, learned, learned_known, learned_fits}
-use Rattle.unique_table.proofs.Fitting.{left_nil, goes_new, met_not_new, learned_sound, learned_goes, meets, keeps}
+use Rattle.unique_table.proofs.Fitting.{goes_new, met_not_new, learned_sound, learned_goes, meets}
 use Rattle.unique_table.proofs.Fitting.{here, here_filled, filled_table, passes, passes_over}
 use Rattle.unique_table.proofs.Parts.{opens, splits, joins, node_looks, node_trades, cache_looks, cache_stores}
+
+-- a cache word of a table with these terms is vacant, or true at its place
+abbrev IsCacheWord : Terms → List ℕ → ℕ → ℕ → Type 0
+IsCacheWord t = IsVacantOrTrue (cache_bits t.bits) t.vars
 
 -- ---- the opening, splits and joins
 
@@ -311,7 +316,7 @@ module _ (about : About) (me : Sat) (live : me.0.live ≡ true) where
   -- a load keeps the rule
   pub probes : (slots id at asked : ℕ) (last : Bool) → at < 2 ^ v.terms.bits → EndsPath v asked at last
       → Allows (Rule about) slots id me at (λ n. n) (Probed asked last at me)
-  probes slots id at asked last less end = node_looks nodes words (IsTable t) (Fits t) IsNew (IsVacantOrTrue t) slots id me at
+  probes slots id at asked last less end = node_looks nodes words (IsTable t) (Fits t) IsNew (IsCacheWord t) slots id me at
       (Probed asked last at me) (inside at less) (λ ws table fits first. dite (ℕ_discrete (slice_index ws at) 0)
       (λ vacant. (
         v,
@@ -332,18 +337,18 @@ module _ (about : About) (me : Sat) (live : me.0.live ≡ true) where
       (l.0, l.1, l.2, (l.3.0, first, inr (elim l.3.1 [ inl s ↦ inr s | inr p ↦ inl p ])))))
 
   -- a cache word stays true
-  stays_true : (ws later : List ℕ) → KeepsWords ws later → (p y : ℕ) → IsVacantOrTrue t ws p y → IsVacantOrTrue t later p y
+  stays_true : (ws later : List ℕ) → KeepsWords ws later → (p y : ℕ) → IsCacheWord t ws p y → IsCacheWord t later p y
   stays_true ws later still p y (inl vacant) = inl vacant
   stays_true ws later still p y (inr is) = inr (true_word_stays (cache_bits t.bits) t.vars p y ws later still is)
 
   -- an exchange for a vacant word keeps the rule
   pub exchanges : (slots id at w d : ℕ) (last : Bool) → at < 2 ^ v.terms.bits → IsAsked v w → IsNext v w d at → EndsPath v w at last
       → Allows (Rule about) slots id me at (λ n. either (eqb n 0) w n) (Exchanged last at w me)
-  exchanges slots id at w d last less asked next end = node_trades nodes words (IsTable t) (Fits t) IsNew (IsVacantOrTrue t) slots id me at
+  exchanges slots id at w d last less asked next end = node_trades nodes words (IsTable t) (Fits t) IsNew (IsCacheWord t) slots id me at
       (Exchanged last at w me) (inside at less) 0 w
       (λ ws table fits vacant.
       let own = own_fits ws table fits in let mine = own_table ws table fits in
-      let still = keeps v ws mine own w asked d at next less vacant in
+      let still = filling_grows ws at w vacant in
       let whole : IsTable t (set ws at w) = subst (λ (k : Terms). IsTable k (set ws at w)) (fits live).of
       (filled_table v ws mine own w asked d at next less vacant) in
       let stay : (u : View) → Fits t ws u → Fits t (set ws at w) u = λ u f live'. live_grows t ws (set ws at w) u still (f live') in
@@ -364,7 +369,7 @@ module _ (about : About) (me : Sat) (live : me.0.live ≡ true) where
 
   -- a load that changes nothing keeps the rule
   pub checks : (slots id at : ℕ) → at < 2 ^ v.terms.bits → Allows (Rule about) slots id me at (λ n. n) (λ _ after. Checked me after)
-  checks slots id at less = node_looks nodes words (IsTable t) (Fits t) IsNew (IsVacantOrTrue t) slots id me at
+  checks slots id at less = node_looks nodes words (IsTable t) (Fits t) IsNew (IsCacheWord t) slots id me at
       (λ _ after. Checked me after) (inside at less) (λ ws table fits _. (v, fits, (λ new. new), (unchanged ws table fits, refl)))
 
   -- ---- steps on cache words
@@ -407,7 +412,7 @@ module _ (about : About) (me : Sat) (live : me.0.live ≡ true) where
 
     -- a load keeps the rule
     pub loads : (slots id : ℕ) → Allows (Rule about) slots id me at (λ n. n) (Looked at me)
-    loads slots id = cache_looks nodes words (IsTable t) (Fits t) IsNew (IsVacantOrTrue t) slots id me at p inside_cache (Looked at me)
+    loads slots id = cache_looks nodes words (IsTable t) (Fits t) IsNew (IsCacheWord t) slots id me at p inside_cache (Looked at me)
         (λ ws table fits x told first. elim told [
           | inl none ↦ looked ws table fits x (record {
             extra = [];
@@ -432,7 +437,7 @@ module _ (about : About) (me : Sat) (live : me.0.live ≡ true) where
     -- and keeps the rule
     pub stores : (slots id x : ℕ) (name : List ℕ) → IsShown (view_state name v) v.terms.bits p x
         → Allows (Rule about) slots id me at (λ _. x) (λ _. Stored at me x)
-    stores slots id x name shown = cache_stores nodes words (IsTable t) (Fits t) IsNew (IsVacantOrTrue t) slots id me at p inside_cache x
+    stores slots id x name shown = cache_stores nodes words (IsTable t) (Fits t) IsNew (IsCacheWord t) slots id me at p inside_cache x
         (Stored at me x) (λ ws table fits.
         let mine = own_table ws table fits in let own = own_fits ws table fits in
         let u : View = record v { put = Some (p, x); stores = suc v.stores } in

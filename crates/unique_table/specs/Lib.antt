@@ -7,3 +7,4 @@ pub mod Told
 pub mod Passes
 pub mod PassOf
 pub mod PassLaws
+pub mod RuleLaws

@@ -1,5 +1,5 @@
 -- The rule of the shared table: what holds between any two steps, and the views that making, splitting and joining give.
-use Rattle.std.specs.Prelude.{◌≡◌, ℕ, suc, ◌+◌, ◌^◌, ◌<◌, ◌≤◌, ◌⊎◌, true, false, cond, Some, None, List, [], ◌∷◌, ◌++◌}
+use Rattle.std.specs.Prelude.{◌≡◌, ℕ, suc, ◌+◌, ◌^◌, ◌<◌, ◌≤◌, true, false, cond, Some, None, List, [], ◌∷◌, ◌++◌}
 use Rattle.std.specs.List.{All, Contains}
 use Rattle.atomic_table.specs.Table.{State}
 use Rattle.lattice.specs.Family.{Family, Has, Covers, includes, is_distinct}
@@ -12,7 +12,7 @@ use Rattle.unique_table.specs.declared.view.View.{View}
 use Rattle.unique_table.specs.declared.view.About.{About}
 use Rattle.unique_table.specs.declared.view.Terms.{Terms}
 use Rattle.lattice.specs.NodeWords.{cache_bits}
-use Rattle.lattice.specs.CacheWords.{IsTrueWord}
+use Rattle.lattice.specs.CacheWords.{IsVacantOrTrue}
 use Rattle.unique_table.specs.ByViews.{ByViews}
 use Rattle.unique_table.specs.TwoParts.{IsBoth, FitsNodes}
 use Rattle.unique_table.specs.Views.{terms_of, known_by, view_state}
@@ -26,10 +26,6 @@ pub record IsTable (t : Terms) (ws : List ℕ) : Type 0 where
   pub vars_low : 1 ≤ t.vars
   pub vars_high : t.vars ≤ MAX_VARS
   pub bits_high : t.bits ≤ MAX_BITS
-
--- a cache word is vacant, or true at its place
-abbrev pub IsVacantOrTrue : Terms → List ℕ → ℕ → ℕ → Type 0
-IsVacantOrTrue t ws place w = (w ≡ 0) ⊎ IsTrueWord (cache_bits t.bits) t.vars ws place w
 
 -- what is known of a handle is what it denotes
 abbrev pub IsPair : ℕ → List ℕ → ℕ × Family → Type 0
@@ -52,7 +48,8 @@ Fits t ws v = v.live ≡ true → LiveFits t ws v
 
 -- the node words with the cache words behind them
 abbrev pub IsWhole : About → List ℕ → Type 0
-IsWhole about = IsBoth (2 ^ about.bits) (2 ^ cache_bits about.bits) (IsTable (terms_of about)) (IsVacantOrTrue (terms_of about))
+IsWhole about =
+    IsBoth (2 ^ about.bits) (2 ^ cache_bits about.bits) (IsTable (terms_of about)) (IsVacantOrTrue (cache_bits about.bits) about.vars)
 
 -- a view by itself
 abbrev pub FitsWhole : About → List ℕ → View → Type 0

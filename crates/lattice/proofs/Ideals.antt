@@ -2,16 +2,19 @@
 use Rattle.std.proofs.Common.{◌≡◌, ◌≢◌, ℕ, zero, suc, ◌+◌, ◌%◌, ◌^◌, ◌<◌, ◌↔◌, Bool, true, false, List, [], ◌∷◌, refl, ◌∙◌, ⊎_elim, arith}
 use Rattle.std.proofs.Common.{not, ◌&&◌, ◌||◌}
 use Rattle.std.specs.Prelude.{◌==◌}
-use Rattle.std.specs.List.{AllZip, list_all}
+use Rattle.std.specs.List.{list_all}
 use Rattle.std.proofs.lemmas.Bool.{cases_Bool}
 use Rattle.std.proofs.lemmas.Bool.Decides.{nat_tests}
 use Rattle.lattice.specs.Words.{Family, IsFamily, divides, exactly_one, has, inter_of, sum_of, union_of, Vanishes, value, IsBasisElement}
 use Rattle.lattice.specs.Words.{IsStandard, IsLead, IsReducedBasis, has_divisors, leads_of, standard_of, polynomial_where}
-use Rattle.lattice.proofs.Polynomials.{All-from_has, All-has, IsBasisElement-basis_element_of, IsFamily-combine, below_bound}
-use Rattle.lattice.proofs.Polynomials.{divides_self, divides_trans, has-combine, has-family_where_below, has_divisor, has_head, has_tail}
-use Rattle.lattice.proofs.Polynomials.{leads_are_minimal, polynomial_by_values, same_below, standard_by_recursion, standard_divisor}
-use Rattle.lattice.proofs.Polynomials.{value-sum, value_cases}
-use Rattle.point_ideals.specs.Ideals.{Ideal, Intersection, IsElementOf, IsLeadOf, IsReducedBasisOf, Polynomials, Sum}
+use Rattle.lattice.specs.Words.{Ideal, Intersection, IsElementOf, IsLeadOf, IsReducedBasisOf, Polynomials, Sum}
+use Rattle.lattice.proofs.Families.{All-from_has, All-has, IsFamily-combine, below_bound, has-combine, has-family_where_below, has_head}
+use Rattle.lattice.proofs.Families.{has_tail, same_below}
+use Rattle.lattice.proofs.ListLaws.{zip_weaker}
+use Rattle.lattice.proofs.Values.{divides_trans, value-sum, value_cases}
+use Rattle.lattice.proofs.Standard.{standard_divisor}
+use Rattle.lattice.proofs.Results.{IsBasisElement-basis_element_of, divides_self, has_divisor, leads_are_minimal, polynomial_by_values}
+use Rattle.lattice.proofs.Results.{standard_by_recursion}
 
 -- ---- intersections and sums
 
@@ -29,6 +32,7 @@ module _ (n : ℕ) (points others : Family) (fits : IsFamily n points) (others_f
   has_both : (a : ℕ) → has (inter_of n points others) a ≡ (has points a && has others a)
   has_both a = has-combine (λ b c. b && c) n points others a refl fits others_fit
 
+  -- The intersection of the ideals of two families of points is the ideal of their union.
   pub intersection_law : (p : Family) → Intersection (Ideal n points) (Ideal n others) p ↔ Ideal n (union_of n points others) p
   intersection_law p = (
     λ both. (both.0.0, vanish_from p _ λ a i. grind (arith, has_either a, vanish_at p points both.0.1 a, vanish_at p others both.1.1 a)),
@@ -82,6 +86,7 @@ module _ (n : ℕ) (points others : Family) (fits : IsFamily n points) (others_f
         grind (arith, has-combine exactly_one n first p x refl first_fits pf)) in
         (first, second, (first_fits, first_vanishes), (second_fits, second_vanishes), whole)
 
+  -- The sum of the ideals of two families of points is the ideal of their common points.
   pub sum_law : (p : Family) → Sum n (Ideal n points) (Ideal n others) p ↔ Ideal n (inter_of n points others) p
   sum_law p = (sum_to p, λ all. sum_from p all.0 all.1)
 
@@ -91,6 +96,7 @@ module _ (n : ℕ) (points : Family) (fits : IsFamily n points) where
   abbrev monos : Family
   monos = standard_of n points
 
+  -- The leads of the ideal of points are those of the points.
   pub leads_law : (m : ℕ) → IsLeadOf (Ideal n points) m ↔ ((m < 2 ^ n) × IsLead n points m)
   leads_law m = grind (arith, below_bound n, IsBasisElement-basis_element_of n m points fits)
 
@@ -136,13 +142,7 @@ module _ (n : ℕ) (points : Family) (fits : IsFamily n points) where
     element_from : (m : ℕ) (e : Family) → IsBasisElement n points m e → IsElementOf J m e
     element_from m e h = grind (arith, lead_is, standard_divisor n points fits.below, below_bound n e)
 
-    zip_weaker : (R S : ℕ → Family → Type 0) → ((m : ℕ) (e : Family) → R m e → S m e) → (ms : List ℕ) (es : List Family) → AllZip R ms es
-        → AllZip S ms es
-    zip_weaker R S f [] [] z = tt
-    zip_weaker R S f (m ∷ ms) (e ∷ es) z = (f m e z.0, zip_weaker R S f ms es z.1)
-    zip_weaker R S f [] (e ∷ es) z = z
-    zip_weaker R S f (m ∷ ms) [] z = z
-
+    -- The reduced bases of a set of polynomials that has the members of the ideal of points are those of the points.
     pub basis_same : (basis : List Family) → IsReducedBasisOf J basis ↔ IsReducedBasis n points basis
     basis_same basis = (
       λ h. record {
@@ -159,5 +159,6 @@ module _ (n : ℕ) (points : Family) (fits : IsFamily n points) where
       },
     )
 
+  -- The reduced bases of the ideal of points are those of the points.
   pub basis_law : (basis : List Family) → IsReducedBasisOf (Ideal n points) basis ↔ IsReducedBasis n points basis
   basis_law = basis_same (Ideal n points) (λ p. (λ h. h, λ h. h))
