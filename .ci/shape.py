@@ -254,93 +254,201 @@ def statement_at(lines, number, match):
 
 
 class Statement:
-    """A statement in one form: bound variables by number, each with a binder of its own, implicit or not; other names by their origin."""
+    """A statement in one form, so that statements that say the same have the same form where they differ in the names and the order of
+    what they are about, in what is implicit, in abbreviations, in how a number is written, and in brackets: names of the crates stand
+    by their origin, facts in an order of their own, and behind them what the variables are."""
 
-    def __init__(self, text, origins):
-        self.tokens = TOKEN.findall(text)
-        self.at = 0
+    def __init__(self, text, origins, abbreviations):
         self.origins = origins
-        self.bound = 0
-        self.dependent = "≡" in self.tokens
+        self.abbreviations = abbreviations
+        tokens = TOKEN.findall(text)
+        bound = {name for at, token in enumerate(tokens) if token in "({" for name in names_bound(tokens, at)}
+        self.tokens = plain_numbers(self.unfolded(tokens, bound))
 
     def form(self):
-        return " ".join(self.until_close([{}]))
+        """The form, and whether the statement says something of its variables."""
+        numbers = {}
+        form = self.arranged(self.tokens, [numbers])
+        return form, bool(numbers) or "≡" in self.tokens
 
-    def peek(self, ahead=0):
-        return self.tokens[self.at + ahead] if self.at + ahead < len(self.tokens) else ""
+    def arranged(self, tokens, layers):
+        """The form of a statement or of a premise: what it comes to, its facts in an order of their own, and what its variables are.
+        Each of the layers has the numbers of variables that are bound around it, the innermost last, which is the one of its own."""
+        parts, conclusion = premises_of(tokens)
+        if not parts:
+            return self.rendered(tokens, layers)
+        variables = {name for name, _ in parts if name and (name in conclusion or any(name in kind for _, kind in parts))}
+        numbers = layers[-1]
+        numbers.update({name: None for name in variables})
+        out = [self.arranged(conclusion, layers)]
+        facts = [kind for name, kind in parts if name not in variables]
+        while facts:
+            first = min(facts, key=lambda kind: self.inner(kind, [dict(layer) for layer in layers]))
+            facts.remove(first)
+            out.append(self.inner(first, layers))
+        kinds = [(numbers[name], kind) for name, kind in parts if name in variables and numbers[name]]
+        out += [f"{number} : {self.inner(kind, layers)}" for number, kind in sorted(kinds, key=lambda it: int(it[0].split("v")[1]))]
+        return " | ".join(out)
 
-    def until_close(self, scopes):
-        """The tokens up to the bracket that closes this part, in their form."""
-        out = []
-        while self.at < len(self.tokens) and self.peek() not in (")", "}"):
-            token = self.peek()
-            if token in ("(", "{") and self.names_bound():
-                out += self.binder(scopes)
-            elif token in ("(", "{"):
-                self.at += 1
-                out += [token] + self.until_close(scopes + [{}]) + [self.take()]
-            elif token == "λ":
-                out += self.function(scopes)
-            elif token == "let":
-                out += [self.take(), self.bind(self.take(), scopes)]
-            elif token == "." and self.at and self.peek(1):
-                out += [self.take(), self.take()] if self.is_field() else [self.take()]
-            else:
-                out.append(self.name(self.take(), scopes))
+    def inner(self, tokens, layers):
+        """The form of a premise, in brackets."""
+        while len(tokens) > 1 and tokens[0] == "(" and group_end(tokens, 0) == len(tokens):
+            tokens = tokens[1:-1]
+        return f"[{self.arranged(tokens, [*layers, {}])}]"
+
+    def unfolded(self, tokens, bound, depth=0):
+        """The tokens with the abbreviations of the crates written out, where they are given all that they take."""
+        out, at = [], 0
+        while at < len(tokens):
+            token = tokens[at]
+            field = at > 0 and tokens[at - 1] == "."
+            known = None if token in bound or field else self.abbreviations.get(self.origins.get(token, token))
+            ends = arguments_at(tokens, at + 1, len(known[0])) if known and depth < 5 else None
+            if ends is None:
+                out.append(token)
+                at += 1
+                continue
+            given = dict(zip(known[0], [tokens[start:end] for start, end in zip([at + 1, *ends], ends)]))
+            body = [part for word in known[1] for part in (["(", *given[word], ")"] if word in given else [word])]
+            out += ["(", *self.unfolded(body, bound, depth + 1), ")"]
+            at = ends[-1] if ends else at + 1
         return out
 
-    def is_field(self):
-        """Whether this dot stands before the field of a value, and not behind the variables of a function."""
-        return re.match(r"[\w']", self.peek(1)) is not None and self.tokens[self.at - 1] not in (".", ",")
+    def rendered(self, tokens, layers):
+        """The tokens without brackets, with variables and bound names by numbers and other names by their origin."""
+        out, bound = [], {}
+        for at, token in enumerate(tokens):
+            new = names_bound(tokens, at) if token in "({" else lambda_names(tokens, at) if token == "λ" else []
+            bound.update({name: f"b{len(bound) + number}" for number, name in enumerate(new)})
+            field = at > 1 and tokens[at - 1] == "." and re.match(r"[\w']", token) and tokens[at - 2] not in ".,"
+            if token not in "(){}":
+                out.append(token if field else bound.get(token) or self.number(token, layers) or self.origins.get(token, token))
+        return " ".join(out)
 
-    def take(self):
-        self.at += 1
-        return self.tokens[self.at - 1] if self.at <= len(self.tokens) else ""
+    def number(self, token, layers):
+        """The number of a variable, which it gets where it is met first, or None where the token is no variable."""
+        for depth, numbers in reversed(list(enumerate(layers))):
+            if token in numbers:
+                numbers[token] = numbers[token] or f"{depth}v{sum(number is not None for number in numbers.values())}"
+                return numbers[token]
+        return None
 
-    def names_bound(self):
-        """The names of the binder that begins here, or none."""
-        names, ahead = [], 1
-        while self.peek(ahead) not in ("", "(", ")", "{", "}", ".", ",", ";", ":"):
-            names.append(self.peek(ahead))
-            ahead += 1
-        return names if self.peek(ahead) == ":" else []
 
-    def binder(self, scopes):
-        names = self.names_bound()
-        self.at += len(names) + 2
-        kind = self.until_close(scopes + [{}])
-        self.at += 1
-        out = []
-        joined = [self.peek()] if self.peek() in ("→", "×") else []
-        arrow = self.take() if joined else ("→" if self.peek() in ("(", "{") else "")
-        for name in names:
-            out += ["(", self.bind(name, scopes), ":"] + kind + [")"] + ([arrow] if arrow else [])
-        return out
+def names_bound(tokens, at):
+    """The names of the binder that begins with the bracket at this place, or none."""
+    names, ahead = [], at + 1
+    while ahead < len(tokens) and tokens[ahead] not in ("(", ")", "{", "}", ".", ",", ";", ":", "→", "≡"):
+        names.append(tokens[ahead])
+        ahead += 1
+    return names if names and ahead < len(tokens) and tokens[ahead] == ":" else []
 
-    def function(self, scopes):
-        out = [self.take()]
-        while self.at < len(self.tokens) and self.peek() != ".":
-            if self.peek() in ("(", "{") and self.names_bound():
-                names = self.names_bound()
-                self.at += len(names) + 2
-                self.until_close(scopes + [{}])
-                self.at += 1
-                out += [self.bind(name, scopes) for name in names]
-            else:
-                out.append(self.bind(self.take(), scopes))
-        return out + [self.take()]
 
-    def bind(self, name, scopes):
-        scopes[-1][name] = f"v{self.bound}"
-        self.bound += 1
-        return scopes[-1][name]
+def lambda_names(tokens, at):
+    """The names that a λ at this place binds without their types."""
+    names, ahead = [], at + 1
+    while ahead < len(tokens) and tokens[ahead] != ".":
+        names += [] if tokens[ahead] in "({):}" else [tokens[ahead]]
+        ahead += 1
+    return names
 
-    def name(self, token, scopes):
-        for scope in reversed(scopes):
-            if token in scope:
-                self.dependent = True
-                return scope[token]
-        return self.origins.get(token, token)
+
+def group_end(tokens, at):
+    """Where what begins at this place ends: a group in brackets or a single token, with the fields that follow it."""
+    depth = 0
+    while at < len(tokens):
+        depth += {"(": 1, "{": 1, ")": -1, "}": -1}.get(tokens[at], 0)
+        at += 1
+        if depth == 0:
+            break
+    while at + 1 < len(tokens) and tokens[at] == "." and re.match(r"[\w']", tokens[at + 1]):
+        at += 2
+    return at
+
+
+def arguments_at(tokens, at, count):
+    """Where each of so many arguments from this place on ends, or None where there are not so many."""
+    ends = []
+    for _ in range(count):
+        if at >= len(tokens) or not (tokens[at] == "(" or re.match(r"\w", tokens[at])):
+            return None
+        at = group_end(tokens, at)
+        ends.append(at)
+    return ends
+
+
+def premises_of(tokens):
+    """The premises of a statement, each with its name or None and its tokens, and the tokens of its conclusion."""
+    pieces, depth, piece = [], 0, []
+    for token in tokens:
+        depth += {"(": 1, "{": 1, ")": -1, "}": -1}.get(token, 0)
+        if token == "→" and depth == 0:
+            pieces.append(piece)
+            piece = []
+        else:
+            piece.append(token)
+    parts = []
+    for number, one in enumerate([*pieces, piece]):
+        at, found = 0, []
+        while at < len(one) and names_bound(one, at):
+            end = group_end(one, at)
+            names = names_bound(one, at)
+            found += [(name, one[at + len(names) + 2 : end - 1]) for name in names]
+            at = end
+        if number == len(pieces):
+            return parts + (found if at < len(one) else []), one[at:] if found and at < len(one) else one
+        parts += found if found and at == len(one) else [(None, one)]
+    return parts, piece
+
+
+def plain_numbers(tokens):
+    """The tokens with `suc x` as `x + 1`, and each power of two that is written out as a power."""
+    out, at = [], 0
+    while at < len(tokens):
+        token = tokens[at]
+        if token == "suc" and at + 1 < len(tokens) and tokens[at + 1] not in (")", "}", "."):
+            end = group_end(tokens, at + 1)
+            out += [*plain_numbers(tokens[at + 1 : end]), "+", "1"]
+            at = end
+            continue
+        number = int(token) if token.isdigit() else 0
+        out += ["2", "^", str(number.bit_length() - 1)] if number > 255 and number & (number - 1) == 0 else [token]
+        at += 1
+    return out
+
+
+def abbreviations_of(top, crates):
+    """{origin: (parameters, tokens of the body)} for each abbreviation with one clause and plain parameters."""
+    found = {}
+    for crate in sorted(crates):
+        for path in [*proofs_of(top, crate), *files_of(top, crate, "specs", ".antt")]:
+            lines = read_lines(path)
+            text = "\n".join(lines)
+            origins = origins_of(crates, crate, text, declared_in(text))
+            for number, line in enumerate(lines):
+                match = re.match(rf"abbrev (?:pub )?{NAME} : ", line)
+                clauses = clauses_at(lines, number, match.group(1)) if match else []
+                if len(clauses) == 1:
+                    parameters, body = clauses[0]
+                    names = set(TOKEN.findall(body)) & set(parameters)
+                    tokens = [word if word in names else origins.get(word, word) for word in TOKEN.findall(body)]
+                    if all(re.fullmatch(r"[\w']+", name) for name in parameters) and not {"λ", "let", "elim", "record"} & set(tokens):
+                        found[f"{crate}:{match.group(1)}"] = (parameters, tokens)
+    return found
+
+
+def clauses_at(lines, number, name):
+    """The clauses of the definition whose signature stands at this line: the parameters and the body of each."""
+    found = []
+    for at in range(number + 1, len(lines)):
+        line = lines[at]
+        if line.startswith("    ") and found:
+            found[-1] = (found[-1][0], found[-1][1] + " " + line.strip())
+        elif re.match(rf"{re.escape(name)}(?![^\s=])", line) and "=" in line:
+            head, body = line.split("=", 1)
+            found.append((head.split()[1:], body.strip()))
+        elif line.strip() and not line.startswith("    "):
+            break
+    return found
 
 
 def origins_of(crates, crate, text, names):
@@ -359,23 +467,23 @@ def declared_in(text):
     return {match.group(3) for line in text.splitlines() for match in [SIGNATURE.match(line) or TYPE.match(line)] if match}
 
 
-def forms_of(top, crates, crate, path):
+def forms_of(top, crates, crate, path, abbreviations):
     """(form, lemma) for each lemma of a file whose statement says something of its variables or is an equation."""
     text = "\n".join(read_lines(path))
     origins = origins_of(crates, crate, text, declared_in(text))
     for lemma in lemmas_of(top, crate, path):
-        statement = Statement(lemma.statement, origins)
-        form = statement.form()
-        if lemma.plain and statement.dependent:
+        form, dependent = Statement(lemma.statement, origins, abbreviations).form()
+        if lemma.plain and dependent and not lemma.statement.startswith("goal."):
             yield form, lemma
 
 
 def check_statements(top):
     """No statement is proved in two crates."""
     crates, by_form = set(crates_of(top)), collections.defaultdict(list)
+    abbreviations = abbreviations_of(top, crates)
     for crate in sorted(crates):
         for path in [*proofs_of(top, crate), *files_of(top, crate, "specs", ".antt")]:
-            for form, lemma in forms_of(top, crates, crate, path):
+            for form, lemma in forms_of(top, crates, crate, path, abbreviations):
                 by_form[form].append(lemma)
     for lemmas in by_form.values():
         if len({lemma.crate for lemma in lemmas}) > 1:

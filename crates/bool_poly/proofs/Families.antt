@@ -7,7 +7,6 @@ use Rattle.std.proofs.Math.Bool.{and-false, or_comm, and_comm}
 use Rattle.std.proofs.lemmas.Bool.{cases_Bool, and_parts, cond_both}
 use Rattle.std.proofs.lemmas.Bool.Decides.{nat_tests}
 use Rattle.std.proofs.lemmas.List.{length-map}
-use Rattle.std.proofs.lemmas.List.Sums.{sum_by-cons}
 use Rattle.std.proofs.lemmas.Nat.{and_block, and_le_l, mod_below, pow_pos}
 use Rattle.lattice.specs.Words.{Family, IsFamily, has, divides, family_where, Covers, sum_of, exactly_one, low_cofactor, high_cofactor}
 use Rattle.lattice.specs.Words.{join, is_empty, is_constant, sub, ones_at, value, ones_of, ones_list, working_set, needs, operation_list}
@@ -24,8 +23,8 @@ use Rattle.lattice.proofs.Polynomials.{IsFamily-low_cofactor, IsFamily-high_cofa
 use Rattle.lattice.proofs.Polynomials.{has-join_high, divides_high_point, divides_high_monomial, divides_both_high, divides_le}
 use Rattle.lattice.proofs.Polynomials.{divides_zero, has_none, IsFamily-combine, value-nil, value-one, not_constant, sum_after, sum_narrow}
 use Rattle.lattice.proofs.Polynomials.{value-at_high, value-at_low, value-sum, twice, value-single, has_head, has_tail, has_cases, All-has}
-use Rattle.lattice.proofs.Polynomials.{All-from_has, join_member, count, count-append, count_agree, value-count, value_cases, value-lt}
-use Rattle.lattice.proofs.Polynomials.{polynomial_by_values, product_by_values}
+use Rattle.lattice.proofs.Polynomials.{All-from_has, join_member, count, count-append, count-cons, count_agree, value-count, value_cases}
+use Rattle.lattice.proofs.Polynomials.{value-lt, polynomial_by_values, product_by_values}
 use Rattle.bool_poly.specs.Parts.{part_with}
 
 -- ---- two families cut at a variable
@@ -228,10 +227,6 @@ divides_with d m a l =
     let u = a / 2 ^ d in let b = a % 2 ^ d in let h = mod_below a (2 ^ d) (pow_pos d) in let small = and_le_l 1 u in
     let same = same_block (2 ^ d) (bit_and 1 u) m (bit_and m b) (bit_and 0 b) (omega arith) (and_le_l m b) l (and_le_l 0 b) in
     grind (arith, and_block d 1 u m b l h, and_block d 1 u 0 b (pow_pos d) h, and_block d 0 u m b l h, and_le_l 0 u, same)
-
-count-cons : (m : ℕ) (p : Family) (a : ℕ) → count (m ∷ p) a ≡ cond (divides m a) 1 0 + count p a
-unfolding count
-count-cons m p a = sum_by-cons (λ m. cond (divides m a) 1 0) m p
 
 count_with : (d : ℕ) (hi : Family) (a : ℕ) → ((m : ℕ) → has hi m ≡ true → m < 2 ^ d)
     → count (map (λ m. 2 ^ d + m) hi) a ≡ cond (divides (2 ^ d) a) (count hi a) 0

@@ -2,7 +2,7 @@
 use Rattle.std.proofs.Common.{◌≡◌, ℕ, ◌+◌, ◌-◌, cond, ltb, eqb, List, [], ◌∷◌, length, take, drop, Option, Some, None, Bor, rules, arith}
 use Rattle.std.proofs.Common.{◌*◌, ◌^◌, ◌<◌, ◌≤◌, Bool, true, false, not, ◌||◌, codes, refl, sym, ap, ◌∙◌, ◌&&◌, ◌++◌, append_assoc}
 use Rattle.std.proofs.Common.{bytes_eq, ⊎_elim, Ok, Err, zero, suc, map, reverse, Result, subst, IfOk}
-use Rattle.std.specs.List.{position_or_len, list_all, list_any, All}
+use Rattle.std.specs.List.{position_or_len, list_all, All}
 use Rattle.std.proofs.lemmas.Bool.{cases_lt, lt-ltb, le-ltb, false≢true, and_parts, lt-leb, le-leb, cases_Bool, ne_eqb}
 use Rattle.std.proofs.lemmas.List.{take_all, length-drop, append-nil, length_push, nil_from_length}
 use Rattle.std.proofs.lemmas.List.Sums.{fails_before_first, sum_by-cons}
@@ -20,7 +20,7 @@ use Rattle.std.proofs.Math.Bool.{and-false}
 use Rattle.std.proofs.lemmas.Bool.Decides.{nat_tests}
 use Rattle.std.proofs.lemmas.Slice.Eq.{bytes_eq-Decides}
 use Rattle.std.proofs.lemmas.List.Elements.{All-nil, All-cons, All-push, All-head, All-tail}
-use Rattle.lattice.proofs.Polynomials.{has_none, has_cases, ascends-nil, is_family}
+use Rattle.lattice.proofs.Polynomials.{has_none, has_cases, ascends-nil, is_family, place_within}
 use Rattle.pla_reader.specs.declared.refusal.LineRefusal.{LineRefusal}
 use Rattle.pla_reader.specs.Parts.{Stops}
 use Rattle.pla_reader.specs.Lines.{lines_of}
@@ -68,10 +68,6 @@ known_by_words names [] = refl
 known_by_words names (word ∷ words) = grind (arith, known_by_words names words)
 
 -- ---- the places of names
-
-place_within : {X : Type 0} (p : X → Bool) (xs : List X) → list_any p xs ≡ true → position_or_len p xs < length xs
-place_within p [] some = absurd (false≢true some)
-place_within p (x ∷ xs) some = grind (arith, some, place_within p xs)
 
 -- the place of a name that is one of the names is one of theirs
 pub known_place : (names : List (List ℕ)) (name : List ℕ) → includes names name ≡ true → place_of names name < length names

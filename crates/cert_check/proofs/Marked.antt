@@ -1,8 +1,7 @@
 -- Tables of all points by halves, tables in which monomials are marked, the marks of points and the care points.
 use Rattle.std.proofs.Common.{◌≡◌, ◌≢◌, ℕ, zero, suc, ◌+◌, ◌-◌, ◌^◌, ◌<◌, ◌≤◌, Bool, ◌==◌, List, [], ◌∷◌, ◌++◌, length, get_or, refl, sym}
-use Rattle.std.proofs.Common.{ap, ◌∙◌, subst, ⊎_elim, arith, length-append, cond, take, All, count_by, rules, ◌*◌, true, false, ◌&&◌, ◌||◌}
-use Rattle.std.proofs.Common.{filter, max, bit_and, bit_or, Some, eq-eqb, map, Vec, Global, slice_get, Result, Ok, Err, IfOk, ◌⊎◌}
-use Rattle.std.proofs.lemmas.Bool.{cases_lt}
+use Rattle.std.proofs.Common.{ap, ◌∙◌, subst, arith, length-append, cond, take, All, count_by, rules, true, false, ◌&&◌, ◌||◌}
+use Rattle.std.proofs.Common.{filter, bit_and, bit_or, Some, eq-eqb, map, Vec, Global, slice_get, Result, Ok, Err, IfOk}
 use Rattle.std.proofs.lemmas.Grind.{pow_more, common_steps}
 use Rattle.std.proofs.lemmas.List.{get_or_append_left, get_or-append-add, length-replicate, get_or-replicate, length-set, get_or-set_same}
 use Rattle.std.proofs.lemmas.List.{get_or-set_other, get_or_default, take_more, length-map}
@@ -14,14 +13,13 @@ use Rattle.lattice.specs.Words.{divides, has, IsFamily, numbers_below, family_wh
 use Rattle.lattice.specs.Words.{dc_set, points_where, care_zeros, care_ones, is_zero, is_one}
 use Rattle.lattice.proofs.Polynomials.{IsFamily-family_where, has-family_where_below, same_below, IsFamily-join, has-join_low}
 use Rattle.lattice.proofs.Polynomials.{has-join_high, count, count_join_low, count_join_high, length-numbers_below, has-nil, has_more_same}
-use Rattle.lattice.proofs.Polynomials.{has_more_other, family_where-agree}
+use Rattle.lattice.proofs.Polynomials.{has_more_other, family_where-agree, any_push, by_halves, max_is_one, weight_bit}
 use Rattle.cert_check.specs.Marks.{marked, CountsDivisors, IsMark, MarksPoint, has_value, is_care, MarksAll, MarksCare, care_by}
 use Rattle.std.specs.Int.{bit_at}
 use Rattle.std.specs.List.{list_any}
 use Rattle.std.proofs.lemmas.Nat.Bits.{and_pow, bit_at_or, bit_at-lt, bit_at-zero}
-use Rattle.std.proofs.lemmas.Nat.{and_comm, pow_pos}
+use Rattle.std.proofs.lemmas.Nat.{and_comm}
 use Rattle.std.proofs.Math.Bool.{or-false}
-use Rattle.std.proofs.lemmas.List.Folds.{list_any-append}
 use Rattle.std.proofs.lemmas.Option.{slice_get_within}
 use Rattle.lattice.specs.declared.row.Row.{Row}
 use Rattle.lattice.specs.declared.kind.Kind.{Kind}
@@ -56,11 +54,6 @@ counts_alone table size marks = absurd (omega (arith, size))
 pub counts_one : (n : ℕ) (table : List ℕ) → n ≡ 0 → length table ≡ 2 ^ n → All (λ mark. mark ≤ 1) table →
     CountsDivisors n (marked n table) table
 counts_one n table none size marks = rw none (counts_alone table (rw none at size) marks)
-
--- what holds below 2 ^ d, and of each such number with 2 ^ d added, holds below 2 ^ (d + 1)
-by_halves : (P : ℕ → Type 0) (d : ℕ) → ((x : ℕ) → x < 2 ^ d → P x) → ((x : ℕ) → x < 2 ^ d → P (2 ^ d + x)) → (x : ℕ) → x < 2 ^ (d + 1) → P x
-by_halves P d low high x below = ⊎_elim (low x) (λ most. let double = pow_more 2 d in
-    let e : 2 ^ d + (x - 2 ^ d) ≡ x = omega arith in subst P e (high (x - 2 ^ d) (omega arith))) (cases_lt x (2 ^ d))
 
 module _ (d : ℕ) (lo hi : List ℕ) (size : length lo ≡ 2 ^ d) where
   marked_low : (x : ℕ) → x < 2 ^ d → has (marked (d + 1) (lo ++ hi)) x ≡ has (join d (marked d lo) (marked d hi)) x
@@ -144,18 +137,9 @@ marked_is n monomials table marks = grind (arith, family_where-agree, mark_tells
 
 -- ==== The marks of points: what one more row adds, the points with a value, and the care points as a table.
 
--- a power of two divides a number where the number has its bit
-weight_bit : (j b : ℕ) → b < 2 → (b * 2 ^ j == 2 ^ j) ≡ (b == 1)
-weight_bit j zero small = grind (arith, pow_pos j)
-weight_bit j (suc zero) small = grind arith
-weight_bit j (suc (suc b)) small = absurd (omega (arith, small))
-
 divides-pow : (j x : ℕ) → divides (2 ^ j) x ≡ (bit_at x j == 1)
 unfolding divides
 divides-pow j x = ap (λ (z : ℕ). z == 2 ^ j) (and_comm (2 ^ j) x ∙ and_pow x j) ∙ weight_bit j (bit_at x j) (bit_at-lt x j)
-
-max_is_one : (a b : ℕ) → a < 2 → b < 2 → (max a b == 1) ≡ ((a == 1) || (b == 1))
-max_is_one a b h k = grind (arith, h, k)
 
 divides-or : (j x y : ℕ) → divides (2 ^ j) (bit_or x y) ≡ (divides (2 ^ j) x || divides (2 ^ j) y)
 divides-or j x y = search (rules, arith, divides-pow, bit_at_or, max_is_one, bit_at-lt)
@@ -165,16 +149,13 @@ divides-zero j = divides-pow j 0 ∙ ap (λ (z : ℕ). z == 1) (bit_at-zero j)
 
 -- ---- one more row
 
-any_more : (p : Row → Bool) (rows : List Row) (r : Row) → list_any p (rows ++ r ∷ []) ≡ (list_any p rows || p r)
-any_more p rows r = list_any-append p rows (r ∷ []) ∙ ap (λ (b : Bool). list_any p rows || b) (or-false (p r))
-
 mark_inside : (mask : Row → ℕ) (rows : List Row) (r : Row) (a m : ℕ) → in_cube r a ≡ true → IsMark mask rows a m →
     IsMark mask (rows ++ r ∷ []) a (bit_or m (mask r))
-mark_inside mask rows r a m inside before j small = grind (arith, divides-or, any_more)
+mark_inside mask rows r a m inside before j small = grind (arith, divides-or, any_push)
 
 mark_outside : (mask : Row → ℕ) (rows : List Row) (r : Row) (a m : ℕ) → in_cube r a ≡ false → IsMark mask rows a m →
     IsMark mask (rows ++ r ∷ []) a m
-mark_outside mask rows r a m outside before j small = grind (arith, any_more, or-false)
+mark_outside mask rows r a m outside before j small = grind (arith, any_push, or-false)
 
 pub marks_none : (a : ℕ) → MarksPoint [] a (record { on = 0; off = 0; dc = 0 })
 marks_none a = grind (arith, divides-zero)

@@ -3,7 +3,7 @@ use Rattle.std.proofs.Common.{◌≡◌, ℕ, ◌%◌, ◌<◌, true, List, [], 
 use Rattle.std.proofs.Common.{suc, ◌+◌, ◌^◌, ◌≤◌, Bool, false, not, ◌&&◌, ◌||◌, ◌==◌, cond, length, get_or, take, filter, count_by, ap₂}
 use Rattle.std.proofs.Common.{add-one, ◌≢◌, ◌↔◌, inl, inr}
 use Rattle.std.specs.List.Sorted.{IsStrictlyIncreasing}
-use Rattle.std.proofs.lemmas.List.{reverse-append, take_all}
+use Rattle.std.proofs.lemmas.List.{take_all}
 use Rattle.lattice.specs.Words.{has, value, Family, divides, IsFamily, numbers_below, family_where, combine, union_of, Vanishes, IsGreatest}
 use Rattle.lattice.specs.Words.{Fits, IsStandard, IsLead, standard_of}
 use Rattle.lattice.proofs.Polynomials.{has-nil, has-cons, has_none, has_cases, has-append, ascends-nil, ascends-cons, ascends-append, count}
@@ -11,21 +11,19 @@ use Rattle.lattice.proofs.Polynomials.{count-append, value-count, has_head, has_
 use Rattle.lattice.proofs.Polynomials.{family_where_has, value_cases, divides_le, length_where, family_where-agree, All-has, All-from_has}
 use Rattle.lattice.proofs.Polynomials.{has-combine, standard_more, below_bound, IsFamily-family_where, divides_trans, standard_divisor}
 use Rattle.lattice.proofs.Polynomials.{standard_by_recursion, has-numbers_below, length-standard_of, standard_from_count, divides_self}
+use Rattle.lattice.proofs.Polynomials.{any_either, any_kept, counts_none, reverse_cons}
 use Rattle.std.specs.List.{All, list_any, zip}
 use Rattle.std.proofs.lemmas.Bool.{false≢true, or_cases, and_parts, false_from_ne_true, or_parts, cases_Bool, cases_eq, true_from_ne_false}
 use Rattle.std.proofs.lemmas.Bool.{not-true, not-false, eq-eqb, eqb-true, ltb-true, lt-ltb}
 use Rattle.std.proofs.lemmas.List.Elements.{All-head, All-tail}
 use Rattle.std.proofs.lemmas.List.Folds.{list_any_more, list_any-append, list_any_none}
-use Rattle.std.proofs.lemmas.List.Sums.{length-filter, sum_by-cons, sum_by_more, sum_by_push}
+use Rattle.std.proofs.lemmas.List.Sums.{length-filter, sum_by_more, sum_by_push}
 use Rattle.std.proofs.lemmas.Option.{slice_get-get_or}
 use Rattle.std.proofs.lemmas.Slice.Zip.{length-zip, get_or-zip}
 use Rattle.cert_check.specs.declared.care.Care.{Care}
 use Rattle.cert_check.specs.Marks.{MarksCare, CountsDivisors}
 use Rattle.cert_check.specs.Faults.{misses, is_one_in, is_divided, miscounts}
 use Rattle.std.proofs.lemmas.Grind.{common_steps}
-
-pub reverse_cons : (x : ℕ) (xs : List ℕ) → reverse (x ∷ xs) ≡ reverse xs ++ x ∷ []
-reverse_cons x xs = reverse-append (x ∷ []) xs
 
 pub has-reverse : (xs : List ℕ) (x : ℕ) → has (reverse xs) x ≡ has xs x
 has-reverse [] x = refl
@@ -68,14 +66,6 @@ module _ {X : Type 0} (test : X → Bool) (at : ℕ → Bool) (xs : List X) (d :
   by_points : (size : ℕ) → length xs ≡ size → ((a : ℕ) → a < size → test (get_or xs a d) ≡ at a)
       → (list_any test xs ≡ list_any at (numbers_below size)) × (count_by test xs ≡ count_by at (numbers_below size))
   by_points size is same = rw (take_all size xs (omega arith)) at (by_places size (omega arith) same)
-
-any_kept : (p q : ℕ → Bool) (xs : List ℕ) → list_any p (filter q xs) ≡ list_any (λ x. q x && p x) xs
-any_kept p q [] = refl
-any_kept p q (x ∷ xs) = grind (arith, any_kept p q xs)
-
-any_either : (p q : ℕ → Bool) (xs : List ℕ) → (list_any p xs || list_any q xs) ≡ list_any (λ x. p x || q x) xs
-any_either p q [] = refl
-any_either p q (x ∷ xs) = grind (arith, any_either p q xs)
 
 any_where : (n : ℕ) (test p : ℕ → Bool) → list_any p (family_where n test) ≡ list_any (λ x. test x && p x) (numbers_below (2 ^ n))
 unfolding family_where
@@ -122,10 +112,6 @@ module _ (n : ℕ) (zeros ones : Family) (care : List Care) (marks : MarksCare n
     ones_by_table = search (rules, arith, by_pairs, any_where)
 
 -- ---- what greatest monomials divide
-
-counts_none : (p : ℕ → Bool) (xs : List ℕ) → (count_by p xs == 0) ≡ not (list_any p xs)
-counts_none p [] = refl
-counts_none p (x ∷ xs) = grind (arith, sum_by-cons (λ y. cond (p y) 1 0) x xs, counts_none p xs)
 
 pub any_from : (p : ℕ → Bool) (xs : List ℕ) → list_any p xs ≡ true → (x : ℕ) × (has xs x ≡ true) × (p x ≡ true)
 any_from p [] some = absurd (false≢true some)

@@ -1,18 +1,17 @@
 -- The first check that fails, the verdicts in turn, and that an answer is right exactly where no check of it fails.
 use Rattle.std.proofs.Common.{◌≡◌, ℕ, suc, ◌-◌, ◌<◌, ◌≤◌, Bool, true, false, ltb, List, [], ◌∷◌, ◌++◌, length, get_or, reverse, refl, sym}
-use Rattle.std.proofs.Common.{ap, ◌∙◌, arith, ◌+◌, ◌^◌, take, drop, add-one, map, cond, ◌||◌, subst, ⊎_elim, append_assoc, append-nil, ◌↔◌}
+use Rattle.std.proofs.Common.{ap, ◌∙◌, arith, ◌+◌, ◌^◌, take, drop, map, cond, ◌||◌, subst, ⊎_elim, append_assoc, append-nil, ◌↔◌}
 use Rattle.std.proofs.Common.{zero, Some, slice_get, rules}
 use Rattle.std.specs.List.{slice_get, All, list_any, AllZip}
 use Rattle.std.specs.Option.{option_map_or}
 use Rattle.std.proofs.lemmas.List.{take_more, drop_all, flat_map_more}
-use Rattle.std.proofs.Math.Seq.{drop-cons}
 use Rattle.std.proofs.lemmas.List.Elements.{All-nil, All-head, All-tail, All-append, All-take}
 use Rattle.lattice.specs.Words.{Family, IsFamily, care_zeros, care_ones, care_set, divides, has, union_of, IsGreatest, Vanishes, IsStandard}
 use Rattle.lattice.specs.Words.{IsBasisElement, IsReducedBasis, IsLeast, is_zero, is_one}
 use Rattle.pla_reader.specs.Reading.{Description}
 use Rattle.lattice.proofs.Polynomials.{terms_below as below_all, has_none, has_head, has_cases, has-append, All-has, All-from_has}
 use Rattle.lattice.proofs.Polynomials.{ascends-nil, ascends-cons, ascends_tail, ascends_head, ascends-append, divides_self, has_tail}
-use Rattle.lattice.proofs.Polynomials.{below_bound, IsLeast-standard, IsLeast-from_standard, IsFamily-combine}
+use Rattle.lattice.proofs.Polynomials.{below_bound, IsLeast-standard, IsLeast-from_standard, IsFamily-combine, drop_next, reverse_cons}
 use Rattle.cert_check.specs.declared.refusal.Fault.{Fault}
 use Rattle.cert_check.specs.declared.refusal.Verdict.TheVariants.{Yes, No}
 use Rattle.cert_check.specs.Faults.{Check, first_verdict, misses, is_comparable, is_below_last, greatest_of, element_checks, basis_checks}
@@ -26,7 +25,7 @@ use Rattle.cert_check.specs.Right.{polynomial, IsOutputOver, IsAnswerFor, IsRigh
 use Rattle.std.specs.List.Sorted.{IsStrictlyIncreasing}
 use Rattle.std.proofs.lemmas.Bool.{or_parts, ltb-false, false≢true, le-ltb}
 use Rattle.cert_check.specs.declared.refusal.Verdict.{Verdict}
-use Rattle.cert_check.proofs.Points.{reverse_cons, has-reverse, none_of, any_none, vanishes_iff, fits_iff, standard_in_both, leads_apart}
+use Rattle.cert_check.proofs.Points.{has-reverse, none_of, any_none, vanishes_iff, fits_iff, standard_in_both, leads_apart}
 use Rattle.cert_check.proofs.Points.{undivided_is_standard, counts_right, standard_undivided, tops_are_leads}
 use Rattle.cert_check.proofs.Marked.{points_family}
 use Rattle.cert_check.specs.declared.refusal.Stop.TheVariants as stop
@@ -87,9 +86,6 @@ below_last_of (t ∷ u ∷ others) m last some is =
 -- ==== The verdict on one element, and on elements in turn
 
 -- ---- elements in turn
-
-pub drop_next : {X : Type 0} (xs : List X) (i : ℕ) (x : X) → i < length xs → x ≡ get_or xs i x → drop i xs ≡ x ∷ drop (i + 1) xs
-drop_next xs i x within is = rw (add-one, drop-cons xs i x within, ← is)
 
 pub tops_next : (elements : List Given) (i top : ℕ) (element : Given) (tops new : List ℕ) → i < length elements →
     element ≡ get_or elements i element → tops ≡ greatest_of (take i elements) → take 1 element.terms ≡ top ∷ []

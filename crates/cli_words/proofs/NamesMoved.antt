@@ -5,6 +5,7 @@ use Rattle.std.proofs.Common.{option_map, refl, sym, ◌==◌, false, pos, negsu
 use Rattle.std.specs.Prelude.{if◌then◌else◌, encode_utf8, drop, find, slice_get, is_some}
 use Rattle.std.specs.List.{list_any}
 use Rattle.std.specs.Option.{option_map_or}
+use Rattle.std.proofs.lemmas.List.Folds.{fold_along}
 use Rattle.std.proofs.lemmas.Simd.{map-map}
 use Rattle.clap.specs.Lexer.{long_of, short_of}
 use Rattle.clap.specs.Facts.{explicit_source, parser_of_value, unwrap_or_range}
@@ -27,10 +28,6 @@ use Rattle.clap.specs.Words.{built, fault_of, matches_of}
 use Rattle.cli_words.specs.CommandLine.{IsModeNames, NameList, at_zero, interp_command, interp_command_at, mode_name, modes}
 use Rattle.clap.specs.declared.error.kind.ErrorKind.TheVariants as kind
 use Rattle.clap.specs.declared.builder.value_parser.ValueParser.TheVariants as vp
-
-fold_same : {A B : Type 0} (F G : A → B → A) → ((a : A) (b : B) → F a b ≡ G a b) → (a : A) (bs : List B) → fold F a bs ≡ fold G a bs
-fold_same F G same a [] = refl
-fold_same F G same a (b ∷ bs) = fold_same F G same (F a b) bs ∙ ap (λ x. fold G x bs) (same a b)
 
 module _ (g : Option ValueParser → Option ValueParser)
     (reads : (p : Option ValueParser) → reading_of (parser_of_value (g p)) ≡ reading_of (parser_of_value p))
@@ -163,7 +160,8 @@ module _ (g : Option ValueParser → Option ValueParser)
   walked_same c names w word = walked_from_same c names w.stopped w word
 
   walk_same : (c : List Rule) (names : Names) (h : Held) (words : List Text) → walk (others c) names h words ≡ walk c names h words
-  walk_same c names h words = fold_same (walked (others c) names) (walked c names) (walked_same c names) (walk_from h) words
+  walk_same c names h words = fold_along (walked (others c) names) (walked c names) (λ (v w : Walk). v ≡ w)
+      (λ v w word e. walked_same c names v word ∙ ap (λ u. walked c names u word) e) (walk_from h) (walk_from h) words refl
 
   default_same : (rows : List Row) (a : Rule) → with_default rows (other a) ≡ with_default rows a
   default_same rows a = ap (λ how. if has_row a.id rows then rows else default_rows a.id how a.defaults rows) (reads a.parser)

@@ -8,7 +8,7 @@ use Rattle.lattice.specs.declared.row.Row.{Row}
 use Rattle.lattice.specs.declared.kind.Kind.{Kind}
 use Rattle.lattice.specs.declared.kind.Kind.TheVariants.{F, Fd, Fr, Fdr}
 use Rattle.lattice.proofs.Diagrams.{has-power, covers_append, covers_nil, covers_part, covers_right, Has-append_left, Has-append_right}
-use Rattle.lattice.proofs.Polynomials.{IsFamily-family_where, has-family_where_below, family_where_has, family_where-agree}
+use Rattle.lattice.proofs.Polynomials.{IsFamily-family_where, has-family_where_below, family_where_has, family_where-agree, zip_at}
 use Rattle.cube_build.specs.PointSets.{set_rows, sets_of}
 use Rattle.cube_build.specs.GivenCareSets.{fd_list, fdr_list, outside_list, AreCovers, care_needs, GivesCareSets, IsCover}
 use Rattle.cube_build.specs.GivenCareSets.{GivesCareSetsFrom, MayGiveCareSets}
@@ -98,13 +98,6 @@ abbrev pub none : Handle
 none = record { 0 = 0 }
 
 -- ---- two lists, place by place
-
-zip_at : {X Y : Type 0} (R : X → Y → Type 0) (xs : List X) (ys : List Y) (k : ℕ) (d : X) (e : Y) → AllZip R xs ys → k < length xs
-    → R (get_or xs k d) (get_or ys k e)
-zip_at R [] ys k d e z less = absurd (omega arith)
-zip_at R (x ∷ xs) [] k d e z less = absurd z
-zip_at R (x ∷ xs) (y ∷ ys) zero d e z less = z.0
-zip_at R (x ∷ xs) (y ∷ ys) (suc k) d e z less = zip_at R xs ys k d e z.1 (omega arith)
 
 -- what holds at each place of two lists of one length holds of both
 pub zip_from : {X Y : Type 0} (R : X → Y → Type 0) (xs : List X) (ys : List Y) (d : X) (e : Y) → length xs ≡ length ys

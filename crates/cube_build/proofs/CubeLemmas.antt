@@ -49,9 +49,6 @@ value_present k r within some = grind (arith, eqb-true, bit_at_and, bit_at-lt)
 
 -- ---- the cofactors of a cube
 
-twice : (k : ℕ) → 2 ^ (k + 1) ≡ 2 ^ k + 2 ^ k
-twice k = omega (arith, pow_more 2 k)
-
 eqb-add : (c x y : ℕ) → (c + x == c + y) ≡ (x == y)
 eqb-add c x y = grind (arith, eq-eqb, ne_eqb, cases_eq)
 
@@ -68,12 +65,12 @@ module _ (k : ℕ) (r : Row) where
   in_whole a b = simp (has-family_where_below, rest_and_bit)
 
   in_low : (a : ℕ) → a < 2 ^ k → has whole a ≡ (bit_and a r.care == bit_at r.value k * 2 ^ k + r.value % 2 ^ k)
-  in_low a b = in_whole a (omega (arith, twice k))
+  in_low a b = in_whole a (omega (arith, pow_more 2 k))
 
   in_high : (a : ℕ) → a < 2 ^ k
       → has whole (2 ^ k + a) ≡ (bit_at r.care k * 2 ^ k + bit_and a r.care == bit_at r.value k * 2 ^ k + r.value % 2 ^ k)
   in_high a b =
-      in_whole (2 ^ k + a) (omega (arith, twice k))
+      in_whole (2 ^ k + a) (omega (arith, pow_more 2 k))
       ∙ ap (λ (v : ℕ). v == bit_at r.value k * 2 ^ k + r.value % 2 ^ k) (and_with_bit k a r.care b)
 
   -- a variable that is free or fixed to 0 leaves the rest without it

@@ -1,12 +1,12 @@
 -- The clashes of a description's rows, and that it is consistent where it has none.
-use Rattle.std.proofs.Common.{◌≡◌, ℕ, suc, zero, ◌-◌, ◌^◌, ◌≤◌, ◌↔◌, Bool, true, false, cond, Option, Some, None, IsNone, IfSome, List, []}
-use Rattle.std.proofs.Common.{◌∷◌, refl, arith}
-use Rattle.std.specs.List.{All, Contains, filter}
+use Rattle.std.proofs.Common.{◌≡◌, ℕ, ◌-◌, ◌^◌, ◌≤◌, ◌↔◌, true, false, Option, Some, None, IsNone, IfSome, List}
+use Rattle.std.proofs.Common.{refl, arith}
+use Rattle.std.specs.List.{All, Contains}
 use Rattle.std.proofs.lemmas.List.Elements.{All-filter, All-contains, All-contains_itself, filter_passes}
 use Rattle.lattice.specs.Words.{divides, IsConsistent, rows_with}
 use Rattle.lattice.specs.declared.row.Row.{Row}
 use Rattle.lattice.specs.declared.kind.Kind.{Kind}
-use Rattle.lattice.proofs.Polynomials.{consistent_by_rows}
+use Rattle.lattice.proofs.Polynomials.{consistent_by_rows, contains_filter}
 use Rattle.pla_reader.specs.Description.{has_off, FitsSizes}
 use Rattle.cube_sets.specs.declared.clash.Clash.{Clash}
 use Rattle.cube_sets.specs.Clashes.{IsClashOf, IsAmong, IsClash, IsLeastOf, Answers}
@@ -21,16 +21,6 @@ from_rows_with mask output rows r h = (
   All-contains (Contains rows) _ r (All-filter _ (Contains rows) rows (All-contains_itself rows)) h,
   All-contains (λ r. divides (2 ^ (output - 1)) (mask r) ≡ true) _ r (filter_passes _ rows) h,
 )
-
-contains_filter : {X : Type 0} (test : X → Bool) (xs : List X) (x : X) → Contains xs x → test x ≡ true → Contains (filter test xs) x
-contains_filter test [] x (k, less, is) h = absurd (omega arith)
-contains_filter test (y ∷ xs) x (zero, less, is) h = grind arith
-contains_filter test (y ∷ xs) x (suc k, less, is) h =
-    let rest = contains_filter test xs x (k, omega arith, is) h in
-    elim (test y) as (λ b. Contains (cond b (y ∷ filter test xs) (filter test xs)) x) [
-      | true ↦ (suc rest.0, let l = rest.1 in omega arith, rest.2)
-      | _ ↦ rest
-    ]
 
 to_rows_with : (mask : Row → ℕ) (output : ℕ) (rows : List Row) (r : Row) → Contains rows r → divides (2 ^ (output - 1)) (mask r) ≡ true
     → Contains (rows_with mask output rows) r

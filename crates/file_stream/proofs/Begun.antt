@@ -4,11 +4,11 @@ use Rattle.std.proofs.Common.{true≢false}
 use Rattle.std.specs.Prelude.{◌==◌, ◌||◌}
 use Rattle.std.specs.List.{concat, list_any, onto_first}
 use Rattle.std.proofs.lemmas.Bool.{cases_Bool, or_parts}
-use Rattle.std.proofs.lemmas.List.Folds.{concat-append}
 use Rattle.pla_reader.specs.Lines.{lines_of}
 use Rattle.file_stream.specs.Files.{closes, says, files_from, files_of, IsFirstFile}
 use Rattle.file_stream.specs.Cutters.{has_no_feed, IsBegun}
-use Rattle.file_stream.proofs.Keeping.{any-snoc, or_false}
+use Rattle.std.proofs.Math.Bool.{or-false}
+use Rattle.lattice.proofs.Polynomials.{any_push, concat-line}
 use Rattle.file_stream.proofs.Words.{closes_says, feed_cases, says-nothing}
 
 no_feed-snoc : (l : List ℕ) (b : ℕ) → has_no_feed l ≡ true → (b == 10) ≡ false → has_no_feed (l ++ b ∷ []) ≡ true
@@ -23,9 +23,6 @@ lines-feed (b ∷ l) rest h = let c = feed_cases b l h in rw (c.0) (ap (onto_fir
 lines-last : (b : ℕ) (l : List ℕ) → has_no_feed (b ∷ l) ≡ true → lines_of (b ∷ l) ≡ (b ∷ l) ∷ []
 lines-last b [] h = let c = feed_cases b [] h in rw (c.0) refl
 lines-last b (x ∷ l) h = let c = feed_cases b (x ∷ l) h in rw (c.0) (ap (onto_first b) (lines-last x l c.1))
-
-concat-line : (front : List (List ℕ)) (line : List ℕ) → concat (front ++ line ∷ []) ≡ concat front ++ line
-concat-line front line = concat-append front (line ∷ []) ∙ ap (λ t. concat front ++ t) (append-nil line)
 
 pub begun_empty : IsBegun [] [] []
 begun_empty = record { files = λ rest. refl; unfed = refl; bytes = refl }
@@ -69,11 +66,11 @@ module _ (file : List ℕ) (front : List (List ℕ)) (line : List ℕ) (h : IsBe
 last_file : (front : List (List ℕ)) (line : List ℕ) → has_no_feed line ≡ true → (list_any says front || says line) ≡ true
     → files_from front (lines_of line) ≡ (concat front ++ line) ∷ []
 last_file front [] u some =
-    let said : list_any says front ≡ true = sym (or_false (list_any says front)) ∙ rw says-nothing at some in
+    let said : list_any says front ≡ true = sym (or-false (list_any says front)) ∙ rw says-nothing at some in
     rw said (ap (λ t. t ∷ []) (sym (append-nil (concat front))))
 last_file front (b ∷ l) u some = rw (lines-last b l u) (elim (cases_Bool (closes (b ∷ l))) [
   | inl e ↦ rw e (ap (λ t. t ∷ []) (concat-line front (b ∷ l)))
-  | inr e ↦ rw (e, any-snoc front (b ∷ l), some) (ap (λ t. t ∷ []) (concat-line front (b ∷ l)))
+  | inr e ↦ rw (e, any_push says front (b ∷ l), some) (ap (λ t. t ∷ []) (concat-line front (b ∷ l)))
 ])
 
 no_file : (front : List (List ℕ)) (line : List ℕ) → has_no_feed line ≡ true → (list_any says front || says line) ≡ false
@@ -82,7 +79,7 @@ no_file front [] u none =
     rw (or_parts (list_any says front) (says []) none).0 refl
 no_file front (b ∷ l) u none = rw (lines-last b l u) (elim (cases_Bool (closes (b ∷ l))) [
   | inl e ↦ absurd (true≢false (sym (closes_says (b ∷ l) e) ∙ (or_parts (list_any says front) (says (b ∷ l)) none).1))
-  | inr e ↦ rw (e, any-snoc front (b ∷ l), none) refl
+  | inr e ↦ rw (e, any_push says front (b ∷ l), none) refl
 ])
 
 module _ (file : List ℕ) (front : List (List ℕ)) (line : List ℕ) (h : IsBegun file front line) where

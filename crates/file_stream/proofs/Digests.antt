@@ -1,11 +1,12 @@
 -- A short line stands for a longer one.
-use Rattle.std.proofs.Common.{◌≡◌, ℕ, suc, ◌-◌, Bool, true, false, cond, ltb, List, [], ◌∷◌, ◌++◌, length, take, refl, sym, ap, ◌∙◌}
-use Rattle.std.proofs.Common.{append_assoc, arith, inl, inr, true≢false, lt-ltb, eqb-true}
+use Rattle.std.proofs.Common.{◌≡◌, ℕ, ◌-◌, Bool, true, false, ltb, List, [], ◌∷◌, ◌++◌, length, refl, sym, ap, ◌∙◌}
+use Rattle.std.proofs.Common.{append_assoc, arith, inl, inr, true≢false, eqb-true}
 use Rattle.std.specs.Prelude.{◌&&◌, ◌||◌}
-use Rattle.std.specs.Prelude.{◌==◌, slice_index}
+use Rattle.std.specs.Prelude.{◌==◌}
 use Rattle.std.specs.Io.BufRead.{strip_last}
 use Rattle.std.proofs.lemmas.Bool.{cases_Bool}
 use Rattle.std.proofs.lemmas.Bool.Decides.{nat_tests}
+use Rattle.lattice.proofs.Polynomials.{or_second, or_third, positive, strip_last-append, strip_last-cons, strip_last-cons₂}
 use Rattle.pla_reader.specs.Lines.{before_comment, content, is_blank, words_of}
 use Rattle.file_stream.specs.Files.{closes, says}
 use Rattle.file_stream.specs.Digests.{ends_blank, IsShort, empty, solid, ended, Stands, after_byte, is_settled, is_solid}
@@ -20,25 +21,6 @@ Stands-push short line b h = record {
       ∙ (h.closes_too (b ∷ rest) ∙ sym (ap closes (append_assoc line (b ∷ []) rest)));
   says_too = λ rest. ap says (append_assoc short (b ∷ []) rest) ∙ (h.says_too (b ∷ rest) ∙ sym (ap says (append_assoc line (b ∷ []) rest)));
 }
-
-pub positive : (n : ℕ) → ltb 0 (suc n) ≡ true
-positive n = lt-ltb 0 (suc n) (omega arith)
-
-branch : (t : Bool) (x : ℕ) (a l : List ℕ) → cond t (x ∷ a) (x ∷ l) ≡ x ∷ cond t a l
-branch true x a l = refl
-branch false x a l = refl
-
-pub strip_last-cons₂ : (last x y : ℕ) (ys : List ℕ) → strip_last last (x ∷ y ∷ ys) ≡ x ∷ strip_last last (y ∷ ys)
-strip_last-cons₂ last x y ys =
-    let n = length ys in
-    let e : suc (suc n) - 1 ≡ suc n = omega arith in
-    let f : suc n - 1 ≡ n = omega arith in
-    rw (e, f, positive (suc n), positive n) (branch (slice_index (y ∷ ys) n == last) x (take n (y ∷ ys)) (y ∷ ys))
-
--- a byte that is no such last byte stays in front
-pub strip_last-cons : (last b : ℕ) (xs : List ℕ) → (b == last) ≡ false → strip_last last (b ∷ xs) ≡ b ∷ strip_last last xs
-strip_last-cons last b [] e = rw e refl
-strip_last-cons last b (x ∷ xs) e = strip_last-cons₂ last b x xs
 
 pub blank_facts : (b : ℕ) → is_blank b ≡ true → ((b == 10) ≡ false) × ((b == 13) ≡ false) × ((b == 35) ≡ false)
 blank_facts b e = grind (arith, nat_tests)
@@ -70,12 +52,6 @@ pub same_comment : (r s : List ℕ) → (closes (35 ∷ r) ≡ closes (35 ∷ s)
 same_comment r s = (rw (content-comment r, content-comment s) refl, rw (content-comment r, content-comment s) refl)
 
 -- ---- a word and a blank
-
-pub strip_last-append : (last : ℕ) (w : List ℕ) (c : ℕ) (rest : List ℕ) → strip_last last (w ++ c ∷ rest) ≡ w ++ strip_last last (c ∷ rest)
-strip_last-append last [] c rest = refl
-strip_last-append last (x ∷ []) c rest = strip_last-cons₂ last x c rest
-strip_last-append last (x ∷ y ∷ w) c rest = strip_last-cons₂ last x y (w ++ c ∷ rest)
-    ∙ ap (λ l. x ∷ l) (strip_last-append last (y ∷ w) c rest)
 
 pub solid_cases : (b : ℕ) (bs : List ℕ) → is_solid (b ∷ bs) ≡ true → (is_blank b ≡ false) × (is_solid bs ≡ true)
 solid_cases b bs h = elim (cases_Bool (is_blank b)) [
@@ -186,13 +162,6 @@ Stands-same short line b same h = record {
   closes_too = λ rest. (same rest (b ∷ rest)).0 ∙ (h.closes_too (b ∷ rest) ∙ sym (ap closes (append_assoc line (b ∷ []) rest)));
   says_too = λ rest. (same rest (b ∷ rest)).1 ∙ (h.says_too (b ∷ rest) ∙ sym (ap says (append_assoc line (b ∷ []) rest)));
 }
-
--- the one or the other test of three settles it
-pub or_second : (p q r : Bool) → q ≡ true → (p || q || r) ≡ true
-or_second p q r h = grind (arith, cases_Bool, h)
-
-pub or_third : (p q r : Bool) → r ≡ true → (p || q || r) ≡ true
-or_third p q r h = grind (arith, cases_Bool, h)
 
 pub after_settled : (x : ℕ) (w : List ℕ) (b : ℕ) → is_settled (x ∷ w) ≡ true → after_byte (x ∷ w) b ≡ x ∷ w
 after_settled x w b e = rw e refl

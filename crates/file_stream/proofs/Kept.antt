@@ -5,7 +5,8 @@ use Rattle.std.specs.Prelude.{◌==◌}
 use Rattle.std.proofs.lemmas.List.{take_more_set}
 use Rattle.pla_reader.specs.Lines.{is_blank}
 use Rattle.file_stream.specs.Digests.{after_byte, is_settled, ends_blank}
-use Rattle.file_stream.proofs.Digests.{after_open, after_settled, or_second, or_third}
+use Rattle.file_stream.proofs.Digests.{after_open, after_settled}
+use Rattle.lattice.proofs.Polynomials.{or_second, or_third}
 
 last_at : (kept : List ℕ) (n : ℕ) → n < length kept → ends_blank (take (suc n) kept) ≡ is_blank (get_or kept n 0)
 last_at [] n lt = absurd (omega arith)

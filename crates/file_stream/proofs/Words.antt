@@ -10,9 +10,8 @@ use Rattle.pla_reader.specs.Lines.{before_comment, content, is_blank, words_of}
 use Rattle.file_stream.specs.Files.{closes, says}
 use Rattle.file_stream.specs.Digests.{is_solid, at_most_one, begins_comment, IsShort, empty, solid, ended}
 use Rattle.file_stream.specs.Cutters.{has_no_feed}
-use Rattle.file_stream.proofs.Digests.{solid_passes, strip_last-cons₂, strip_last-cons, strip_last-append, solid_cases, content-comment}
-use Rattle.file_stream.proofs.Digests.{content-word}
-use Rattle.file_stream.proofs.Digests.{words-word, positive, blank_facts}
+use Rattle.lattice.proofs.Polynomials.{positive, strip_last-append, strip_last-cons, strip_last-cons₂, strip_one}
+use Rattle.file_stream.proofs.Digests.{solid_passes, solid_cases, content-comment, content-word, words-word, blank_facts}
 
 -- ---- a line without a blank
 
@@ -35,9 +34,6 @@ strip-solid : (last : ℕ) (w : List ℕ) → is_blank last ≡ true → is_soli
 strip-solid last [] e h = refl
 strip-solid last (b ∷ w) e h =
     let s = solid_cases b w h in strip_last-cons last b w (no_blank b last s.0 e) ∙ ap (λ t. b ∷ t) (strip-solid last w e s.1)
-
-strip_one : (last b : ℕ) → (b == last) ≡ true → strip_last last (b ∷ []) ≡ []
-strip_one last b e = rw e refl
 
 solid-strip : (w : List ℕ) → is_solid w ≡ true → is_solid (strip_last 13 w) ≡ true
 solid-strip [] h = refl

@@ -1,12 +1,13 @@
 -- All jobs have answers, and each stands at its number.
 use Rattle.std.proofs.Common.{◌≡◌, ◌≢◌, ◌∙◌, ℕ, ◌+◌, ◌<◌, ◌≤◌, ◌⊎◌, inl, inr, Ok, List, [], ◌∷◌, ◌++◌, length, slice_index_or, slice_set}
-use Rattle.std.proofs.Common.{zero, suc, sym, ap, refl, arith}
+use Rattle.std.proofs.Common.{sym, ap, refl, arith}
 use Rattle.std.specs.Prelude.{◌==◌, cond}
 use Rattle.std.specs.List.{All, Contains}
 use Rattle.std.proofs.lemmas.Bool.Decides.{nat_tests}
 use Rattle.std.proofs.lemmas.List.{get_or-set_same, get_or-set_other, length-set}
 use Rattle.std.proofs.lemmas.List.Elements.{All-weaker, All-contains, All-contains_itself, Contains-append_right}
 use Rattle.std.proofs.lemmas.List.Sums.{sum_by-cons}
+use Rattle.lattice.proofs.Polynomials.{contains_cases}
 use Rattle.job_counter.specs.Rule.{times, once_below}
 use Rattle.node_store.specs.Stores.{State, Denotes}
 use Rattle.node_store.specs.declared.store.Handle.{Handle}
@@ -21,11 +22,6 @@ use Rattle.fork_branches.specs.declared.crew.Answer.{Answer}
 times-cons : (x y : ℕ) (ys : List ℕ) → ((y ≡ x) × (times x (y ∷ ys) ≡ times x ys + 1)) ⊎ (times x (y ∷ ys) ≡ times x ys)
 times-cons x y ys = grind (arith, nat_tests, sum_by-cons (λ (n : ℕ). cond (n == x) 1 0) y ys)
 
--- a number that is there is this one or in the rest
-cons_cases : {X : Type 0} (y : X) (ys : List X) (x : X) → Contains (y ∷ ys) x → (y ≡ x) ⊎ Contains ys x
-cons_cases y ys x (zero, less, is) = inl is
-cons_cases y ys x (suc k, less, is) = inr (k, omega arith, is)
-
 drawn_some : (x : ℕ) (ys : List ℕ) → 1 ≤ times x ys → Contains ys x
 drawn_some x [] some = absurd (omega (arith, some))
 drawn_some x (y ∷ ys) some = elim (times-cons x y ys) [
@@ -35,7 +31,7 @@ drawn_some x (y ∷ ys) some = elim (times-cons x y ys) [
 
 some_drawn : (x : ℕ) (ys : List ℕ) → Contains ys x → 1 ≤ times x ys
 some_drawn x [] i = absurd (omega (arith, i.1))
-some_drawn x (y ∷ ys) i = elim (cons_cases y ys x i) [
+some_drawn x (y ∷ ys) i = elim (contains_cases x y ys i) [
   | inl e ↦ grind (arith, nat_tests, sum_by-cons (λ (n : ℕ). cond (n == x) 1 0) y ys)
   | inr j ↦ grind (arith, times-cons x y ys, some_drawn x ys j)
 ]
@@ -70,7 +66,7 @@ placed_right P (a ∷ answers) handles x d less each known =
       | inl e ↦ inl (rw (e, get_or-set_same handles a.number a.handle d (rw e at less)) here)
       | inr ne ↦ elim known [
         | inl p ↦ inl (rw (get_or-set_other handles a.number x a.handle d ne) p)
-        | inr is ↦ elim (cons_cases a answers is.0 is.1) [
+        | inr is ↦ elim (contains_cases is.0 a answers is.1) [
           | inl j ↦ absurd (ne (sym (ap (λ (b : Answer). b.number) j ∙ is.2)))
           | inr j ↦ inr (is.0, j, is.2)
         ]

@@ -11,7 +11,8 @@ use Rattle.interp_lex.specs.Parts.{common_of, upper_list, lower_of, lower_list}
 -- ---- the points of a step over more variables
 
 module _ (d n : ℕ) (le : d ≤ n) where
-  narrow : (k : Bool → Bool → Bool) (f g : Family) → k false false ≡ false → IsFamily d f → IsFamily d g → combine k n f g ≡ combine k d f g
+  abbrev narrow : (k : Bool → Bool → Bool) (f g : Family) → k false false ≡ false → IsFamily d f → IsFamily d g
+      → combine k n f g ≡ combine k d f g
   narrow k f g e ff fg = combine-narrow k e d n f g ff fg le
 
   module _ (Z O : Family) where

@@ -1,11 +1,8 @@
 -- What the lists of one step of the recursion are, in the words of the laws of least polynomials.
-use Rattle.std.proofs.Common.{◌≡◌, ◌≢◌, ℕ, ◌+◌, ◌-◌, ◌*◌, ◌%◌, ◌^◌, ◌<◌, Bool, true, false, ◌&&◌, ◌==◌, List, [], map, filter, length, All}
-use Rattle.std.proofs.Common.{ltb, leb, lt-ltb, ltb-true, ap, arith, mod-eq_of_lt}
+use Rattle.std.proofs.Common.{◌≡◌, ℕ, ◌+◌, ◌-◌, ◌^◌, ◌<◌, ◌&&◌, List, map, filter, All}
+use Rattle.std.proofs.Common.{ltb, leb, lt-ltb, ltb-true, arith}
 use Rattle.std.proofs.lemmas.Bool.{and_parts}
-use Rattle.std.proofs.lemmas.Bool.Decides.{nat_tests}
 use Rattle.std.proofs.lemmas.Grind.{pow_more}
-use Rattle.std.proofs.lemmas.List.{nil_from_length}
-use Rattle.std.proofs.Math.Pow.{pow-lt}
 use Rattle.lattice.specs.Words.{has}
 use Rattle.lattice.proofs.Polynomials.{has-filter, has_lowered, All-has, IsCut}
 
@@ -22,14 +19,3 @@ is_cut k bit points low high e below l h =
       high_is = λ a b. high_has a;
       high_below = λ a i. let less : 2 ^ k + a < 2 ^ (k + 1) = most (2 ^ k + a) below (rw high_has at i) in omega (arith, pow_more 2 k);
     }
-
--- what `1 << k` computes
-pub bit_is : (k : ℕ) → k < 64 → 1 * 2 ^ k % 2 ^ 64 ≡ 2 ^ k
-bit_is k l = let one : 1 * 2 ^ k ≡ 2 ^ k = omega arith in rw one (mod-eq_of_lt (pow-lt l))
-
--- what `is_empty` answers
-pub empty_from_test : (xs : List ℕ) (r : Bool) → r ≡ (length xs == 0) → r ≡ true → xs ≡ []
-empty_from_test xs r e f = nil_from_length xs (grind (arith, nat_tests))
-
-pub nonempty_from_test : (xs : List ℕ) (r : Bool) → r ≡ (length xs == 0) → r ≡ false → xs ≢ []
-nonempty_from_test xs r e f z = let none = ap length z in grind (arith, nat_tests)

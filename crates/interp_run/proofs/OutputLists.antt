@@ -3,7 +3,8 @@ use Rattle.std.proofs.Common.{◌≡◌, ℕ, zero, suc, ◌+◌, ◌<◌, ◌�
 use Rattle.std.specs.List.{All, AllZip, Contains}
 use Rattle.std.proofs.lemmas.List.{get_or-append_right, get_or-map, get_or_append_left, length-map, map-append}
 use Rattle.lattice.specs.Words.{numbers_below, output_numbers}
-use Rattle.lattice.proofs.Polynomials.{length-numbers_below}
+use Rattle.std.proofs.lemmas.Slice.Zip.{AllZip-long}
+use Rattle.lattice.proofs.Polynomials.{length-numbers_below, zip_at}
 
 -- ---- the numbers of the outputs
 
@@ -47,33 +48,9 @@ output_numbers_more n = let e : n + 1 ≡ suc n = omega arith in ap output_numbe
 pub outputs_more : {X : Type 0} (f : ℕ → X) (n : ℕ) → map f (output_numbers (n + 1)) ≡ map f (output_numbers n) ++ f (n + 1) ∷ []
 outputs_more f n = ap (map f) (output_numbers_more n) ∙ map-append f (output_numbers n) ((n + 1) ∷ [])
 
--- ---- two lists, place by place
-
-module _ {X Y : Type 0} (R : X → Y → Type 0) where
-  -- what holds of no elements, and of one more pair where it holds of the rest, holds of all
-  pub zip_fold : (Q : List X → List Y → Type 0) → Q [] []
-      → ((x : X) (xs : List X) (y : Y) (ys : List Y) → R x y → Q xs ys → Q (x ∷ xs) (y ∷ ys)) → (xs : List X) (ys : List Y)
-      → AllZip R xs ys → Q xs ys
-  zip_fold Q start more [] [] z = start
-  zip_fold Q start more (x ∷ xs) (y ∷ ys) z = more x xs y ys z.0 (zip_fold Q start more xs ys z.1)
-  zip_fold Q start more [] (y ∷ ys) z = absurd z
-  zip_fold Q start more (x ∷ xs) [] z = absurd z
-
-  pub zip_more : (xs : List X) (ys : List Y) (x : X) (y : Y) → AllZip R xs ys → R x y → AllZip R (xs ++ x ∷ []) (ys ++ y ∷ [])
-  zip_more xs ys x y z one = zip_fold (λ ls ms. AllZip R (ls ++ x ∷ []) (ms ++ y ∷ [])) (one, tt) (λ a ls b ms r rest. (r, rest)) xs ys z
-
-  pub zip_weaker : (S : X → Y → Type 0) → ((x : X) (y : Y) → R x y → S x y) → (xs : List X) (ys : List Y) → AllZip R xs ys → AllZip S xs ys
-  zip_weaker S f = zip_fold (AllZip S) tt (λ x xs y ys r rest. (f x y r, rest))
-
-  -- what holds at a place
-  zip_at : (xs : List X) (ys : List Y) (k : ℕ) (d : X) (e : Y) → AllZip R xs ys → k < length ys → R (get_or xs k d) (get_or ys k e)
-  zip_at [] [] k d e z less = absurd (omega arith)
-  zip_at (x ∷ xs) (y ∷ ys) zero d e z less = z.0
-  zip_at (x ∷ xs) (y ∷ ys) (suc k) d e z less = zip_at xs ys k d e z.1 (omega arith)
-  zip_at [] (y ∷ ys) k d e z less = absurd z
-  zip_at (x ∷ xs) [] k d e z less = absurd z
-
+-- what holds of each pair with an output holds at its place
 pub zip_output : {X : Type 0} (R : X → ℕ → Type 0) (xs : List X) (n k : ℕ) (d : X) → AllZip R xs (output_numbers n) → k < n
     → R (get_or xs k d) (k + 1)
 zip_output R xs n k d z less =
-    subst (R (get_or xs k d)) (number_at n k 0 less) (zip_at R xs (output_numbers n) k d 0 z (omega (arith, length-output_numbers n)))
+    let long = AllZip-long R xs (output_numbers n) z in
+    subst (R (get_or xs k d)) (number_at n k 0 less) (zip_at R xs (output_numbers n) k d 0 z (omega (arith, long, length-output_numbers n)))

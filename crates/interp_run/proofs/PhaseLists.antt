@@ -12,7 +12,8 @@ use Rattle.lattice.specs.Words.{first_phase, is_basis, output_basis_list, output
 use Rattle.lattice.specs.declared.kind.Mode.{Mode}
 use Rattle.lattice.proofs.Diagrams.{Has-append_cases, Has-append_left, Has-append_right, Has-head, Has-tail, covers_append, covers_left}
 use Rattle.lattice.proofs.Diagrams.{covers_more, covers_nothing, covers_part, covers_right}
-use Rattle.lattice.proofs.Polynomials.{All-from_has, leads_are_minimal}
+use Rattle.std.proofs.lemmas.Slice.Zip.{all_zipped_more}
+use Rattle.lattice.proofs.Polynomials.{All-from_has, leads_are_minimal, zip_weaker}
 use Rattle.node_store.specs.Stores.{Denotes, State, Grows}
 use Rattle.pla_reader.specs.Reading.{Description}
 use Rattle.cube_build.specs.GivenCareSets.{GivesCareSets}
@@ -24,7 +25,7 @@ use Rattle.interp_run.specs.declared.phases.First.{First}
 use Rattle.interp_run.specs.declared.tasks.Task.{Task}
 use Rattle.interp_run.specs.declared.tasks.Part.{Part}
 use Rattle.interp_run.specs.declared.tasks.Part.TheVariants.{Element, Leads, Polynomial}
-use Rattle.interp_run.proofs.OutputLists.{all_outputs, output_at, output_numbers_more, zip_more, zip_weaker}
+use Rattle.interp_run.proofs.OutputLists.{all_outputs, output_at, output_numbers_more}
 use Rattle.interp_run.proofs.Written.{handles_later}
 
 -- ---- lists of lists
@@ -191,7 +192,7 @@ module _ (d : Description) where
       → GivesCareSets s t (Ok p) d.inputs d.kind d.rows (count + 1) → more ≡ cares ++ p ∷ [] → CaresDone t d (count + 1) more
   cares_more s t count cares more p before gives items = record {
     each = rw (items, output_numbers_more count)
-        (zip_more (IsCare t) cares (output_numbers count) p (count + 1) (cares_later s t count cares gives.grows before.each)
+        (all_zipped_more (IsCare t) cares (output_numbers count) p (count + 1) (cares_later s t count cares gives.grows before.each)
         (gives.zeros, gives.ones));
     held = rw (output_numbers_more count, all_of_end (care_list d.inputs d.kind d.rows) (output_numbers count) (count + 1))
         (covers_append d.inputs t.held (cares_list d count) (care_list d.inputs d.kind d.rows (count + 1))

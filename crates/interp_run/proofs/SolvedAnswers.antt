@@ -9,11 +9,11 @@ use Rattle.std.proofs.lemmas.List.Concat.{length-flat_map}
 use Rattle.std.proofs.lemmas.List.Folds.{fold-map}
 use Rattle.std.proofs.lemmas.List.Sums.{sum_by-append, sum_by-cons}
 use Rattle.std.proofs.lemmas.Option.{get_or_from_slice_get, slice_get_within}
-use Rattle.lattice.specs.Words.{Family, IsFamily, Covers, reduced_basis_of, IsConsistent, points_where, is_basis, first_phase, second_phase}
+use Rattle.lattice.specs.Words.{Family, Covers, reduced_basis_of, IsConsistent, points_where, is_basis, first_phase, second_phase}
 use Rattle.lattice.specs.Words.{output_numbers, working_set}
 use Rattle.lattice.specs.declared.kind.Mode.{Mode}
 use Rattle.lattice.proofs.Diagrams.{covered_length, covers_left}
-use Rattle.lattice.proofs.Polynomials.{IsFamily-family_where, IsFamily-combine, IsLeast-interpolate, reduced_basis_exists}
+use Rattle.lattice.proofs.Polynomials.{IsFamily-care_set, IsFamily-family_where, IsLeast-interpolate, reduced_basis_exists}
 use Rattle.lattice.proofs.Polynomials.{care_points_disjoint}
 use Rattle.node_store.specs.Stores.{State, family}
 use Rattle.node_store.specs.declared.store.Handle.{Handle}
@@ -34,9 +34,6 @@ use Rattle.interp_run.proofs.OutputLists.{length-output_numbers, output_at}
 
 -- ---- the answers
 
-pub points_family : (d : Description) (output : ℕ) → IsFamily d.inputs (points_in d output)
-points_family d output = IsFamily-combine _ d.inputs (zeros_in d output) (ones_in d output)
-
 pub answers_are : (d : Description) (mode : Mode) → IsConsistent d.inputs d.outputs d.rows → AreAnswers d mode (answers_for d mode)
 unfolding points_where reduced_basis_of
 answers_are d mode ok = record {
@@ -51,7 +48,7 @@ answers_are d mode ok = record {
         least = IsLeast-interpolate d.inputs (zeros_in d (k + 1)) (ones_in d (k + 1)) (IsFamily-family_where d.inputs _).below
             (IsFamily-family_where d.inputs _).below
             (care_points_disjoint d.inputs d.outputs d.kind d.rows (k + 1) ok (omega arith) (omega arith));
-        basis = λ e. rw e (reduced_basis_exists d.inputs (points_in d (k + 1)) (points_family d (k + 1)));
+        basis = λ e. rw e (reduced_basis_exists d.inputs (points_in d (k + 1)) (IsFamily-care_set d.inputs d.kind d.rows (k + 1)));
         bare = λ e. rw e refl;
       });
 }

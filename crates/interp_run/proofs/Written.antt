@@ -18,7 +18,7 @@ use Rattle.lattice.specs.Words.{Family, IsFamily, family_where, has, numbers_bel
 use Rattle.lattice.specs.Words.{is_basis}
 use Rattle.lattice.specs.declared.kind.Mode.{Mode}
 use Rattle.lattice.specs.declared.row.Row.{Row}
-use Rattle.lattice.proofs.Polynomials.{length-numbers_below}
+use Rattle.lattice.proofs.Polynomials.{length-numbers_below, zip_fold}
 use Rattle.node_store.specs.Stores.{Denotes, State, family, Grows}
 use Rattle.node_store.proofs.StoreLaws.{Denotes-family, Grows-family}
 use Rattle.node_store.specs.declared.store.Handle.{Handle}
@@ -31,7 +31,6 @@ use Rattle.watch.specs.declared.note.Note.{Note}
 use Rattle.run_parts.proofs.FoundTerms.{All_known-later, families_later, length-later, terms_of-later}
 use Rattle.interp_run.specs.Answers.{AreAnswers, IsAnswerOf, notes_from, summary_line, texts}
 use Rattle.interp_run.specs.Phases.{AreHandles, KnowsOutput, OutputHandles, answer_in, second_terms, terms_of}
-use Rattle.interp_run.proofs.OutputLists.{zip_fold}
 
 -- ==== sums of terms over the outputs so far, and what a store knows of them later
 

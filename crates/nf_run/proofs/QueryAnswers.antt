@@ -11,7 +11,7 @@ use Rattle.std.proofs.lemmas.Slice.Zip.{all_zipped_more}
 use borrow.Author.Count.{below_more}
 use Rattle.lattice.specs.Words.{Covers, Family, IsFamily, working_set, care_ones, care_zeros}
 use Rattle.lattice.proofs.Diagrams.{Has-append_left, Has-append_right, covers_append, covers_left, covers_nil, covers_part, covers_right}
-use Rattle.lattice.proofs.Polynomials.{IsFamily-combine, terms_below}
+use Rattle.lattice.proofs.Polynomials.{IsFamily-combine, terms_below, zip_fold, zip_weaker}
 use Rattle.run_parts.specs.Found.{terms_of}
 use Rattle.run_parts.proofs.FoundTerms.{fits}
 use Rattle.nf_run.proofs.LeastValues.{reduced_is, reduced_once}
@@ -27,22 +27,13 @@ use Rattle.nf_run.specs.Queries.{IsQueryOver}
 use Rattle.nf_run.specs.Reduced.{reduced, reduced_list, sum_of_terms}
 use Rattle.nf_run.specs.declared.queries.Query.{Query}
 
--- what holds of two lists whose elements stand side by side in R, from what each pair adds
-zipped : {X Y : Type 0} {R : X → Y → Type 0} (P : List X → List Y → Type 0) → P [] []
-    → ((x : X) (y : Y) (xs : List X) (ys : List Y) → R x y → P xs ys → P (x ∷ xs) (y ∷ ys)) → (xs : List X) (ys : List Y)
-    → AllZip R xs ys → P xs ys
-zipped P none more [] [] z = none
-zipped P none more [] (y ∷ ys) z = absurd z
-zipped P none more (x ∷ xs) [] z = absurd z
-zipped P none more (x ∷ xs) (y ∷ ys) z = more x y xs ys z.0 (zipped P none more xs ys z.1)
-
 pub zip_all : {X Y : Type 0} (R : X → Y → Type 0) (P : Y → Type 0) → ((x : X) (y : Y) → R x y → P y) → (xs : List X) (ys : List Y)
     → AllZip R xs ys → All P ys
-zip_all R P each = zipped (λ _. All P) (All-nil P) (λ x y xs ys r p. All-cons P y ys (each x y r) p)
+zip_all R P each = zip_fold R (λ _. All P) (All-nil P) (λ x xs y ys r p. All-cons P y ys (each x y r) p)
 
 zip_map : {X Y Z : Type 0} {R : X → Y → Type 0} (f : X → Z) (g : Y → Z) → ((x : X) (y : Y) → R x y → g y ≡ f x)
     → (xs : List X) (ys : List Y) → AllZip R xs ys → map g ys ≡ map f xs
-zip_map f g same = zipped (λ xs ys. map g ys ≡ map f xs) refl (λ x y xs ys r p. cc (same x y r))
+zip_map {R = R} f g same = zip_fold R (λ xs ys. map g ys ≡ map f xs) refl (λ x xs y ys r p. cc (same x y r))
 
 zip_from : {X Y Z : Type 0} (R : X → Y → Type 0) (f : X → Z) (g : Y → Z) → ((x : X) (y : Y) → g y ≡ f x → R x y)
     → (xs : List X) (ys : List Y) → map g ys ≡ map f xs → AllZip R xs ys
@@ -144,7 +135,7 @@ module _ (d : Description) (queries : List Query) where
           grows = Grows-trans s t u so_far.grows gives.grows;
           are = record {
             each = rw (next, items) (all_zipped_more (λ r k. Denotes u k (answer_to d r)) (take i queries) answers q h
-                (zipped (AllZip (λ r k. Denotes u k (answer_to d r))) tt (λ r k rs ks h so. (gives.grows.known k.0 _ h, so))
+                (zip_weaker (λ r k. Denotes t k (answer_to d r)) (λ r k. Denotes u k (answer_to d r)) (λ r k h. gives.grows.known k.0 _ h)
                 (take i queries) answers so_far.are.each) (rw (t_vars, points_are) at gives.ok));
             held = rw (next, sym (flat_map_more (query_list d) [] (take i queries) q))
                 (covers_append d.inputs u.held (queries_list d (take i queries)) (query_list d q)

@@ -2,7 +2,7 @@
 use Rattle.std.proofs.Common.{◌≡◌, ℕ, ◌+◌, ◌<◌, ◌≤◌, Bool, true, false, ◌||◌, cond, List, [], ◌∷◌, ◌++◌, length, map, get_or, drop, take}
 use Rattle.std.proofs.Common.{codes, All, Option, Some, None, refl, ap, ◌∙◌, arith, filter}
 use Rattle.std.specs.Prelude.{IfSome, unwrap_or}
-use Rattle.std.specs.Option.{is_some, option_map, option_and_then, option_zip, option_or}
+use Rattle.std.specs.Option.{is_some, option_map, option_zip, option_or}
 use Rattle.std.specs.List.{list_all, list_any, find, enumerate_from}
 use Rattle.std.specs.Str.{bytes_eq}
 use Rattle.std.specs.List.Sorted.{IsStrictlyIncreasing}
@@ -25,7 +25,8 @@ use Rattle.pla_reader.specs.Grammar.{begins_command, arguments_of, number_in, ki
 use Rattle.pla_reader.specs.Grammar.{sizes_given, symbols, size_fault, kind_fault, names_fault, row_fault, command_fault, fault_of}
 use Rattle.pla_reader.specs.Reading.{row_of, rows_of}
 use Rattle.pla_reader.specs.Draft.{Said, LinesSay, WereGiven, FitTogether, WereRead, IsCommandLine}
-use Rattle.pla_reader.proofs.Fitting.{row_fits, ascend_push}
+use Rattle.pla_reader.proofs.Fitting.{row_fits}
+use Rattle.lattice.proofs.Polynomials.{ascend_push, enumerate_from-append, is_some_given, map_or, or_none, value_given}
 use Rattle.pla_reader.specs.Parts.{BeginsWithWord}
 use Rattle.lattice.specs.declared.limits.TheConstants.{MAX_VARS}
 
@@ -70,20 +71,6 @@ no_names names size other none h = grind arith
 
 -- ---- what lines gave, with one more line at their end
 
-is_some_given : {A B : Type 0} (read : A → Option B) (o : Option A) (p : Option B) → option_map read o ≡ option_map Some p
-    → is_some o ≡ is_some p
-is_some_given read o p e = grind arith
-
-pub value_given : {A B : Type 0} (read : A → Option B) (o : Option A) (p : Option B) → option_map read o ≡ option_map Some p
-    → option_and_then read o ≡ p
-value_given read o p e = grind arith
-
-or_none : {A : Type 0} (o : Option A) → option_or o None ≡ o
-or_none o = grind arith
-
-map_or : {A B : Type 0} (f : A → B) (a b : Option A) → option_map f (option_or a b) ≡ option_or (option_map f a) (option_map f b)
-map_or f a b = grind arith
-
 abbrev begins : (command : List ℕ) → (words : List (List ℕ)) → Bool
 begins command words = list_any (λ word. bytes_eq word command) (take 1 words)
 
@@ -91,11 +78,6 @@ pushed : (command : List ℕ) (lines : List (List ℕ)) (line : List ℕ) → ar
     ≡ option_or (arguments_of command lines) (option_map (drop 1) (find (begins command) (words_of line ∷ [])))
 unfolding arguments_of
 pushed command lines line = simp (map-append, find-append, map_or)
-
-enumerate_from-append : {X : Type 0} (n : ℕ) (xs ys : List X)
-    → enumerate_from n (xs ++ ys) ≡ enumerate_from n xs ++ enumerate_from (n + length xs) ys
-enumerate_from-append n [] ys = ap (λ k. enumerate_from k ys) (omega arith)
-enumerate_from-append n (x ∷ xs) ys = grind (arith, enumerate_from-append (n + 1) xs ys)
 
 counted : (n : ℕ) (lines : List (List ℕ)) → length (filter (λ p. is_row p.1) (enumerate_from n lines)) ≡ length (filter is_row lines)
 counted n [] = refl

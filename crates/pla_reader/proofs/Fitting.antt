@@ -1,9 +1,7 @@
 -- A row fits the sizes and the type, and the numbers of its line ascend.
-use Rattle.std.proofs.Common.{◌≡◌, ℕ, ◌+◌, ◌*◌, ◌<◌, Bool, true, false, cond, bit_and, List, [], ◌∷◌, ◌++◌, length, codes, ◌&&◌, take, drop}
-use Rattle.std.proofs.Common.{All, refl, arith}
-use Rattle.std.specs.List.Sorted.{IsStrictlyIncreasing}
+use Rattle.std.proofs.Common.{◌≡◌, ℕ, ◌+◌, ◌*◌, Bool, true, false, cond, bit_and, List, [], ◌∷◌, length, codes, ◌&&◌, take, drop}
+use Rattle.std.proofs.Common.{refl, arith}
 use Rattle.std.proofs.lemmas.Nat.{and_block}
-use Rattle.std.proofs.lemmas.Grind.{common_steps}
 use Rattle.std.specs.Int.Bits.{and_step}
 use Rattle.std.proofs.lemmas.List.{length-take-le, length-drop}
 use Rattle.lattice.specs.Words.{divides}
@@ -53,6 +51,3 @@ row_fits inputs outputs kind number line len =
     grind (arith, input_mask-lt, output_mask-lt)
 
 -- ---- the numbers of the lines
-
-pub ascend_push : (xs : List ℕ) (x : ℕ) → IsStrictlyIncreasing xs → All (λ y. y < x) xs → IsStrictlyIncreasing (xs ++ x ∷ [])
-ascend_push xs x ascends below = grind (arith, common_steps)

@@ -1,10 +1,10 @@
 -- Orders of the inputs, arranged descriptions and the printed names.
 use Rattle.std.proofs.Common.{◌≡◌, ◌≢◌, ℕ, ◌+◌, ◌++◌, true, List, [], ◌∷◌, length, refl, ap, ◌∙◌, arith, add-one, rules, ◌-◌, ◌*◌, ◌^◌, ◌%◌}
-use Rattle.std.proofs.Common.{◌<◌, ◌≤◌, get_or, take, zero, suc, Bool, bytes_eq, map, All, sym, ap₂, bit_and, ◌↔◌, false, true≢false, eqb}
+use Rattle.std.proofs.Common.{◌<◌, ◌≤◌, get_or, take, zero, suc, Bool, bytes_eq, map, All, sym, bit_and, ◌↔◌, false, true≢false, eqb}
 use Rattle.std.proofs.Common.{leb, ◌&&◌, drop, codes, Some}
-use Rattle.std.proofs.lemmas.Bool.{cases_Bool, cases_eq, eq-eqb, false_from_ne_true}
+use Rattle.std.proofs.lemmas.Bool.{cases_Bool, eq-eqb, false_from_ne_true}
 use Rattle.std.proofs.lemmas.List.{length-map, map-append, take_more, get_or-map, get_or_push, get_or_append_left, take_all, get_or-take}
-use Rattle.std.proofs.lemmas.List.{get_or_default, length_push, length-take-le}
+use Rattle.std.proofs.lemmas.List.{length-take-le}
 use Rattle.std.specs.Prelude.{decimal, slice_get}
 use Rattle.std.proofs.lemmas.Grind.{common_steps}
 use Rattle.lattice.specs.Words.{numbers_below, divides, has, is_distinct}
@@ -29,7 +29,7 @@ use Rattle.std.proofs.lemmas.Slice.Eq.{bytes_eq-Decides}
 use Rattle.pla_reader.specs.declared.pla.Pla.{Pla}
 use Rattle.pla_reader.proofs.Fitting.{cond_bit, mask_within}
 use Rattle.std.proofs.lemmas.Bool.Decides.{nat_tests, Decides-eqb}
-use Rattle.std.proofs.lemmas.List.Folds.{Any-from_list_any, list_all_at, list_any_at}
+use Rattle.std.proofs.lemmas.List.Folds.{Any-from_list_any, list_all_at, list_any_at, map_fixed}
 use Rattle.lattice.specs.declared.kind.Kind.{Kind}
 use Rattle.lattice.specs.declared.row.Row.{Row}
 use Rattle.std.specs.Fmt.{digits}
@@ -159,10 +159,6 @@ mask_by_file n mask below =
     let bits = arranged_mask_bit n (file_order n) mask (n - 1 - j) in let position = get_or-file_order n (n - 1 - j) 0 in
     let back : n - 1 - (n - 1 - j) ≡ j = omega arith in let there : n - (n - 1 - j + 1) ≡ j = omega arith in grind arith)
 
-pub same_each : {X : Type 0} (f : X → X) (xs : List X) → All (λ x. f x ≡ x) xs → map f xs ≡ xs
-same_each f [] all = refl
-same_each f (x ∷ xs) all = ap₂ (λ y ys. y ∷ ys) (All-head (λ x. f x ≡ x) x xs all) (same_each f xs (All-tail (λ x. f x ≡ x) x xs all))
-
 names_by_file : (names : List (List ℕ)) (k : ℕ) → k ≤ length names → names_in_order (file_order k) names ≡ take k names
 unfolding names_in_order
 names_by_file names zero few = ap (λ order. map (λ position. get_or names (position - 1) []) order) file_order_none
@@ -171,7 +167,7 @@ names_by_file names (suc k) few =
 
 -- by the order of the file the rows stay as they are, and the names are the printed ones
 pub arranged_by_file : (p : Pla) → arranged (description p) (file_order p.inputs) ≡ record (description p) { in_names = input_names p }
-arranged_by_file p = grind (arith, count_printed, divides_le, mask_by_file, same_each, All-weaker, names_by_file, take_all)
+arranged_by_file p = grind (arith, count_printed, divides_le, mask_by_file, map_fixed, All-weaker, names_by_file, take_all)
 
 -- it names the inputs in this order
 pub names_in_order_named : (names : List (List ℕ)) (text : List ℕ) → IsOrder (length names) (order_named names text)
@@ -179,7 +175,7 @@ pub names_in_order_named : (names : List (List ℕ)) (text : List ℕ) → IsOrd
 unfolding names_in_order order_named position_named
 names_in_order_named names text is =
     map-map _ (position_named names) (names_between text)
-    ∙ same_each (λ piece. get_or names (position_named names piece - 1) []) (names_between text) (λ k d less.
+    ∙ map_fixed (λ piece. get_or names (position_named names piece - 1) []) (names_between text) (λ k d less.
     let piece = get_or (names_between text) k d in let position = is.positions k 0 in
     let at = get_or-map (position_named names) (names_between text) k d 0 less in
     let here = passes_at_first (λ other. bytes_eq other piece) names [] in grind (arith, bytes_eq-Decides, length-map))
@@ -252,13 +248,6 @@ module _ (names : List (List ℕ)) (text : List ℕ) (k : ℕ) (name : List ℕ)
       let found = (contains_decides eqb Decides-eqb before position answer any).0 found_it in
       let long = order_named_long in let at = order_named_at in let there = found.2 0 in let apart = good.distinct found.0 k 0 in
       grind (arith, length-take-le, get_or-take)
-
--- a number that was not there before is none of them
-pub none_before : (xs : List ℕ) (x : ℕ) (answer : Bool) → IsAnyAnswer (λ y t. eqb y x ≡ t) xs answer → answer ≡ false → All (λ y. y ≢ x) xs
-none_before xs x answer any none k d less same = grind (arith, contains_decides, eqb, Decides-eqb, get_or_default, true≢false)
-
-pub AllPairs-push : (xs : List ℕ) (y : ℕ) → AllPairs (λ i j. i ≢ j) xs → All (λ x. x ≢ y) xs → AllPairs (λ i j. i ≢ j) (xs ++ y ∷ [])
-AllPairs-push xs y pairs all i j d before within = grind (arith, length_push, cases_eq, get_or_append_left, get_or_push)
 
 -- where the text has no more names, the positions so far are the whole order
 pub all_named : (names : List (List ℕ)) (text : List ℕ) (k : ℕ) → k ≡ length (names_between text)
@@ -381,4 +370,4 @@ order_of_names p order text is has =
     (λ i before. grind (arith, one_to_one names plain i (position - 1), bytes_eq-Decides (get_or names i []) (name position)))
     (λ _. (bytes_eq-Decides (name position) (name position)).1 refl) in omega (arith, bounds, first) in
     ap (map (position_named names)) has ∙ map-map (position_named names) name order
-    ∙ same_each (λ position. position_named names (name position)) order found
+    ∙ map_fixed (λ position. position_named names (name position)) order found

@@ -17,7 +17,8 @@ use Rattle.lattice.specs.declared.kind.Kind.TheVariants.{Fd}
 use Rattle.pla_reader.specs.declared.refusal.Why.TheVariants.{NoSize}
 use Rattle.pla_reader.specs.declared.refusal.ReadRefusal.{ReadRefusal}
 use Rattle.pla_reader.specs.declared.refusal.ReadRefusal.TheVariants.{Bad, Memory}
-use Rattle.pla_reader.proofs.DraftSteps.{sizes_are, value_given}
+use Rattle.pla_reader.proofs.DraftSteps.{sizes_are}
+use Rattle.lattice.proofs.Polynomials.{value_given}
 
 -- the texts at the front were read, and the later ones, with so many bytes left, were not
 pub record ReadSoFar (bytes : List ℕ) (later : List (List ℕ)) (left : ℕ) (draft : Draft) (count : ℕ) : Type 0 where

@@ -2,7 +2,9 @@ use Rattle.std.proofs.Common.{◌≡◌, ℕ, ◌≤◌, ◌+◌, ◌-◌, arith
 use Rattle.lattice.specs.Words.{join}
 use Rattle.lattice.proofs.Polynomials.{some_member, some_variable, IsLeast-zero, IsLeast-one, upper_disjoint, lower_disjoint, IsCut}
 use Rattle.lattice.proofs.Polynomials.{upper_part, lower_part, IsLeast_step}
-use Rattle.interp_list.proofs.Step.{is_cut, bit_is, empty_from_test, nonempty_from_test}
+use Rattle.interp_list.proofs.Step.{is_cut}
+use Rattle.lattice.proofs.Diagrams.{weight_is}
+use Rattle.lattice.proofs.Polynomials.{empty_from_test, nonempty_from_test}
 use Rattle.interp_list.proofs.+least_terms.Goals as goal
 use Rattle.interp_list.proofs.+least_terms.Goals.{Else-is_empty-2, In_ok-ones_high, In_ok-upper_ones, In_ok-lower_ones}
 
@@ -31,7 +33,7 @@ cut : (t : ℕ) (c : In_ok-ones_high t) → 1 ≤ c.args.inputs
     × IsCut (c.args.inputs - 1) c.args.ones.now c.in_ok-ones_low.ones_low.items c.in_ok-ones_high.ones_high.items
 cut t c some =
     let more : c.args.inputs ≡ c.args.inputs - 1 + 1 = omega arith in
-    let bit = bit_is (c.args.inputs - 1) (omega (arith, c.requires.width)) in (
+    let bit = weight_is (c.args.inputs - 1) (omega (arith, c.requires.width)) in (
       is_cut _ _ _ _ _ bit (rw (← more) c.requires.zeros_below) c.in_ok-zeros_low.ensures c.in_ok-zeros_high.ensures,
       is_cut _ _ _ _ _ bit (rw (← more) c.requires.ones_below) c.in_ok-ones_low.ensures c.in_ok-ones_high.ensures,
     )
@@ -73,5 +75,5 @@ returns t c =
     let more : c.args.inputs ≡ c.args.inputs - 1 + 1 = omega arith in
     let whole = IsLeast_step _ _ _ _ _ _ _ _ _ (rw (← more) c.requires.zeros_below) (rw (← more) c.requires.ones_below) u
     c.in_ok-h.ensures l c.in_ok-terms.ensures in
-    let bit = bit_is (c.args.inputs - 1) (omega (arith, c.requires.width)) in
+    let bit = weight_is (c.args.inputs - 1) (omega (arith, c.requires.width)) in
     rw (c.in_ok-add_raised.ensures, c.deref-19.ensures.value, bit) (rw (← more) at whole)

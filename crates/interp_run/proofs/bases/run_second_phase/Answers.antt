@@ -9,7 +9,7 @@ use Rattle.interp_run.specs.declared.tasks.Part.TheVariants.{Leads}
 use Rattle.interp_run.proofs.GroupedElements.{elements_enough, leads_counted, outputs_answered, polynomials_enough}
 use Rattle.interp_run.proofs.OutputLists.{length-output_numbers}
 use Rattle.interp_run.proofs.PhaseLists.{are_second_tasks, second_parted, first_later}
-use Rattle.interp_run.proofs.SolvedAnswers.{points_family}
+use Rattle.lattice.proofs.Polynomials.{IsFamily-care_set}
 use Rattle.interp_run.proofs.bases.run_second_phase.Goals as goal
 
 pub list_second_tasks-requires : goal.list_second_tasks-requires
@@ -21,7 +21,7 @@ invariant_of-tasks g c =
     let list = c.deref-2.ensures.value ∙ c.in_ok-list.ensures c.args.mode c.requires.leads in
     record {
       consistent = c.requires.consistent;
-      are_tasks = rw list (are_second_tasks d c.args.mode (points_family d));
+      are_tasks = rw list (are_second_tasks d c.args.mode (IsFamily-care_set d.inputs d.kind d.rows));
       many = ap length c.deref.ensures.value ∙ (sym (AllZip-long _ _ _ c.requires.first.cares) ∙ length-output_numbers d.outputs);
       few = rw list (omega (arith, c.requires.few));
     }

@@ -2,7 +2,7 @@ use Rattle.std.proofs.Common.{not, rules, tests}
 use Rattle.std.proofs.lemmas.Iterator.{YieldsList-from_slice}
 use Rattle.std.proofs.lemmas.Iterator.Search.{position_from_yields_List}
 use Rattle.pla_reader.specs.Lines.{is_blank}
-use Rattle.pla_reader.proofs.Cuts.{first_or_len}
+use Rattle.lattice.proofs.Polynomials.{first_or_len}
 use Rattle.pla_reader.proofs.lines.first_of_word.Goals as goal
 
 pub returns-clause-place : goal.returns-clause-place

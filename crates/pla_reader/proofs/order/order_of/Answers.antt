@@ -3,11 +3,12 @@ use Rattle.std.proofs.Common.{◌≤◌, ◌≢◌, length, eqb, sym, ap, ◌∙
 use Rattle.std.specs.List.{All, AllPairs}
 use Rattle.std.proofs.lemmas.List.{length_push}
 use Rattle.std.proofs.lemmas.List.Elements.{All-push}
+use Rattle.std.proofs.lemmas.List.Quantifiers.{all_pairs_push}
 use Rattle.std.proofs.lemmas.Iterator.Splits.{YieldsList-from_slice_split}
 use Rattle.std.proofs.lemmas.Iterator.Consumers.{YieldsList-turn, YieldsList-end}
 use Rattle.pla_reader.specs.Orders.{IsOrder, names_in_order, order_named}
-use Rattle.pla_reader.proofs.Orders.{all_named, order_named_more, position_named_some, unknown_is_bad, twice_is_bad, none_before}
-use Rattle.pla_reader.proofs.Orders.{AllPairs-push, names_in_order_named}
+use Rattle.pla_reader.proofs.Orders.{all_named, order_named_more, position_named_some, unknown_is_bad, twice_is_bad, names_in_order_named}
+use Rattle.lattice.proofs.Polynomials.{none_before}
 use Rattle.pla_reader.proofs.order.order_of.Goals.{then-position-names-via-then-position-names}
 use Rattle.pla_reader.proofs.order.order_of.Goals.{then-position-names-via-else-position-names+then-contains}
 
@@ -42,7 +43,7 @@ loop-name-preserved c =
       so_far = grind arith;
       positions = rw pushed (All-push (λ p. (1 ≤ p) × (p ≤ length names)) order position c.loop-name.invariant.positions
           (omega (arith, position_named_some names c.in-Some.name.now), omega (arith, c.if-position-names.false)));
-      distinct = rw pushed (AllPairs-push order position c.loop-name.invariant.distinct
+      distinct = rw pushed (all_pairs_push (λ i j. i ≢ j) order position c.loop-name.invariant.distinct
           (none_before order position c.contains.result (rw c.as_slice.ensures at c.contains.ensures.cases) c.if-contains.false));
     }
 

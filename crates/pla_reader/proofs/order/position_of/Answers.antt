@@ -2,7 +2,7 @@ use Rattle.std.proofs.Common.{◌+◌, Bool, bytes_eq, ap, ◌∙◌, List, ℕ,
 use Rattle.std.proofs.lemmas.Iterator.{YieldsList-from_slice}
 use Rattle.std.proofs.lemmas.Iterator.Search.{position_from_yields_List}
 use Rattle.pla_reader.specs.Orders.{position_named}
-use Rattle.pla_reader.proofs.Cuts.{first_or_len}
+use Rattle.lattice.proofs.Polynomials.{first_or_len}
 use Rattle.pla_reader.proofs.order.position_of.Goals as goal
 
 pub returns : goal.returns

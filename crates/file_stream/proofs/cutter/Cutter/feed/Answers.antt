@@ -4,7 +4,7 @@ use Rattle.file_stream.specs.Files.{closes, says, IsFirstFile}
 use Rattle.file_stream.specs.Digests.{IsShort, empty}
 use Rattle.file_stream.proofs.Begun.{begun_byte, begun_empty, begun_ends, begun_line}
 use Rattle.file_stream.proofs.Digests.{stands_after, stands_at, Stands-nothing}
-use Rattle.file_stream.proofs.Keeping.{any-snoc}
+use Rattle.lattice.proofs.Polynomials.{any_push}
 use Rattle.file_stream.proofs.cutter.Cutter.feed.Goals as goal
 
 pub returns-then-byte-ne10-clause-fed : goal.returns-then-byte-ne10-clause-fed
@@ -31,7 +31,7 @@ returns-then-not-closes-clause-fed c file h =
     let closed = subst (λ d. IsShort d → c.closes-closes.result ≡ closes (d ++ 10 ∷ [])) same c.closes-closes.ensures h.short in
     let now : c.closes-closes.result ≡ false = search rules in
     let told = subst (λ d. IsShort d → c.says-says.result ≡ says (d ++ 10 ∷ [])) same c.says-says.ensures h.short in
-    let any = any-snoc h.front (h.line ++ 10 ∷ []) in
+    let any = any_push says h.front (h.line ++ 10 ∷ []) in
     record {
       front = h.front ++ (h.line ++ 10 ∷ []) ∷ [];
       line = [];
