@@ -1,5 +1,3 @@
 mod IdealLaws
-mod UsedRows
 mod JointSteps
-pub mod HeldPoints
 pub mod JointBases

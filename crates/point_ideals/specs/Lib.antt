@@ -1,4 +1,3 @@
-pub mod Cares
 pub mod Ideals
 pub mod Joined
 pub mod Laws
