@@ -86,7 +86,8 @@ module _ (s : State) (d : Description) (joining : Joining)
     joint_are = Denotes-family t points (joint_points d joining) is.ok
 
     pub leads_planned : Covers t.plan (working_set t.vars (point_leads_list t.vars (family t points)))
-    leads_planned = rw (joint_are, is.grows.vars, vars_are, is.grows.plan) (covers_right d.inputs s.plan (joint_points_list d joining) _ planned)
+    leads_planned = rw (joint_are, is.grows.vars, vars_are, is.grows.plan)
+        (covers_right d.inputs s.plan (joint_points_list d joining) _ planned)
 
     pub phase_held : {u : State} {h : Handle} → Gives t u (Ok h) (leads_of t.vars (standard_of t.vars (family t points)))
         (working_set t.vars (point_leads_list t.vars (family t points)))
