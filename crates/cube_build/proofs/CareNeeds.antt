@@ -1,15 +1,17 @@
--- What callers use of the rows' cubes, of covers and of the care sets: which rows are used, the cubes in later states, what is
--- planned, and lists that are made place by place.
+-- What callers use of covers, of the care sets and of the care points: what is planned, later states, and lists that are made place by
+-- place.
 use Rattle.std.proofs.Common.{◌≡◌, ℕ, ◌+◌, ◌-◌, ◌≤◌, List, subst, arith}
 use Rattle.std.specs.List.{flat_map}
 use Rattle.lattice.specs.Words.{Family, Covers, working_set, care_list, output_numbers}
 use Rattle.lattice.specs.declared.row.Row.{Row}
 use Rattle.lattice.specs.declared.kind.Kind.{Kind}
 use Rattle.lattice.proofs.Diagrams.{covers_part}
+use Rattle.node_store.specs.Stores.{Grows, State}
+use Rattle.node_store.specs.declared.store.Handle.{Handle}
+use Rattle.pla_reader.specs.Reading.{Description}
+use Rattle.cube_build.specs.CarePoints.{HoldsPoints}
 use Rattle.cube_build.specs.GivenCareSets.{care_needs}
 use Rattle.cube_build.proofs.CoverLemmas.{output_part}
--- the rows that are used, their cubes in later states, and their places in the lists
-pub use Rattle.cube_build.proofs.CoverLemmas.{cubes_later, in_care_list, names_where, used_cube-some}
 -- covers: that they are planned, later states, and what holds of each of a list
 pub use Rattle.cube_build.proofs.CareLemmas.{cover_planned, cover_later, part_at, zip_from}
 
@@ -21,3 +23,8 @@ all_cares_have n outputs kind rows output first last =
     let same : output - 1 + 1 ≡ output = omega arith in
     covers_part n (working_set n all) all (care_list n kind rows output) (λ f h. h)
     (subst (λ j. Covers all (care_list n kind rows j)) same (output_part (care_list n kind rows) outputs (output - 1) (omega arith)))
+
+-- care points that are held stay so
+pub points_later : (s t : State) (d : Description) (output : ℕ) (h : Handle) → Grows s t → HoldsPoints s d output h
+    → HoldsPoints t d output h
+points_later s t d output h grows is = record { denotes = grows.known h.0 _ is.denotes; held = λ f i. grows.held f (is.held f i) }

@@ -174,7 +174,7 @@ output_part list (suc n) k less f h =
 
 -- the list of an output has the cube of a row that says something of it
 module _ (n : ℕ) (rows : List Row) (i : ℕ) (less : i < length rows) where
-  listed : (mask : Row → ℕ) (output : ℕ) → divides (2 ^ (output - 1)) (mask (get_or rows i no_row)) ≡ true
+  pub listed : (mask : Row → ℕ) (output : ℕ) → divides (2 ^ (output - 1)) (mask (get_or rows i no_row)) ≡ true
       → Has (cover_list n (rows_with mask output rows)) (cube n (get_or rows i no_row))
   listed mask output bit =
       let rest = rows_with-rest mask output rows i less bit in
@@ -292,7 +292,7 @@ module _ (s t : State) (n : ℕ) (rows after : List Row) (r : Row) (all here : H
 -- ---- the loop over the rows and their cubes: s is the state before it, t the one after i rows
 
 -- what is given by a list of rows
-abbrev GivesRows : State → State → Handle → List Row → Type 0
+abbrev pub GivesRows : State → State → Handle → List Row → Type 0
 GivesRows s t points chosen = Gives s t (Ok points) (cover s.vars chosen) (working_set s.vars (cover_list s.vars chosen))
 
 module _ (s t : State) (rows : List Row) (cubes : List Handle) (set : PointSet) (output i : ℕ) (points : Handle)

@@ -1,5 +1,7 @@
 mod CubeLemmas
 mod CoverLemmas
+mod BuiltCovers
 mod CallsUnderway
 mod CareLemmas
+mod UnitedCares
 pub mod CareNeeds

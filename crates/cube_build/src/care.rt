@@ -2,14 +2,15 @@
 ghost use Rattle.std.specs.Prelude.{◌≡◌, ◌≤◌};
 ghost use Rattle.lattice.specs.Family.{Covers, power, minus_of, union_of};
 ghost use Rattle.lattice.specs.Rows.{care_zeros, care_ones};
-ghost use Rattle.lattice.specs.WorkingLists.{working_set};
+ghost use Rattle.lattice.specs.WorkingLists.{care_set, working_set};
 ghost use Rattle.node_store.specs.Stores.{Knows, family, Gives};
-ghost use Rattle.cube_build.specs.UsedCubes.{AreCubes};
+ghost use Rattle.pla_reader.specs.Reading.{description};
+ghost use Rattle.cube_build.specs.CarePoints.{points_list};
 ghost use Rattle.cube_build.specs.GivenCareSets.{care_needs, fd_list, fdr_list, outside_list};
 ghost use Rattle.cube_build.specs.GivenCareSets.{GivesCareSets, GivesCareSetsFrom, MayGiveCareSets};
 ghost use Rattle.set_algebra.specs.GivenPoints.{GivesPoints};
 
-use crate::covers::{cover, sets_of};
+use crate::covers::{build_cover, sets_of};
 use lattice::Kind;
 use node_store::{Full, Handle, Store};
 use pla_reader::Pla;
@@ -106,16 +107,9 @@ pub fn care_sets_from<S: Store>(
     }
 }
 
-/// The care points of the output, whose numbers begin with 1, from the cubes that `row_cubes`
-/// gives, in a store with a variable for each input. It is Full only where the plan has more
-/// families than the store has slots.
-pub fn care_sets<S: Store>(
-    store: &mut S,
-    p: &Pla,
-    cubes: &[Handle],
-    output: u32,
-) -> Result<ValuedPoints, Full>
-    requires cubes { AreCubes (S.state store.old) p.now.rows cubes.now }
+/// The care points of the output, whose numbers begin with 1, in a store with a variable for each
+/// input. It is Full only where the plan has more families than the store has slots.
+pub fn care_sets<S: Store>(store: &mut S, p: &Pla, output: u32) -> Result<ValuedPoints, Full>
     requires output { (1 ≤ output) × (output ≤ p.now.outputs) }
     requires vars { (S.state store.old).vars ≡ p.now.inputs }
     requires planned { Covers (S.state store.old).plan
@@ -123,23 +117,16 @@ pub fn care_sets<S: Store>(
     ensures { GivesCareSets (S.state store.old) (S.state store.new) result p.now.inputs p.now.kind
         p.now.rows output }
 {
-    let rows = p.rows.as_slice();
     let sets = sets_of(p.kind);
     let mut covers = [Handle(0); 3];
     for place in 0..sets.len() {
-        covers[place] = cover(store, rows, cubes, sets[place], output)?;
+        covers[place] = build_cover(store, p, sets[place], output)?;
     }
     care_sets_from(store, p.kind, &covers[..sets.len()])
 }
 
 /// The care points of value 0, as `care_sets` gives them.
-pub fn zeros<S: Store>(
-    store: &mut S,
-    p: &Pla,
-    cubes: &[Handle],
-    output: u32,
-) -> Result<Handle, Full>
-    requires cubes { AreCubes (S.state store.old) p.now.rows cubes.now }
+pub fn zeros<S: Store>(store: &mut S, p: &Pla, output: u32) -> Result<Handle, Full>
     requires output { (1 ≤ output) × (output ≤ p.now.outputs) }
     requires vars { (S.state store.old).vars ≡ p.now.inputs }
     requires planned { Covers (S.state store.old).plan
@@ -148,13 +135,12 @@ pub fn zeros<S: Store>(
         (care_zeros p.now.inputs p.now.kind p.now.rows output)
         (care_needs p.now.inputs p.now.kind p.now.rows output) }
 {
-    let sets = care_sets(store, p, cubes, output)?;
+    let sets = care_sets(store, p, output)?;
     Ok(sets.zeros)
 }
 
 /// The care points of value 1, as `care_sets` gives them.
-pub fn ones<S: Store>(store: &mut S, p: &Pla, cubes: &[Handle], output: u32) -> Result<Handle, Full>
-    requires cubes { AreCubes (S.state store.old) p.now.rows cubes.now }
+pub fn ones<S: Store>(store: &mut S, p: &Pla, output: u32) -> Result<Handle, Full>
     requires output { (1 ≤ output) × (output ≤ p.now.outputs) }
     requires vars { (S.state store.old).vars ≡ p.now.inputs }
     requires planned { Covers (S.state store.old).plan
@@ -163,6 +149,21 @@ pub fn ones<S: Store>(store: &mut S, p: &Pla, cubes: &[Handle], output: u32) -> 
         (care_ones p.now.inputs p.now.kind p.now.rows output)
         (care_needs p.now.inputs p.now.kind p.now.rows output) }
 {
-    let sets = care_sets(store, p, cubes, output)?;
+    let sets = care_sets(store, p, output)?;
     Ok(sets.ones)
+}
+
+/// All care points of the output, whose numbers begin with 1, in a store with a variable for each
+/// input. It is Full only where the plan has more families than the store has slots.
+pub fn care_points<S: Store>(store: &mut S, p: &Pla, output: u32) -> Result<Handle, Full>
+    requires output { (1 ≤ output) × (output ≤ p.now.outputs) }
+    requires vars { (S.state store.old).vars ≡ p.now.inputs }
+    requires planned { Covers (S.state store.old).plan
+        (working_set p.now.inputs (points_list (description p.now) output)) }
+    ensures { Gives (S.state store.old) (S.state store.new) result
+        (care_set p.now.inputs p.now.kind p.now.rows output)
+        (working_set p.now.inputs (points_list (description p.now) output)) }
+{
+    let cares = care_sets(store, p, output)?;
+    union(store, cares.zeros, cares.ones)
 }

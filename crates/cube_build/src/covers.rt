@@ -7,8 +7,10 @@ ghost use Rattle.node_store.specs.Stores.{Gives};
 ghost use Rattle.cube_build.specs.PointSets.{mask_of, set_rows, sets_of};
 ghost use Rattle.cube_build.specs.UsedCubes.{AreCubes};
 
+use crate::cubes::cube;
 use lattice::{Kind, Row};
 use node_store::{Full, Handle, Store};
+use pla_reader::Pla;
 use set_algebra::union;
 
 /// A set of points of an output: what its rows say is 1, what they say is 0, or what they leave
@@ -68,6 +70,31 @@ pub fn cover<S: Store>(
     for (row, cube) in rows.iter().zip(cubes) {
         if is_in(row, set, output) {
             points = union(store, points, *cube)?;
+        }
+    }
+    Ok(points)
+}
+
+/// The same, where no cubes are given: each is built when it is united, those of no other rows.
+pub(crate) fn build_cover<S: Store>(
+    store: &mut S,
+    p: &Pla,
+    set: PointSet,
+    output: u32,
+) -> Result<Handle, Full>
+    requires output { (1 ≤ output) × (output ≤ 64) }
+    requires vars { (S.state store.old).vars ≡ p.now.inputs }
+    requires planned { let s = S.state store.old in
+        Covers s.plan (working_set s.vars (cover_list s.vars (set_rows set output p.now.rows))) }
+    ensures { let s = S.state store.old in let chosen = set_rows set output p.now.rows in
+        Gives s (S.state store.new) result (cover s.vars chosen)
+        (working_set s.vars (cover_list s.vars chosen)) }
+{
+    let mut points = Handle(0);
+    for row in p.rows.as_slice() {
+        if is_in(row, set, output) {
+            let points_of_row = cube(store, row)?;
+            points = union(store, points, points_of_row)?;
         }
     }
     Ok(points)

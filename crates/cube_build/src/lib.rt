@@ -6,7 +6,7 @@ mod covers;
 mod cubes;
 mod rows;
 
-pub use crate::care::{care_sets, care_sets_from, ones, zeros};
+pub use crate::care::{care_points, care_sets, care_sets_from, ones, zeros};
 pub use crate::covers::{PointSet, cover, sets_of};
 pub use crate::cubes::cube;
 pub use crate::rows::{CubesRefusal, row_cubes};

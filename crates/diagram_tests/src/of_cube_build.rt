@@ -5,9 +5,11 @@ ghost use Rattle.lattice.specs.Rows.{cube};
 ghost use Rattle.lattice.specs.WorkingLists.{working_set, care_list, output_numbers};
 ghost use Rattle.lattice.proofs.Diagrams.{working_set_is_node_list};
 ghost use Rattle.node_store.specs.PlainOf.{state_of};
+ghost use Rattle.pla_reader.specs.Reading.{description};
+ghost use Rattle.cube_build.specs.CarePoints.{points_list};
 ghost use Rattle.cube_build.specs.PointSets.{sets_of};
 
-use cube_build::{CubesRefusal, cover, cube, ones, row_cubes, sets_of, zeros};
+use cube_build::{CubesRefusal, care_points, cover, cube, ones, row_cubes, sets_of, zeros};
 use lattice::{Memory, Mono, Monos, Planned, Row, plan_of};
 use node_store::{Full, Handle, PlainStore};
 use pla_reader::{Pla, read};
@@ -37,6 +39,17 @@ impl Planned for AllCares<'_> {
     ghost node_list = { λ c. let p = c.0.now in
         working_set_is_node_list p.inputs
         (flat_map (care_list p.inputs p.kind p.rows) (output_numbers p.outputs)) };
+}
+
+// The care points of an output.
+#[derive(Drop)]
+struct CaresOf<'a>(&'a Pla, u32);
+
+impl Planned for CaresOf<'_> {
+    ghost families = { λ c. working_set c.0.now.inputs (points_list (description c.0.now) c.1) };
+
+    ghost node_list = { λ c. working_set_is_node_list c.0.now.inputs
+        (points_list (description c.0.now) c.1) };
 }
 
 // A store of 16 slots with this plan.
@@ -87,67 +100,75 @@ fn points_of_cubes(rt: HostRuntime) -> Result<(), Fail> {
     Ok(())
 }
 
-// The care points of the output: those of value 0, and those of value 1.
-fn care_points_of(alloc: Global, p: &Pla, output: u32) -> Result<(Monos, Monos), Fail>
+// The care points of the output: those of value 0, those of value 1, and all of them.
+fn care_points_of(alloc: Global, p: &Pla, output: u32) -> Result<(Monos, Monos, Monos), Fail>
     requires { (1 ≤ output) × (output ≤ p.now.outputs) }
 {
-    let mut store = store_for(alloc, p.inputs, &AllCares(p))?;
-    let cubes = row_cubes(alloc, &mut store, p)?;
-    let zeros = zeros(&mut store, p, &cubes, output)?;
-    let ones = ones(&mut store, p, &cubes, output)?;
+    let mut store = store_for(alloc, p.inputs, &CaresOf(p, output))?;
+    let zeros = zeros(&mut store, p, output)?;
+    let ones = ones(&mut store, p, output)?;
+    let all = care_points(&mut store, p, output)?;
     let zero_points = walk_upto(alloc, &mut store, zeros, 4)?;
     let one_points = walk_upto(alloc, &mut store, ones, 4)?;
-    Ok((zero_points, one_points))
+    let all_points = walk_upto(alloc, &mut store, all, 4)?;
+    Ok((zero_points, one_points, all_points))
 }
 
 // Files of each type with an output, and its care points.
 #[test]
 fn points_of_outputs(rt: HostRuntime) -> Result<(), Fail> {
-    let cases: [(&[u8], u32, &[Mono], &[Mono]); 6] = [
+    let cases: [(&[u8], u32, &[Mono], &[Mono], &[Mono]); 6] = [
         (
             b".i 2\n.o 1\n.type f\n1- 1\n01 1\n",
             1,
             &[Mono(0)],
             &[Mono(3), Mono(2), Mono(1)],
+            &[Mono(3), Mono(2), Mono(1), Mono(0)],
         ),
         (
             b".i 2\n.o 1\n.type fd\n1- 1\n11 -\n",
             1,
             &[Mono(1), Mono(0)],
             &[Mono(2)],
+            &[Mono(2), Mono(1), Mono(0)],
         ),
         (
             b".i 2\n.o 1\n.type fd\n01 0\n1- 1\n11 -\n",
             1,
             &[Mono(1), Mono(0)],
             &[Mono(2)],
+            &[Mono(2), Mono(1), Mono(0)],
         ),
         (
             b".i 2\n.o 1\n.type fr\n1- 1\n00 0\n",
             1,
             &[Mono(0)],
             &[Mono(3), Mono(2)],
+            &[Mono(3), Mono(2), Mono(0)],
         ),
         (
             b".i 2\n.o 1\n.type fdr\n1- 1\n0- 0\n-1 -\n",
             1,
             &[Mono(0)],
             &[Mono(2)],
+            &[Mono(2), Mono(0)],
         ),
         (
             b".i 2\n.o 2\n.type fr\n1- 10\n00 01\n",
             2,
             &[Mono(3), Mono(2)],
             &[Mono(0)],
+            &[Mono(3), Mono(2), Mono(0)],
         ),
     ];
-    for (bytes, output, zero_points, one_points) in cases {
+    for (bytes, output, zero_points, one_points, all_points) in cases {
         assert!(rt; bytes.len() < 100);
         let (p, _) = read(rt.alloc(), bytes)?;
         assert!(rt; 1 <= output && output <= p.outputs);
-        let (zeros, ones) = care_points_of(rt.alloc(), &p, output)?;
+        let (zeros, ones, all) = care_points_of(rt.alloc(), &p, output)?;
         assert_eq!(rt; zeros.as_slice(), zero_points);
         assert_eq!(rt; ones.as_slice(), one_points);
+        assert_eq!(rt; all.as_slice(), all_points);
     }
     Ok(())
 }
@@ -227,9 +248,8 @@ fn zeros_without_rows(alloc: Global, bytes: &[u8]) -> Result<Result<Handle, Full
     requires { length bytes.now < 100 }
 {
     let (p, _) = read(alloc, bytes)?;
-    let mut store = store_for(alloc, p.inputs, &AllCares(&p))?;
-    let cubes = row_cubes(alloc, &mut store, &p)?;
-    Ok(zeros(&mut store, &p, &cubes, 1))
+    let mut store = store_for(alloc, p.inputs, &CaresOf(&p, 1))?;
+    Ok(zeros(&mut store, &p, 1))
 }
 
 // All points over the last variables are needed: as many families as there are inputs.

@@ -19,8 +19,8 @@ use Rattle.node_store.specs.Stores.{Denotes, Gives, Grows, IsSound, Knows, State
 use Rattle.node_store.specs.declared.store.Handle.{Handle}
 use Rattle.node_store.proofs.StoreLaws.{Denotes-family, Denotes-knows, Grows-refl, Grows-trans}
 use Rattle.pla_reader.specs.Reading.{Description}
-use Rattle.point_ideals.specs.Cares.{HoldsPoints, points_list}
-use Rattle.point_ideals.proofs.HeldPoints.{points_later}
+use Rattle.cube_build.specs.CarePoints.{HoldsPoints, points_list}
+use Rattle.cube_build.proofs.CareNeeds.{points_later}
 use Rattle.nf_run.specs.Answers.{AreAnswered, HoldsAll, IsAnswerTo, answer_terms, answer_to, no_handle, points_of, queries_list}
 use Rattle.nf_run.specs.Answers.{query_list, query_nodes}
 use Rattle.nf_run.specs.Queries.{IsQueryOver}

@@ -6,9 +6,9 @@ use Rattle.lattice.specs.WorkingLists.{care_set, working_set}
 use Rattle.node_store.specs.Stores.{Denotes, State}
 use Rattle.node_store.specs.declared.store.Handle.{Handle}
 use Rattle.pla_reader.specs.Reading.{Description}
+use Rattle.cube_build.specs.CarePoints.{HoldsPoints, points_list}
 use Rattle.cube_build.specs.declared.rows.CubesRefusal.{CubesRefusal}
 use Rattle.cube_build.specs.declared.rows.CubesRefusal.TheVariants as unbuilt
-use Rattle.point_ideals.specs.Cares.{HoldsPoints, points_list}
 use Rattle.nf_run.specs.Reduced.{IsReduced, reduced, reduced_list, sum_of_terms}
 use Rattle.nf_run.specs.declared.queries.Query.{Query}
 use Rattle.nf_run.specs.declared.solving.ReduceRefusal.{ReduceRefusal}

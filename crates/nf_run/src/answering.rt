@@ -1,20 +1,19 @@
 //! The answers to queries.
-ghost use Rattle.std.specs.Prelude.{◌≡◌, ◌≤◌, ◌==◌, true, IfOk, IsErrOf, length};
+ghost use Rattle.std.specs.Prelude.{◌≡◌, ◌≤◌, ◌==◌, true, IfOk, IsErrOf, OnErr, length};
 ghost use Rattle.std.specs.List.{All, list_any};
 ghost use Rattle.lattice.specs.Family.{Covers};
 ghost use Rattle.lattice.specs.WorkingLists.{working_set};
 ghost use Rattle.node_store.specs.Stores.{Grows, IsFull};
 ghost use Rattle.pla_reader.specs.Reading.{description};
-ghost use Rattle.point_ideals.specs.Cares.{HoldsPoints};
+ghost use Rattle.cube_build.specs.CarePoints.{HoldsPoints};
 ghost use Rattle.nf_run.specs.Answers.{AreAnswered, HoldsAll, queries_list};
 ghost use Rattle.nf_run.specs.Queries.{IsQueryOver};
 
 use crate::queries::Query;
 use crate::reduction::reduce_polynomial;
-use cube_build::CubesRefusal;
-use node_store::{Handle, Store};
+use cube_build::{CubesRefusal, care_points};
+use node_store::{Full, Handle, Store};
 use pla_reader::Pla;
-use point_ideals::care_points;
 use std::alloc::Global;
 
 /// Whether a query is on the output.
@@ -27,12 +26,11 @@ fn is_named(queries: &[Query], output: u32) -> bool
 /// The care points of the output where a query is on it, and else Handle(0).
 #[tactic(auto, using(crate::proofs::QueryAnswers::points_rules))]
 fn points_for<S: Store>(
-    alloc: Global,
     store: &mut S,
     p: &Pla,
     queries: &[Query],
     output: u32,
-) -> Result<Handle, CubesRefusal>
+) -> Result<Handle, Full>
     requires output { (1 ≤ output) × (output ≤ p.now.outputs) }
     requires vars { (S.state store.old).vars ≡ p.now.inputs }
     requires planned { Covers (S.state store.old).plan
@@ -40,11 +38,10 @@ fn points_for<S: Store>(
     ensures grows { Grows (S.state store.old) (S.state store.new) }
     ensures points { IfOk result (λ h. list_any (λ q. q.output == output) queries.now ≡ true
         → HoldsPoints (S.state store.new) (description p.now) output h) }
-    ensures full { IsErrOf result CubesRefusal.Full
-        → IsFull (S.state store.old) (S.state store.new) }
+    ensures full { OnErr result (IsFull (S.state store.old) (S.state store.new)) }
 {
     if is_named(queries, output) {
-        care_points(alloc, store, p, output)
+        care_points(store, p, output)
     } else {
         Ok(Handle(0))
     }
@@ -71,7 +68,7 @@ fn all_points<S: Store>(
 {
     let mut points = Vec::new(alloc);
     for before in 0..p.outputs {
-        points.push(points_for(alloc, store, p, queries, before + 1)?)?;
+        points.push(points_for(store, p, queries, before + 1)?)?;
     }
     Ok(points)
 }

@@ -2,18 +2,19 @@
 use Rattle.std.proofs.Common.{◌≡◌, ◌∙◌, ◌++◌, ◌∷◌, ℕ, [], Ok, refl, ◌<◌, ◌^◌, List, ap, ap₂, append-nil, append_assoc, arith, length}
 use Rattle.std.proofs.Common.{reverse, subst, sym, true, ◌≢◌, None, Option, Some, map, Err, Result, ◌≤◌}
 use Rattle.lattice.specs.Words.{leads_of, standard_of, IsLead, basis_element_of, Covers, Family, has, working_set, basis_element_list}
-use Rattle.lattice.proofs.Diagrams.{covers_append, covers_head, covers_left, covers_one, covers_right, covers_nil}
+use Rattle.lattice.proofs.Diagrams.{covers_append, covers_head, covers_left, covers_right, covers_nil}
 use Rattle.node_store.specs.Stores.{Builds, Gives, Grows, IsPlanned, State, family, Knows}
+use Rattle.node_store.specs.declared.store.Full.{Full}
 use Rattle.node_store.specs.declared.store.Handle.{Handle}
 use Rattle.node_store.proofs.StoreLaws.{Denotes-family, Denotes-knows, Grows-family, Grows-knows, Grows-refl, Grows-trans}
+use Rattle.node_store.proofs.StoreLaws.{builds_gives, found_gives, reads_one}
 use Rattle.pla_reader.specs.Reading.{Description}
 use Rattle.run_parts.specs.Found.{point_leads_list, terms_of}
-use Rattle.point_ideals.specs.Cares.{HoldsPoints, points_list}
-use Rattle.point_ideals.specs.Joined.{HoldsJoint, HoldsJointPoints, first_phase_list, joined, joint_points, joint_points_list, HoldsBasis}
+use Rattle.cube_build.specs.CarePoints.{points_list}
+use Rattle.point_ideals.specs.Joined.{HoldsJoint, first_phase_list, joined, joint_points, joint_points_list, HoldsBasis}
 use Rattle.point_ideals.specs.Joined.{HoldsElements, elements_list, joint_leads, second_phase_list, FindsBasis, FindsLeads, IsJointBasis}
-use Rattle.point_ideals.specs.Joined.{first_nodes, first_refused, joint_basis_of, PhaseGives, refusal_by}
+use Rattle.point_ideals.specs.Joined.{first_nodes, first_refused, joint_basis_of, output_points, PhaseGives, refusal_by}
 use Rattle.point_ideals.specs.declared.joined.Joining.{Joining}
-use Rattle.point_ideals.proofs.HeldPoints.{points_later}
 use Rattle.std.specs.List.{All, sum_by}
 use Rattle.std.proofs.lemmas.Grind.{flat_map-append}
 use Rattle.std.proofs.lemmas.List.{flat_map_more, map_push, nil_from_length, reverse-append, length-map}
@@ -44,29 +45,33 @@ module _ (s : State) (d : Description) (joining : Joining)
   pub second_planned : (t : State) → Grows s t → Covers t.plan (working_set d.inputs (points_list d 2))
   second_planned t grows = rw grows.plan (covers_left d.inputs s.plan (points_list d 2) _ rest_planned)
 
-  module _ (vars_are : s.vars ≡ d.inputs) {t u : State} (one : Grows s t) (two : Grows t u) {first second : Handle}
-      (first_is : HoldsPoints t d 1 first) (second_is : HoldsPoints u d 2 second) where
-    u_vars : u.vars ≡ d.inputs
-    u_vars = two.vars ∙ (one.vars ∙ vars_are)
+  module _ (vars_are : s.vars ≡ d.inputs) {t u : State} {first second : Handle}
+      (one : Gives s t (Ok first) (output_points d 1) (working_set d.inputs (points_list d 1)))
+      (two : Gives t u (Ok second) (output_points d 2) (working_set d.inputs (points_list d 2))) where
+    t_vars : t.vars ≡ d.inputs
+    t_vars = one.grows.vars ∙ vars_are
 
     joined_is : joined joining u.vars (family u first) (family u second) ≡ joint_points d joining
-    joined_is =
-        let later = points_later t u d 1 first two first_is in
-        rw (u_vars, Denotes-family u first _ later.denotes, Denotes-family u second _ second_is.denotes) refl
+    joined_is = rw (
+      two.grows.vars,
+      t_vars,
+      Denotes-family u first _ (two.grows.known first.0 _ one.ok),
+      Denotes-family u second _ two.ok,
+    ) refl
 
     pub joined_planned : IsPlanned u (joined joining u.vars (family u first) (family u second))
-    joined_planned = rw (joined_is, u_vars, two.plan, one.plan)
+    joined_planned = rw (joined_is, two.grows.vars, t_vars, two.grows.plan, one.grows.plan)
         (covers_head d.inputs s.plan [] (joint_points d joining) (covers_right d.inputs s.plan (points_list d 2) _ rest_planned))
 
-    pub joint_held : {v : State} {h : Handle} → Builds u v (Ok h) (joined joining u.vars (family u first) (family u second))
-        → HoldsJointPoints v d joining h
-    joint_held {v = v} {h = h} is = record {
-      denotes = rw (← joined_is) is.ok;
-      held = covers_append d.inputs v.held (points_list d 1) (points_list d 2 ++ joint_points d joining ∷ [])
-          (λ f i. is.grows.held f (two.held f (first_is.held f i)))
-          (covers_append d.inputs v.held (points_list d 2) (joint_points d joining ∷ []) (λ f i. is.grows.held f (second_is.held f i))
-          (covers_one d.inputs v.held (joint_points d joining) (rw (← joined_is, ← u_vars) is.held)));
-    }
+    pub joint_given : {v : State} {r : Result Handle Full} → Builds u v r (joined joining u.vars (family u first) (family u second))
+        → Gives s v r (joint_points d joining) (working_set d.inputs (joint_points_list d joining))
+    joint_given {v = v} {r = r} is =
+        let last = builds_gives u v r (joint_points d joining) (rw joined_is at is) in
+        let rest = found_gives t u v r (joint_points d joining) (points_list d 2) (joint_points d joining ∷ [])
+        (record { reads = reads_one two; held = rw t_vars two.held }) last in
+        subst (λ (n : ℕ). Gives s v r (joint_points d joining) (working_set n (joint_points_list d joining))) vars_are
+        (found_gives s t v r (joint_points d joining) (points_list d 1) (points_list d 2 ++ joint_points d joining ∷ [])
+        (record { reads = reads_one one; held = rw vars_are one.held }) rest)
 
 -- ---- phase 1; t is the state after the points
 
@@ -75,21 +80,23 @@ module _ (s : State) (d : Description) (joining : Joining)
   pub points_planned : Covers s.plan (working_set d.inputs (joint_points_list d joining))
   points_planned = covers_left d.inputs s.plan (joint_points_list d joining) _ planned
 
-  module _ (vars_are : s.vars ≡ d.inputs) {t : State} (one : Grows s t) {points : Handle} (is : HoldsJointPoints t d joining points) where
+  module _ (vars_are : s.vars ≡ d.inputs) {t : State} {points : Handle}
+      (is : Gives s t (Ok points) (joint_points d joining) (working_set d.inputs (joint_points_list d joining))) where
     joint_are : family t points ≡ joint_points d joining
-    joint_are = Denotes-family t points (joint_points d joining) is.denotes
+    joint_are = Denotes-family t points (joint_points d joining) is.ok
 
     pub leads_planned : Covers t.plan (working_set t.vars (point_leads_list t.vars (family t points)))
-    leads_planned = rw (joint_are, one.vars, vars_are, one.plan) (covers_right d.inputs s.plan (joint_points_list d joining) _ planned)
+    leads_planned = rw (joint_are, is.grows.vars, vars_are, is.grows.plan)
+        (covers_right d.inputs s.plan (joint_points_list d joining) _ planned)
 
     pub phase_held : {u : State} {h : Handle} → Gives t u (Ok h) (leads_of t.vars (standard_of t.vars (family t points)))
         (working_set t.vars (point_leads_list t.vars (family t points)))
         → HoldsJoint u d joining (record { points = points; leads = h })
     phase_held {u = u} {h = h} gives = record {
-      points = gives.grows.known points.0 _ is.denotes;
-      leads = rw (joint_are, one.vars, vars_are) at gives.ok;
+      points = gives.grows.known points.0 _ is.ok;
+      leads = rw (joint_are, is.grows.vars, vars_are) at gives.ok;
       held = covers_append d.inputs u.held (joint_points_list d joining) (point_leads_list d.inputs (joint_points d joining))
-          (λ f i. gives.grows.held f (is.held f i)) (rw (joint_are, one.vars, vars_are) at gives.held);
+          (λ f i. gives.grows.held f (is.held f i)) (rw (joint_are, is.grows.vars, vars_are) at gives.held);
     }
 
 -- ---- the elements of the reduced basis of points, one after the other

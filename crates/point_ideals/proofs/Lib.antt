@@ -1,4 +1,2 @@
-mod UsedRows
 mod JointSteps
-pub mod HeldPoints
 pub mod JointBases

@@ -10,11 +10,11 @@ use Rattle.node_store.specs.Stores.{Denotes, Knows, State, family}
 use Rattle.node_store.specs.declared.store.Handle.{Handle}
 use Rattle.pla_reader.specs.Reading.{Description}
 use Rattle.run_parts.specs.Found.{point_leads_list}
+use Rattle.cube_build.specs.CarePoints.{points_list}
 use Rattle.cube_build.specs.declared.rows.CubesRefusal.{CubesRefusal}
 use Rattle.cube_build.specs.declared.rows.CubesRefusal.TheVariants as unbuilt
 use Rattle.set_algebra.specs.declared.counted.WalkRefusal.{WalkRefusal}
 use Rattle.set_algebra.specs.declared.counted.WalkRefusal.TheVariants as unlisted
-use Rattle.point_ideals.specs.Cares.{points_list}
 use Rattle.point_ideals.specs.declared.joined.Joining.{Joining}
 use Rattle.point_ideals.specs.declared.joined.Joining.TheVariants.{Meet, Union}
 use Rattle.point_ideals.specs.declared.phases.Joint.{Joint}
@@ -90,11 +90,6 @@ first_refused bits limit d joining basis =
     else None
 
 -- ---- what was found
-
--- the handle is of the points, and what they needed is held
-pub record HoldsJointPoints (s : State) (d : Description) (joining : Joining) (points : Handle) : Type 0 where
-  pub denotes : Denotes s points (joint_points d joining)
-  pub held : Covers s.held (working_set d.inputs (joint_points_list d joining))
 
 -- phase 1 was done
 pub record HoldsJoint (s : State) (d : Description) (joining : Joining) (found : Joint) : Type 0 where

@@ -1,3 +1,2 @@
-pub mod Cares
 pub mod Joined
 pub mod Laws

@@ -17,7 +17,7 @@ use crate::phases::{first_phase, second_phase};
 use computed_cache::CachedPass;
 use cube_build::CubesRefusal;
 use lattice::{Memory, Mono, MonoLists, Monos, Plan, Planned, plan_of};
-use node_store::Store;
+use node_store::{Full, Store};
 use pla_reader::Pla;
 use run_parts::{first_bits, lists_upto, next_bits};
 use set_algebra::{WalkRefusal, walk_upto};
@@ -56,6 +56,14 @@ impl From<CubesRefusal> for BasisRefusal {
             CubesRefusal::Full => BasisRefusal::Exhausted,
             CubesRefusal::Memory => BasisRefusal::Memory,
         }
+    }
+}
+
+impl From<Full> for BasisRefusal {
+    ghost from_gives = { λ _ e. e ≡ refusals.Exhausted };
+
+    fn from(_: Full) -> Self {
+        BasisRefusal::Exhausted
     }
 }
 
@@ -136,7 +144,7 @@ fn leads_in<S: Store>(
     ensures leads { let s = S.state store.old in
         FindsLeads (length s.plan) s.capacity limit (description p.now) joining result }
 {
-    let found = first_phase(alloc, store, p, joining)?;
+    let found = first_phase(store, p, joining)?;
     Ok(walk_upto(alloc, store, found.leads, limit)?)
 }
 

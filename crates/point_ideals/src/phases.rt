@@ -1,21 +1,20 @@
 //! The care points of two outputs put together, their leads, and the elements of their reduced
 //! basis, over any store.
-ghost use Rattle.std.specs.Prelude.{◌≡◌, ◌<◌, ◌^◌, IfOk, IsErrOf, reverse};
+ghost use Rattle.std.specs.Prelude.{◌≡◌, ◌<◌, ◌^◌, IfOk, IsErrOf, OnErr, reverse};
 ghost use Rattle.std.specs.List.{All};
 ghost use Rattle.lattice.specs.Basis.{IsLead};
 ghost use Rattle.lattice.specs.Family.{Covers};
 ghost use Rattle.lattice.specs.WorkingLists.{working_set};
-ghost use Rattle.node_store.specs.Stores.{Builds, Grows, IsFull, IsPlanned, Knows, family};
+ghost use Rattle.node_store.specs.Stores.{Builds, Gives, Grows, IsFull, IsPlanned, Knows, family};
 ghost use Rattle.pla_reader.specs.Reading.{description};
 ghost use Rattle.point_ideals.specs.Joined.{HoldsBasis, HoldsElements, HoldsJoint};
-ghost use Rattle.point_ideals.specs.Joined.{HoldsJointPoints, elements_list, first_phase_list};
-ghost use Rattle.point_ideals.specs.Joined.{joined, joint_leads, joint_points_list};
+ghost use Rattle.point_ideals.specs.Joined.{elements_list, first_phase_list};
+ghost use Rattle.point_ideals.specs.Joined.{joined, joint_leads, joint_points, joint_points_list};
 ghost use Rattle.point_ideals.specs.Joined.{second_phase_list};
 
-use crate::cares::care_points;
 use crate::joined::Joining;
 use bool_poly::Serial;
-use cube_build::CubesRefusal;
+use cube_build::{CubesRefusal, care_points};
 use lattice::Mono;
 use node_store::{Full, Handle, Store};
 use pla_reader::Pla;
@@ -53,44 +52,31 @@ fn joined<S: Store>(
 }
 
 /// The care points of both outputs put together.
-fn joint_points<S: Store>(
-    alloc: Global,
-    store: &mut S,
-    p: &Pla,
-    joining: Joining,
-) -> Result<Handle, CubesRefusal>
+fn joint_points<S: Store>(store: &mut S, p: &Pla, joining: Joining) -> Result<Handle, Full>
     requires outputs { p.now.outputs ≡ 2 }
     requires vars { (S.state store.old).vars ≡ p.now.inputs }
     requires planned { Covers (S.state store.old).plan
         (working_set p.now.inputs (joint_points_list (description p.now) joining)) }
-    ensures grows { Grows (S.state store.old) (S.state store.new) }
-    ensures points { IfOk result (HoldsJointPoints (S.state store.new)
-        (description p.now) joining) }
-    ensures full { IsErrOf result CubesRefusal.Full
-        → IsFull (S.state store.old) (S.state store.new) }
+    ensures { Gives (S.state store.old) (S.state store.new) result
+        (joint_points (description p.now) joining)
+        (working_set p.now.inputs (joint_points_list (description p.now) joining)) }
 {
-    let first = care_points(alloc, store, p, 1)?;
-    let second = care_points(alloc, store, p, 2)?;
-    Ok(joined(store, joining, first, second)?)
+    let first = care_points(store, p, 1)?;
+    let second = care_points(store, p, 2)?;
+    joined(store, joining, first, second)
 }
 
 /// Phase 1: these points and their leads.
-pub(crate) fn first_phase<S: Store>(
-    alloc: Global,
-    store: &mut S,
-    p: &Pla,
-    joining: Joining,
-) -> Result<Joint, CubesRefusal>
+pub(crate) fn first_phase<S: Store>(store: &mut S, p: &Pla, joining: Joining) -> Result<Joint, Full>
     requires outputs { p.now.outputs ≡ 2 }
     requires vars { (S.state store.old).vars ≡ p.now.inputs }
     requires planned { Covers (S.state store.old).plan
         (working_set p.now.inputs (first_phase_list (description p.now) joining)) }
     ensures grows { Grows (S.state store.old) (S.state store.new) }
     ensures found { IfOk result (HoldsJoint (S.state store.new) (description p.now) joining) }
-    ensures full { IsErrOf result CubesRefusal.Full
-        → IsFull (S.state store.old) (S.state store.new) }
+    ensures full { OnErr result (IsFull (S.state store.old) (S.state store.new)) }
 {
-    let points = joint_points(alloc, store, p, joining)?;
+    let points = joint_points(store, p, joining)?;
     let leads = leads_of_points(store, points)?;
     Ok(Joint { points, leads })
 }
@@ -144,6 +130,6 @@ pub(crate) fn second_phase<S: Store>(
     ensures full { IsErrOf result CubesRefusal.Full
         → IsFull (S.state store.old) (S.state store.new) }
 {
-    let found = first_phase(alloc, store, p, joining)?;
+    let found = first_phase(store, p, joining)?;
     elements(alloc, store, found.points, leads)
 }

@@ -3,17 +3,12 @@ use Rattle.node_store.proofs.StoreLaws.{Reads-refl, then_call}
 use Rattle.set_algebra.proofs.GivenPoints.{points_failed}
 use Rattle.cube_build.specs.declared.covers.PointSet.TheVariants.{On}
 use Rattle.cube_build.proofs.CareLemmas.{all_covers, covers_more, later_planned, points_after}
-use Rattle.cube_build.proofs.CoverLemmas.{cubes_later}
 use Rattle.cube_build.proofs.care.care_sets.Goals as goal
 
-pub cover-requires-clause-cubes : goal.cover-requires-clause-cubes
-cover-requires-clause-cubes g c =
-    rw c.as_slice-rows.ensures (cubes_later _ _ c.args.p.now.rows c.args.cubes.now c.loop-place.invariant.reads.grows c.requires.cubes)
-
-pub cover-requires-clause-planned : goal.cover-requires-clause-planned
-cover-requires-clause-planned g c =
+pub build_cover-requires-clause-planned : goal.build_cover-requires-clause-planned
+build_cover-requires-clause-planned g c =
     let p = c.args.p.now in
-    rw (c.sets_of-sets.ensures, c.as_slice-rows.ensures)
+    rw c.sets_of-sets.ensures
     (later_planned (g.S.Store.state c.args.store.now) (g.S.Store.state c.loop-place.store) p.inputs p.kind p.rows c.args.output
     c.loop-place.place On c.loop-place.invariant.reads c.requires.vars (rw c.sets_of-sets.ensures at c.loop-place-test.true)
     c.requires.planned)
@@ -33,9 +28,9 @@ loop-place-preserved g c =
     let p = c.args.p.now in let before = c.loop-place.invariant in
     record {
       reads = then_call before.reads c.in_ok-covers.ensures;
-      covers = covers_more (g.S.Store.state c.loop-place.store) (g.S.Store.state c.cover.new.store) p.kind p.rows c.args.output
+      covers = covers_more (g.S.Store.state c.loop-place.store) (g.S.Store.state c.build_cover.new.store) p.kind p.rows c.args.output
           c.loop-place.place On c.loop-place.covers c.in_ok-covers.field-0 (rw c.sets_of-sets.ensures at c.loop-place-test.true)
-          before.room before.covers (rw (c.sets_of-sets.ensures, c.as_slice-rows.ensures) at c.in_ok-covers.ensures);
+          before.room before.covers (rw c.sets_of-sets.ensures at c.in_ok-covers.ensures);
       room = length-set c.loop-place.covers c.loop-place.place c.in_ok-covers.field-0 ∙ before.room;
     }
 

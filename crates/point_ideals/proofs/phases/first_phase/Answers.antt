@@ -10,7 +10,7 @@ joint_points-requires-clause-planned g c =
 pub leads_of_points-requires-clause-planned : goal.leads_of_points-requires-clause-planned
 leads_of_points-requires-clause-planned g c =
     leads_planned (g.S.Store.state c.args.store.now) (description c.args.p.now) c.args.joining c.requires.planned c.requires.vars
-    c.in_ok-points.ensures.grows c.in_ok-points.ensures.points
+    c.in_ok-points.ensures
 
 pub returns-clause-grows : goal.returns-clause-grows
 returns-clause-grows g c = Grows-trans _ _ _ c.in_ok-points.ensures.grows c.in_ok-leads.ensures.grows
@@ -18,4 +18,4 @@ returns-clause-grows g c = Grows-trans _ _ _ c.in_ok-points.ensures.grows c.in_o
 pub returns-clause-found : goal.returns-clause-found
 returns-clause-found g c =
     phase_held (g.S.Store.state c.args.store.now) (description c.args.p.now) c.args.joining c.requires.planned c.requires.vars
-    c.in_ok-points.ensures.grows c.in_ok-points.ensures.points c.in_ok-leads.ensures
+    c.in_ok-points.ensures c.in_ok-leads.ensures

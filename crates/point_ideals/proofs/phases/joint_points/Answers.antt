@@ -1,6 +1,6 @@
-use Rattle.node_store.proofs.StoreLaws.{Grows-trans}
+use Rattle.node_store.proofs.StoreLaws.{failed, Reads-refl, reads_one}
 use Rattle.pla_reader.specs.Reading.{description}
-use Rattle.point_ideals.proofs.JointSteps.{first_planned, joined_planned, joint_held, second_planned}
+use Rattle.point_ideals.proofs.JointSteps.{first_planned, joined_planned, joint_given, second_planned}
 use Rattle.point_ideals.proofs.phases.joint_points.Goals as goal
 
 pub care_points-requires-clause-planned : goal.care_points-requires-clause-planned
@@ -15,18 +15,16 @@ care_points-requires-2-clause-planned g c =
 pub joined-requires-clause-planned : goal.joined-requires-clause-planned
 joined-requires-clause-planned g c =
     joined_planned (g.S.Store.state c.args.store.now) (description c.args.p.now) c.args.joining c.requires.planned c.requires.vars
-    c.in_ok-first.ensures.grows c.in_ok-second.ensures.grows c.in_ok-first.ensures.points c.in_ok-second.ensures.points
+    c.in_ok-first.ensures c.in_ok-second.ensures
 
-pub returns-in_err-joined-clause-grows : goal.returns-in_err-joined-clause-grows
-returns-in_err-joined-clause-grows g c =
-    Grows-trans _ _ _ c.in_ok-first.ensures.grows (Grows-trans _ _ _ c.in_ok-second.ensures.grows c.joined.ensures.grows)
+pub returns-in_err-first : goal.returns-in_err-first
+returns-in_err-first g c =
+    failed c.from_residual.ensures.0 (Reads-refl (g.S.Store.state c.args.store.now)) c.in_err-first.ensures
 
-pub returns-clause-grows : goal.returns-clause-grows
-returns-clause-grows g c =
-    Grows-trans _ _ _ c.in_ok-first.ensures.grows (Grows-trans _ _ _ c.in_ok-second.ensures.grows c.in_ok-joined.ensures.grows)
+pub returns-in_err-second : goal.returns-in_err-second
+returns-in_err-second g c = failed c.from_residual-in_err-second.ensures.0 (reads_one c.in_ok-first.ensures) c.in_err-second.ensures
 
-pub returns-clause-points : goal.returns-clause-points
-returns-clause-points g c =
-    joint_held (g.S.Store.state c.args.store.now) (description c.args.p.now) c.args.joining c.requires.planned c.requires.vars
-    c.in_ok-first.ensures.grows c.in_ok-second.ensures.grows c.in_ok-first.ensures.points c.in_ok-second.ensures.points
-    c.in_ok-joined.ensures
+pub returns : goal.returns
+returns g c =
+    joint_given (g.S.Store.state c.args.store.now) (description c.args.p.now) c.args.joining c.requires.planned c.requires.vars
+    c.in_ok-first.ensures c.in_ok-second.ensures c.joined.ensures
