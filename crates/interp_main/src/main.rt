@@ -7,10 +7,10 @@ ghost use Rattle.std.specs.Prelude.{◌≡◌, [], All, IfOk};
 ghost use Rattle.watch.specs.Notes.{states_by};
 
 use fork_branches::Drawn;
-use interp_run::{Outcome, report, run};
+use interp_run::Interp;
 use lattice::Memory;
 use outside::{Rendezvous, StdSink, StdSource};
-use run_parts::words_of;
+use program::{Outcome, Program, report, start_program};
 use std::alloc::Global;
 use std::io::Stderr;
 use std::process::ExitCode;
@@ -31,32 +31,39 @@ fn alone(alloc: Global, watcher: Box<dyn Watch>) -> Result<Vec<Box<dyn Watch>>, 
 }
 
 // There was no memory before the run.
-fn without_memory(err: &mut StdSink<Stderr>) -> ExitCode {
-    ExitCode::from(report(err, Outcome::Memory))
+fn without_memory<G: Program>(err: &mut StdSink<Stderr>, program: &G) -> ExitCode {
+    let outcome: Outcome<G::Ends> = Outcome::Memory;
+    ExitCode::from(report(err, program.name(), program.usage(), outcome))
 }
 
 // Runs on the standard streams, with one watcher that writes lines of progress to standard error.
 // Its branches wait at no gate.
 fn main(rt: HostRuntime) -> ExitCode {
-    let mut err = StdSink::new(rt.stderr());
-    let lines = Lines::new(StdSink::new(rt.stderr()), PATIENCE);
-    let Ok(lines) = Box::new(rt.alloc(), lines) else {
-        return without_memory(&mut err);
-    };
-    let (Ok(words), Ok(mut watchers)) = (words_of(&rt, rt.alloc()), alone(rt.alloc(), lines)) else {
-        return without_memory(&mut err);
-    };
     let mut source = StdSource::new(rt.stdin());
     let mut out = StdSink::new(rt.stdout());
-    ExitCode::from(run(
+    let mut err = StdSink::new(rt.stderr());
+    let mut pool = Drawn::new();
+    let gate = Rendezvous::open();
+    let mut interp = Interp {
+        rt: &rt,
+        alloc: rt.alloc(),
+        pool: &mut pool,
+        gate: &gate,
+    };
+    let lines = Lines::new(StdSink::new(rt.stderr()), PATIENCE);
+    let Ok(lines) = Box::new(rt.alloc(), lines) else {
+        return without_memory(&mut err, &interp);
+    };
+    let Ok(mut watchers) = alone(rt.alloc(), lines) else {
+        return without_memory(&mut err, &interp);
+    };
+    ExitCode::from(start_program(
         &rt,
         rt.alloc(),
-        &words,
+        &mut interp,
         &mut source,
         &mut out,
         &mut err,
-        &mut Drawn::new(),
-        &Rendezvous::open(),
         &mut watchers,
     ))
 }

@@ -22,14 +22,18 @@ use Rattle.pla_reader.specs.Reading.{Description}
 use Rattle.anf_printer.specs.Text.{Answer}
 use Rattle.run_parts.proofs.FoundTerms.{working_set_is_distinct}
 use Rattle.interp_run.specs.Answers.{IsAnswerOf, AreAnswers, first_count, second_count, first_nodes, last_nodes}
-use Rattle.interp_run.specs.Due.{IsDueSolving, first_passed, has_answers, silent, solved}
-use Rattle.interp_run.specs.Parts.{EndsUnsolved, FirstFits, due_unsolved, jobs_for, no_memory_to_solve, unsolved_outcome}
+use Rattle.program.specs.Duties.{silent}
+use Rattle.program.specs.Outcomes.{HasText}
+use Rattle.program.specs.Runs.{EndsWithout, due_without, no_memory}
+use Rattle.program.specs.declared.outcome.Outcome.TheVariants as ends
+use Rattle.interp_run.specs.Due.{IsDueSolving, first_passed, has_answers, solved}
+use Rattle.interp_run.specs.Ends.{end_way}
+use Rattle.interp_run.specs.Parts.{FirstFits, jobs_for, unsolved_outcome}
 use Rattle.interp_run.specs.Phases.{AreOf, IsSecond, OutputHandles, answer_for, answer_in, answers_for, element_task, first_tasks}
 use Rattle.interp_run.specs.Phases.{leads_in, ones_in, points_in, second_tasks, second_terms, task, task_family, terms_of, zeros_in}
 use Rattle.interp_run.specs.declared.tasks.Part.TheVariants.{Leads, Polynomial}
 use Rattle.interp_run.specs.declared.phases.Unsolved.{Unsolved}
 use Rattle.interp_run.specs.declared.phases.Unsolved.TheVariants as unsolved
-use Rattle.interp_run.specs.declared.outcome.Outcome.TheVariants as ends
 use Rattle.interp_run.proofs.OutputLists.{length-output_numbers, output_at}
 
 -- ---- the answers
@@ -196,8 +200,9 @@ module _ (job : Job) (d : Description) (ok : IsConsistent d.inputs d.outputs d.r
 -- how a run ends that was not solved
 pub unsolved_ends : (job : Job) (d : Description) (cause : Unsolved)
     → (cause ≡ unsolved.Full → IsDueSolving job d (silent (ends.Exhausted (2 ^ job.nodes))))
-    → (cause ≡ unsolved.Terms → IsDueSolving job d (silent (ends.Terms job.terms))) → EndsUnsolved job d (unsolved_outcome job cause)
-unsolved_ends job d cause full terms = grind (arith, due_unsolved, no_memory_to_solve)
+    → (cause ≡ unsolved.Terms → IsDueSolving job d (silent (ends.Terms job.terms)))
+    → EndsWithout (IsDueSolving job d) (unsolved_outcome job cause)
+unsolved_ends job d cause full terms = grind (arith, due_without, no_memory)
 
-pub unsolved_unfinished : (job : Job) (cause : Unsolved) → unsolved_outcome job cause ≡ ends.Done → ⊥
-unsolved_unfinished job cause e = grind arith
+pub unsolved_unfinished : (job : Job) (cause : Unsolved) → ¬ HasText end_way (unsolved_outcome job cause)
+unsolved_unfinished job cause has = grind arith

@@ -12,21 +12,21 @@ use Rattle.cert_check.specs.declared.refusal.Verdict.TheVariants.{Yes}
 use Rattle.cli_words.specs.CommandLine.{mode_name}
 use Rattle.cli_words.specs.declared.job.Job.{Job}
 use Rattle.interp_run.specs.Answers.{first_nodes, last_nodes}
-use Rattle.interp_run.specs.Due.{Due, IsDue, file_of, judged, silent}
-use Rattle.interp_run.specs.Run.{IsAsked, IsRefused}
-use Rattle.interp_run.specs.declared.outcome.Outcome.TheVariants as ends
+use Rattle.program.specs.Duties.{IsDueFor, silent}
+use Rattle.program.specs.Examples.{two_points}
+use Rattle.program.specs.declared.outcome.Outcome.TheVariants as ends
+use Rattle.interp_run.specs.Due.{InterpDue, IsDue, file_of, judged}
+use Rattle.interp_run.specs.Duty.{IsAsked, IsRefused, interp_duty}
+use Rattle.interp_run.specs.declared.ends.OwnEnd.TheVariants.{Order}
 
--- no more than one thing is due for a job and bytes
-abbrev pub OneIsDue : Type 0
-OneIsDue = (job : Job) (bytes : List ℕ) (a b : Due) → IsDue job bytes a → IsDue job bytes b → a ≡ b
-
--- and no less, where the file of the bytes is this one
+-- something is due for a job and bytes whose file is this one
 abbrev pub SomeIsDue : Pla → Type 0
-SomeIsDue p = (job : Job) (bytes : List ℕ) → file_of job bytes ≡ Ok (description p) → (due : Due) × IsDue job bytes due
+SomeIsDue p = (job : Job) (bytes : List ℕ) → file_of job bytes ≡ Ok (description p) → (due : InterpDue) × IsDue job bytes due
 
 -- what is due does not depend on the number of workers
 abbrev pub WorkersAreFree : Type 0
-WorkersAreFree = (job : Job) (workers : ℕ) (bytes : List ℕ) (due : Due) → IsDue job bytes due → IsDue (record job { workers = workers }) bytes due
+WorkersAreFree = (job : Job) (workers : ℕ) (bytes : List ℕ) (due : InterpDue) → IsDueFor interp_duty job bytes due
+    → IsDueFor interp_duty (record job { workers = workers }) bytes due
 
 -- phase 1 needs no more nodes than the last phase, so a run whose whole working set fits the slots is not refused for its first phase
 abbrev pub FirstWithinLast : Type 0
@@ -45,10 +45,6 @@ usual_job mode = record { mode = mode; workers = 1; nodes = 19; terms = 1000000;
 abbrev pub ordered_job : Mode → List ℕ → Job
 ordered_job mode order = record (usual_job mode) { order = Some order }
 
--- a file of two points over two inputs
-abbrev pub two_points : List ℕ
-two_points = codes ".i 2\n.o 1\n.ilb a b\n.ob f\n.type fr\n11 1\n00 0\n.e\n"
-
 -- words that ask for a job in each mode, and with an order, and words that ask for none
 abbrev pub WordsAskForJobs : Type 0
 WordsAskForJobs =
@@ -56,15 +52,16 @@ WordsAskForJobs =
     × IsAsked (codes "interp" ∷ codes "anf" ∷ codes "--order" ∷ codes "b,a" ∷ []) (ordered_job Anf (codes "b,a"))
     × IsRefused (codes "interp" ∷ [])
 
--- what is due for it, and that in mode gen something is: so the premises of the clauses of `run` are met in each mode, and with an order
+-- what is due for the file of two points, and that in mode gen something is: so the premises of the clauses of `run` are met in each
+-- mode, and with an order
 abbrev pub DueForTwoPoints : Type 0
 DueForTwoPoints =
-    IsDue (usual_job Anf) two_points
+    IsDueFor interp_duty (usual_job Anf) two_points
     (record { outcome = ends.Done; pages = codes "f = b\n" ∷ []; notes = record { output = 1; terms = 1; basis = 0 } ∷ [] })
-    × IsDue (usual_job Basis) two_points
+    × IsDueFor interp_duty (usual_job Basis) two_points
     (record { outcome = ends.Done; pages = codes "f = b\n0 = a + b\n" ∷ []; notes = record { output = 1; terms = 1; basis = 1 } ∷ [] })
-    × IsDue (usual_job Check) (two_points ++ codes "f = b\n0 = a + b\n") (judged Yes)
-    × IsDue (ordered_job Anf (codes "b,a")) two_points
+    × IsDueFor interp_duty (usual_job Check) (two_points ++ codes "f = b\n0 = a + b\n") (judged Yes)
+    × IsDueFor interp_duty (ordered_job Anf (codes "b,a")) two_points
     (record { outcome = ends.Done; pages = codes "f = a\n" ∷ []; notes = record { output = 1; terms = 1; basis = 0 } ∷ [] })
-    × IsDue (ordered_job Anf (codes "b")) two_points (silent ends.Order)
-    × ((bytes : List ℕ) → (due : Due) × IsDue (usual_job Gen) bytes due)
+    × IsDueFor interp_duty (ordered_job Anf (codes "b")) two_points (silent (ends.Own Order))
+    × ((bytes : List ℕ) → (due : InterpDue) × IsDueFor interp_duty (usual_job Gen) bytes due)

@@ -12,7 +12,7 @@ ghost use Rattle.pla_reader.specs.Reading.{description};
 ghost use Rattle.interp_run.specs.Phases.{AreLeads, AreOf, IsFirst, IsSecond, by_output};
 ghost use Rattle.interp_run.specs.Phases.{element_task, first_tasks, second_tasks, terms_of};
 
-use crate::means::Means;
+use crate::means::Interp;
 use crate::phases::{First, Unsolved};
 use crate::tasks::{Part, Task, Tasks, run_tasks};
 use computed_cache::CachedPass;
@@ -88,7 +88,7 @@ fn list_second_tasks(alloc: Global, pla: &Pla, leads: &[Monos]) -> Result<Vec<Ta
 
 /// Runs phase 2, for the leads of phase 1: the elements of all outputs, in order.
 pub(crate) fn run_second_phase<R: Threads + Sync, P: Pool>(
-    means: &mut Means<'_, R, P>,
+    interp: &mut Interp<'_, R, P>,
     store: &mut CachedPass,
     workers: u32,
     pla: &Pla,
@@ -97,7 +97,7 @@ pub(crate) fn run_second_phase<R: Threads + Sync, P: Pool>(
     leads: &[Monos],
 ) -> Result<Vec<Handle>, Unsolved>
     requires workers { (1 ≤ workers) × (workers ≤ 16) }
-    requires room { P.done means.old.pool.now < 2 ^ 30 }
+    requires room { P.done interp.old.pool.now < 2 ^ 30 }
     requires vars { (cached_state store.old).vars ≡ pla.now.inputs }
     requires consistent { IsConsistent pla.now.inputs pla.now.outputs pla.now.rows }
     requires first { IsFirst (cached_state store.old) (description pla.now) mode first.now }
@@ -112,20 +112,20 @@ pub(crate) fn run_second_phase<R: Threads + Sync, P: Pool>(
     ensures solved { IfOk result (λ elements. IsSecond (cached_state store.new)
         (description pla.now) mode
         (by_output leads.now first.now.found.items elements.items)) }
-    ensures same_pool { means.new.pool.ghost_name ≡ means.old.pool.ghost_name }
-    ensures jobs { OnOk result (P.done means.old.pool.now
-        + length (second_tasks (description pla.now) mode) ≤ P.done means.new.pool.now) }
-    ensures least { P.done means.old.pool.now ≤ P.done means.new.pool.now }
-    ensures most { P.done means.new.pool.now ≤ P.done means.old.pool.now + 2 ^ 24 }
+    ensures same_pool { interp.new.pool.ghost_name ≡ interp.old.pool.ghost_name }
+    ensures jobs { OnOk result (P.done interp.old.pool.now
+        + length (second_tasks (description pla.now) mode) ≤ P.done interp.new.pool.now) }
+    ensures least { P.done interp.old.pool.now ≤ P.done interp.new.pool.now }
+    ensures most { P.done interp.new.pool.now ≤ P.done interp.old.pool.now + 2 ^ 24 }
     ensures full { IsErrOf result Unsolved.Full
         → IsFull (cached_state store.old) (cached_state store.new) }
     ensures counted { ¬ IsErrOf result Unsolved.Terms }
 {
-    let list = list_second_tasks(means.alloc, pla, leads)?;
+    let list = list_second_tasks(interp.alloc, pla, leads)?;
     let tasks = Tasks {
         pla,
         cares: &first.cares,
         list: &list,
     };
-    run_tasks(means, store, workers, &tasks)
+    run_tasks(interp, store, workers, &tasks)
 }

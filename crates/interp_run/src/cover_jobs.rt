@@ -10,7 +10,7 @@ ghost use Rattle.pla_reader.specs.Reading.{description};
 ghost use Rattle.interp_run.specs.CoverJobs.{AreAllCovers, cover_count, cover_jobs};
 ghost use Rattle.interp_run.specs.Phases.{CaresDone};
 
-use crate::means::Means;
+use crate::means::Interp;
 use crate::phases::Unsolved;
 use bool_poly::SetOps;
 use computed_cache::CachedPass;
@@ -83,13 +83,13 @@ fn build_cares<S: Store>(
 /// The care sets of all outputs. Each row's cube is built once, by the pass; their unions are jobs
 /// of the pool.
 pub(crate) fn find_cares<R: Threads + Sync, P: Pool>(
-    means: &mut Means<'_, R, P>,
+    interp: &mut Interp<'_, R, P>,
     store: &mut CachedPass,
     workers: u32,
     pla: &Pla,
 ) -> Result<Vec<ValuedPoints>, Unsolved>
     requires workers { (1 ≤ workers) × (workers ≤ 16) }
-    requires room { P.done means.old.pool.now < 2 ^ 30 }
+    requires room { P.done interp.old.pool.now < 2 ^ 30 }
     requires vars { (cached_state store.old).vars ≡ pla.now.inputs }
     requires planned { let p = pla.now in
         Covers (cached_state store.old).plan
@@ -98,18 +98,16 @@ pub(crate) fn find_cares<R: Threads + Sync, P: Pool>(
     ensures grows { Grows (cached_state store.old) (cached_state store.new) }
     ensures cares { IfOk result (λ cares. CaresDone (cached_state store.new)
         (description pla.now) pla.now.outputs cares.items) }
-    ensures same_pool { means.new.pool.ghost_name ≡ means.old.pool.ghost_name }
-    ensures least { P.done means.old.pool.now ≤ P.done means.new.pool.now }
-    ensures most { P.done means.new.pool.now
-        ≤ P.done means.old.pool.now + cover_count (description pla.now) }
+    ensures same_pool { interp.new.pool.ghost_name ≡ interp.old.pool.ghost_name }
+    ensures least { P.done interp.old.pool.now ≤ P.done interp.new.pool.now }
+    ensures most { P.done interp.new.pool.now
+        ≤ P.done interp.old.pool.now + cover_count (description pla.now) }
     ensures full { IsErrOf result Unsolved.Full
         → IsFull (cached_state store.old) (cached_state store.new) }
     ensures counted { ¬ IsErrOf result Unsolved.Terms }
 {
-    let cubes = row_cubes(means.alloc, store, pla)?;
+    let cubes = row_cubes(interp.alloc, store, pla)?;
     let jobs = CoverJobs { pla, cubes: &cubes };
-    let covers = means
-        .pool
-        .all(means.rt, means.alloc, store, &jobs, means.gate, workers)?;
-    build_cares(means.alloc, store, pla, &covers)
+    let covers = interp.pool.all(interp.rt, interp.alloc, store, &jobs, interp.gate, workers)?;
+    build_cares(interp.alloc, store, pla, &covers)
 }

@@ -1,6 +1,8 @@
 //! Functions that do nothing. Their contracts are the laws of `specs/Laws.antt`, so a check proves
 //! these.
-ghost use Rattle.interp_run.specs.Laws.{DueForTwoPoints, FirstWithinLast, OneIsDue, SomeIsDue};
+ghost use Rattle.program.specs.Duties.{OneIsDue};
+ghost use Rattle.interp_run.specs.Duty.{interp_duty};
+ghost use Rattle.interp_run.specs.Laws.{DueForTwoPoints, FirstWithinLast, SomeIsDue};
 ghost use Rattle.interp_run.specs.Laws.{WordsAskForJobs, WorkersAreFree, YesIsRight};
 
 use cube_sets::conflict;
@@ -10,7 +12,7 @@ use std::alloc::Global;
 
 /// For a job and bytes one outcome, with its texts and notes, is due at most.
 pub fn one_is_due()
-    ensures { OneIsDue }
+    ensures { OneIsDue interp_duty }
 {}
 
 /// For a job and bytes that describe the file, one is due at least. Where the bytes have no file,

@@ -3,10 +3,11 @@
 use outside::Rendezvous;
 use std::alloc::Global;
 
-/// What the steps of a run work with: the runtime that starts the workers, the allocator, the pool
-/// that answers the jobs, and the gate that the workers' branches enter.
+/// The program `interp`, and what the steps of its run work with: the runtime that starts the
+/// workers, the allocator, the pool that answers the jobs, and the gate that the workers' branches
+/// enter.
 #[derive(Drop)]
-pub(crate) struct Means<'a, R, P> {
+pub struct Interp<'a, R, P> {
     pub rt: &'a R,
     pub alloc: Global,
     pub pool: &'a mut P,

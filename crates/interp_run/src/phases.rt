@@ -11,7 +11,7 @@ ghost use Rattle.pla_reader.specs.Reading.{description};
 ghost use Rattle.interp_run.specs.Phases.{IsFirst, first_tasks, task};
 
 use crate::cover_jobs::find_cares;
-use crate::means::Means;
+use crate::means::Interp;
 use crate::tasks::{Part, Task, Tasks, run_tasks};
 use computed_cache::CachedPass;
 use cube_build::CubesRefusal;
@@ -124,14 +124,14 @@ fn list_first_tasks(alloc: Global, pla: &Pla, mode: Mode) -> Result<Vec<Task>, M
 
 /// Runs phase 1. The jobs of the pool are the covers of the outputs' sets, and then the tasks.
 pub(crate) fn run_first_phase<R: Threads + Sync, P: Pool>(
-    means: &mut Means<'_, R, P>,
+    interp: &mut Interp<'_, R, P>,
     store: &mut CachedPass,
     workers: u32,
     pla: &Pla,
     mode: Mode,
 ) -> Result<First, Unsolved>
     requires workers { (1 ≤ workers) × (workers ≤ 16) }
-    requires room { P.done means.old.pool.now < 2 ^ 29 }
+    requires room { P.done interp.old.pool.now < 2 ^ 29 }
     requires vars { (cached_state store.old).vars ≡ pla.now.inputs }
     requires consistent { IsConsistent pla.now.inputs pla.now.outputs pla.now.rows }
     requires planned { Covers (cached_state store.old).plan
@@ -139,22 +139,22 @@ pub(crate) fn run_first_phase<R: Threads + Sync, P: Pool>(
         pla.now.rows mode)) }
     ensures grows { Grows (cached_state store.old) (cached_state store.new) }
     ensures found { IfOk result (IsFirst (cached_state store.new) (description pla.now) mode) }
-    ensures same_pool { means.new.pool.ghost_name ≡ means.old.pool.ghost_name }
-    ensures jobs { OnOk result (P.done means.old.pool.now
-        + length (first_tasks (description pla.now) mode) ≤ P.done means.new.pool.now) }
-    ensures least { P.done means.old.pool.now ≤ P.done means.new.pool.now }
-    ensures most { P.done means.new.pool.now ≤ P.done means.old.pool.now + 2 ^ 24 }
+    ensures same_pool { interp.new.pool.ghost_name ≡ interp.old.pool.ghost_name }
+    ensures jobs { OnOk result (P.done interp.old.pool.now
+        + length (first_tasks (description pla.now) mode) ≤ P.done interp.new.pool.now) }
+    ensures least { P.done interp.old.pool.now ≤ P.done interp.new.pool.now }
+    ensures most { P.done interp.new.pool.now ≤ P.done interp.old.pool.now + 2 ^ 24 }
     ensures full { IsErrOf result Unsolved.Full
         → IsFull (cached_state store.old) (cached_state store.new) }
     ensures counted { ¬ IsErrOf result Unsolved.Terms }
 {
-    let cares = find_cares(means, store, workers, pla)?;
-    let list = list_first_tasks(means.alloc, pla, mode)?;
+    let cares = find_cares(interp, store, workers, pla)?;
+    let list = list_first_tasks(interp.alloc, pla, mode)?;
     let tasks = Tasks {
         pla,
         cares: &cares,
         list: &list,
     };
-    let found = run_tasks(means, store, workers, &tasks)?;
+    let found = run_tasks(interp, store, workers, &tasks)?;
     Ok(First { cares, found })
 }

@@ -1,5 +1,5 @@
 //! A consistent description solved, each phase on a table of its own.
-ghost use Rattle.std.specs.Prelude.{◌≡◌, ◌≢◌, ◌<◌, ◌≤◌, ◌^◌, ◌+◌, true, IfOk, IfErr, IsErrOf, OnOk};
+ghost use Rattle.std.specs.Prelude.{◌≡◌, ◌<◌, ◌≤◌, ◌^◌, ◌+◌, true, IfOk, IfErr, IsErrOf, OnOk};
 ghost use Rattle.std.specs.Prelude.{length, map};
 ghost use Rattle.lattice.specs.declared.kind.Mode.TheVariants.{Basis, Gen};
 ghost use Rattle.lattice.specs.declared.limits.TheConstants.{MIN_BITS, MAX_BITS};
@@ -10,14 +10,18 @@ ghost use Rattle.pla_reader.specs.Reading.{description};
 ghost use Rattle.anf_printer.specs.Text.{shown_answer};
 ghost use Rattle.cli_words.specs.CommandLine.{IsWithin};
 ghost use Rattle.interp_run.specs.Answers.{AreAnswers, first_nodes, last_nodes};
-ghost use Rattle.interp_run.specs.Due.{IsDueSolving, silent, solved};
-ghost use Rattle.interp_run.specs.Parts.{EndsUnsolved, FirstFits, jobs_for, unsolved_outcome};
+ghost use Rattle.program.specs.Duties.{silent};
+ghost use Rattle.program.specs.Outcomes.{HasText};
+ghost use Rattle.program.specs.Runs.{EndsWithout};
+ghost use Rattle.program.specs.declared.outcome.Outcome.TheVariants as outcomes;
+ghost use Rattle.interp_run.specs.Due.{IsDueSolving, solved};
+ghost use Rattle.interp_run.specs.Ends.{end_way};
+ghost use Rattle.interp_run.specs.Parts.{FirstFits, jobs_for, unsolved_outcome};
 ghost use Rattle.interp_run.specs.Phases.{AreCares, AreLeads, ones_in, zeros_in};
-ghost use Rattle.interp_run.specs.declared.outcome.Outcome.TheVariants as outcomes;
 
-use crate::Outcome;
 use crate::bases::{list_leads, list_no_leads, run_second_phase};
-use crate::means::Means;
+use crate::ends::OwnEnd;
+use crate::means::Interp;
 use crate::phases::{Unsolved, run_first_phase};
 use crate::plan::{first_plan, run_plan};
 use crate::printed::list_shown;
@@ -28,6 +32,7 @@ use fork_branches::Pool;
 use lattice::{MAX_VARS, Mode, MonoLists, Monos};
 use node_store::Store;
 use pla_reader::Pla;
+use program::Outcome;
 use run_parts::{SMALL_BITS, first_bits};
 use set_algebra::{ValuedPoints, count_upto};
 use std::thread::Threads;
@@ -58,7 +63,7 @@ fn workers_on(job: &Job, bits: u32, is_last: bool) -> u32
 // The leads of each output in mode basis, where phase 1 fits 2^bits slots and its terms are within
 // the limit. Its table is given up.
 fn try_leads<R: Threads + Sync, P: Pool>(
-    means: &mut Means<'_, R, P>,
+    interp: &mut Interp<'_, R, P>,
     pla: &Pla,
     job: &Job,
     bits: u32,
@@ -66,27 +71,27 @@ fn try_leads<R: Threads + Sync, P: Pool>(
     requires basis { job.now.mode ≡ Basis }
     requires within { IsWithin job.now }
     requires bits { (MIN_BITS ≤ bits) × (bits ≤ job.now.nodes) }
-    requires room { P.done means.old.pool.now < 2 ^ 29 }
+    requires room { P.done interp.old.pool.now < 2 ^ 29 }
     requires consistent { IsConsistent pla.now.inputs pla.now.outputs pla.now.rows }
-    ensures same_pool { means.new.pool.ghost_name ≡ means.old.pool.ghost_name }
+    ensures same_pool { interp.new.pool.ghost_name ≡ interp.old.pool.ghost_name }
     ensures leads { IfOk result (AreLeads (description pla.now) job.now.mode) }
     ensures fits { OnOk result (FirstFits job.now (description pla.now)) }
     ensures full { IsErrOf result Unsolved.Full
         → 2 ^ bits < first_nodes (description pla.now) job.now.mode }
     ensures terms { IsErrOf result Unsolved.Terms
         → IsDueSolving job.now (description pla.now) (silent (outcomes.Terms job.now.terms)) }
-    ensures most { P.done means.new.pool.now ≤ P.done means.old.pool.now + 2 ^ 24 }
+    ensures most { P.done interp.new.pool.now ≤ P.done interp.old.pool.now + 2 ^ 24 }
 {
-    let (table, token) = Shared::make(means.alloc, bits, pla.inputs, first_plan(pla, job.mode))?;
+    let (table, token) = Shared::make(interp.alloc, bits, pla.inputs, first_plan(pla, job.mode))?;
     let mut pass = CachedPass::new(table.pass(token));
     let workers = workers_on(job, bits, false);
-    let first = run_first_phase(means, &mut pass, workers, pla, job.mode)?;
-    list_leads(means.alloc, &mut pass, pla, &first.found, job.terms)
+    let first = run_first_phase(interp, &mut pass, workers, pla, job.mode)?;
+    list_leads(interp.alloc, &mut pass, pla, &first.found, job.terms)
 }
 
 // The same from a table of 2^bits slots on, and the size of the table that sufficed.
 fn seek_leads<R: Threads + Sync, P: Pool>(
-    means: &mut Means<'_, R, P>,
+    interp: &mut Interp<'_, R, P>,
     pla: &Pla,
     job: &Job,
     bits: u32,
@@ -94,9 +99,9 @@ fn seek_leads<R: Threads + Sync, P: Pool>(
     requires basis { job.now.mode ≡ Basis }
     requires within { IsWithin job.now }
     requires bits { (MIN_BITS ≤ bits) × (bits ≤ job.now.nodes) }
-    requires room { P.done means.old.pool.now < 2 ^ 28 }
+    requires room { P.done interp.old.pool.now < 2 ^ 28 }
     requires consistent { IsConsistent pla.now.inputs pla.now.outputs pla.now.rows }
-    ensures same_pool { means.new.pool.ghost_name ≡ means.old.pool.ghost_name }
+    ensures same_pool { interp.new.pool.ghost_name ≡ interp.old.pool.ghost_name }
     ensures leads { IfOk result (λ r. AreLeads (description pla.now) job.now.mode r.0) }
     ensures bits { IfOk result (λ r. (MIN_BITS ≤ r.1) × (r.1 ≤ job.now.nodes)) }
     ensures fits { OnOk result (FirstFits job.now (description pla.now)) }
@@ -104,11 +109,11 @@ fn seek_leads<R: Threads + Sync, P: Pool>(
         → 2 ^ job.now.nodes < first_nodes (description pla.now) job.now.mode }
     ensures terms { IsErrOf result Unsolved.Terms
         → IsDueSolving job.now (description pla.now) (silent (outcomes.Terms job.now.terms)) }
-    ensures most { P.done means.new.pool.now ≤ P.done means.old.pool.now + 2 ^ 25 }
+    ensures most { P.done interp.new.pool.now ≤ P.done interp.old.pool.now + 2 ^ 25 }
 {
-    match try_leads(means, pla, job, bits) {
+    match try_leads(interp, pla, job, bits) {
         Err(Unsolved::Full) if bits < job.nodes => {
-            let leads = try_leads(means, pla, job, job.nodes)?;
+            let leads = try_leads(interp, pla, job, job.nodes)?;
             Ok((leads, job.nodes))
         }
         leads => Ok((leads?, bits)),
@@ -146,7 +151,7 @@ fn count_first_points<S: Store>(store: &mut S, pla: &Pla, mode: Mode, cares: &[V
 // The solution, where all phases fit 2^bits slots and its terms are within the limit. In mode basis
 // phase 1 is known to be within its own limits, and its families are built again.
 fn try_solution<R: Threads + Sync, P: Pool>(
-    means: &mut Means<'_, R, P>,
+    interp: &mut Interp<'_, R, P>,
     pla: &Pla,
     job: &Job,
     leads: &[Monos],
@@ -154,33 +159,33 @@ fn try_solution<R: Threads + Sync, P: Pool>(
 ) -> Result<Solution, Unsolved>
     requires within { IsWithin job.now }
     requires bits { (MIN_BITS ≤ bits) × (bits ≤ job.now.nodes) }
-    requires room { P.done means.old.pool.now < 2 ^ 29 }
+    requires room { P.done interp.old.pool.now < 2 ^ 29 }
     requires consistent { IsConsistent pla.now.inputs pla.now.outputs pla.now.rows }
     requires leads { AreLeads (description pla.now) job.now.mode leads.now }
     requires fits { is_basis job.now.mode ≡ true → FirstFits job.now (description pla.now) }
-    ensures same_pool { means.new.pool.ghost_name ≡ means.old.pool.ghost_name }
+    ensures same_pool { interp.new.pool.ghost_name ≡ interp.old.pool.ghost_name }
     ensures points { IfOk result (λ s. let d = description pla.now in job.now.mode ≡ Gen
         → s.points ≡ length (zeros_in d 1) + length (ones_in d 1)) }
     ensures ok { IfOk result (λ s. AreAnswers (description pla.now) job.now.mode
         (map shown_answer s.shown.items)
         × IsDueSolving job.now (description pla.now)
         (solved job.now (description pla.now) (map shown_answer s.shown.items))) }
-    ensures jobs { IfOk result (λ s. P.done means.old.pool.now
-        + jobs_for job.now.mode (map shown_answer s.shown.items) ≤ P.done means.new.pool.now) }
+    ensures jobs { IfOk result (λ s. P.done interp.old.pool.now
+        + jobs_for job.now.mode (map shown_answer s.shown.items) ≤ P.done interp.new.pool.now) }
     ensures full { IsErrOf result Unsolved.Full
         → 2 ^ bits < last_nodes (description pla.now) job.now.mode }
     ensures terms { IsErrOf result Unsolved.Terms
         → IsDueSolving job.now (description pla.now) (silent (outcomes.Terms job.now.terms)) }
-    ensures least { P.done means.old.pool.now ≤ P.done means.new.pool.now }
-    ensures most { P.done means.new.pool.now ≤ P.done means.old.pool.now + 2 ^ 25 }
+    ensures least { P.done interp.old.pool.now ≤ P.done interp.new.pool.now }
+    ensures most { P.done interp.new.pool.now ≤ P.done interp.old.pool.now + 2 ^ 25 }
 {
-    let (table, token) = Shared::make(means.alloc, bits, pla.inputs, run_plan(pla, job.mode))?;
+    let (table, token) = Shared::make(interp.alloc, bits, pla.inputs, run_plan(pla, job.mode))?;
     let mut pass = CachedPass::new(table.pass(token));
     let workers = workers_on(job, bits, job.mode != Mode::Basis);
-    let first = run_first_phase(means, &mut pass, workers, pla, job.mode)?;
+    let first = run_first_phase(interp, &mut pass, workers, pla, job.mode)?;
     let points = count_first_points(&mut pass, pla, job.mode, &first.cares);
     let elements = run_second_phase(
-        means,
+        interp,
         &mut pass,
         workers_on(job, bits, true),
         pla,
@@ -189,7 +194,7 @@ fn try_solution<R: Threads + Sync, P: Pool>(
         leads,
     )?;
     let shown = list_shown(
-        means.alloc,
+        interp.alloc,
         &mut pass,
         &first.found,
         leads,
@@ -201,7 +206,7 @@ fn try_solution<R: Threads + Sync, P: Pool>(
 
 // The same from a table of 2^bits slots on.
 fn seek_solution<R: Threads + Sync, P: Pool>(
-    means: &mut Means<'_, R, P>,
+    interp: &mut Interp<'_, R, P>,
     pla: &Pla,
     job: &Job,
     leads: &[Monos],
@@ -209,27 +214,27 @@ fn seek_solution<R: Threads + Sync, P: Pool>(
 ) -> Result<Solution, Unsolved>
     requires within { IsWithin job.now }
     requires bits { (MIN_BITS ≤ bits) × (bits ≤ job.now.nodes) }
-    requires room { P.done means.old.pool.now < 2 ^ 28 }
+    requires room { P.done interp.old.pool.now < 2 ^ 28 }
     requires consistent { IsConsistent pla.now.inputs pla.now.outputs pla.now.rows }
     requires leads { AreLeads (description pla.now) job.now.mode leads.now }
     requires fits { is_basis job.now.mode ≡ true → FirstFits job.now (description pla.now) }
-    ensures same_pool { means.new.pool.ghost_name ≡ means.old.pool.ghost_name }
+    ensures same_pool { interp.new.pool.ghost_name ≡ interp.old.pool.ghost_name }
     ensures points { IfOk result (λ s. let d = description pla.now in job.now.mode ≡ Gen
         → s.points ≡ length (zeros_in d 1) + length (ones_in d 1)) }
     ensures ok { IfOk result (λ s. AreAnswers (description pla.now) job.now.mode
         (map shown_answer s.shown.items)
         × IsDueSolving job.now (description pla.now)
         (solved job.now (description pla.now) (map shown_answer s.shown.items))) }
-    ensures jobs { IfOk result (λ s. P.done means.old.pool.now
-        + jobs_for job.now.mode (map shown_answer s.shown.items) ≤ P.done means.new.pool.now) }
+    ensures jobs { IfOk result (λ s. P.done interp.old.pool.now
+        + jobs_for job.now.mode (map shown_answer s.shown.items) ≤ P.done interp.new.pool.now) }
     ensures full { IsErrOf result Unsolved.Full
         → 2 ^ job.now.nodes < last_nodes (description pla.now) job.now.mode }
     ensures terms { IsErrOf result Unsolved.Terms
         → IsDueSolving job.now (description pla.now) (silent (outcomes.Terms job.now.terms)) }
 {
-    match try_solution(means, pla, job, leads, bits) {
+    match try_solution(interp, pla, job, leads, bits) {
         Err(Unsolved::Full) if bits < job.nodes => {
-            try_solution(means, pla, job, leads, job.nodes)
+            try_solution(interp, pla, job, leads, job.nodes)
         }
         solution => solution,
     }
@@ -238,14 +243,14 @@ fn seek_solution<R: Threads + Sync, P: Pool>(
 // The leads of each output, which are none but in mode basis, and the size of the table to go on
 // with.
 fn prepare_leads<R: Threads + Sync, P: Pool>(
-    means: &mut Means<'_, R, P>,
+    interp: &mut Interp<'_, R, P>,
     pla: &Pla,
     job: &Job,
 ) -> Result<(MonoLists, u32), Unsolved>
     requires within { IsWithin job.now }
-    requires room { P.done means.old.pool.now < 2 ^ 28 }
+    requires room { P.done interp.old.pool.now < 2 ^ 28 }
     requires consistent { IsConsistent pla.now.inputs pla.now.outputs pla.now.rows }
-    ensures same_pool { means.new.pool.ghost_name ≡ means.old.pool.ghost_name }
+    ensures same_pool { interp.new.pool.ghost_name ≡ interp.old.pool.ghost_name }
     ensures leads { IfOk result (λ r. AreLeads (description pla.now) job.now.mode r.0) }
     ensures bits { IfOk result (λ r. (MIN_BITS ≤ r.1) × (r.1 ≤ job.now.nodes)) }
     ensures fits { OnOk result (is_basis job.now.mode ≡ true
@@ -254,18 +259,21 @@ fn prepare_leads<R: Threads + Sync, P: Pool>(
         → 2 ^ job.now.nodes < first_nodes (description pla.now) job.now.mode }
     ensures terms { IsErrOf result Unsolved.Terms
         → IsDueSolving job.now (description pla.now) (silent (outcomes.Terms job.now.terms)) }
-    ensures most { P.done means.new.pool.now ≤ P.done means.old.pool.now + 2 ^ 25 }
+    ensures most { P.done interp.new.pool.now ≤ P.done interp.old.pool.now + 2 ^ 25 }
 {
     let bits = first_bits(pla, job.nodes, job.mode == Mode::Basis);
     match job.mode {
-        Mode::Basis => seek_leads(means, pla, job, bits),
-        Mode::Anf | Mode::Check | Mode::Gen => Ok((list_no_leads(means.alloc, pla.outputs)?, bits)),
+        Mode::Basis => seek_leads(interp, pla, job, bits),
+        Mode::Anf | Mode::Check | Mode::Gen => Ok((
+            list_no_leads(interp.alloc, pla.outputs)?,
+            bits,
+        )),
     }
 }
 
 impl Unsolved {
     // How the run of the job ends.
-    fn outcome(self, job: &Job) -> Outcome
+    fn outcome(self, job: &Job) -> Outcome<OwnEnd>
         requires { job.now.nodes ≤ MAX_BITS }
         ensures { result ≡ unsolved_outcome job.now self }
     {
@@ -282,14 +290,14 @@ impl Unsolved {
 /// The solution of a consistent description, or how the run ends without it. The pool answers the
 /// jobs, which the job's number of workers run; their branches enter the gate.
 pub(crate) fn solve<R: Threads + Sync, P: Pool>(
-    means: &mut Means<'_, R, P>,
+    interp: &mut Interp<'_, R, P>,
     pla: &Pla,
     job: &Job,
-) -> Result<Solution, Outcome>
+) -> Result<Solution, Outcome<OwnEnd>>
     requires within { IsWithin job.now }
-    requires fresh { P.done means.old.pool.now ≡ 0 }
+    requires fresh { P.done interp.old.pool.now ≡ 0 }
     requires consistent { IsConsistent pla.now.inputs pla.now.outputs pla.now.rows }
-    ensures same_pool { means.new.pool.ghost_name ≡ means.old.pool.ghost_name }
+    ensures same_pool { interp.new.pool.ghost_name ≡ interp.old.pool.ghost_name }
     ensures points { IfOk result (λ s. let d = description pla.now in job.now.mode ≡ Gen
         → s.points ≡ length (zeros_in d 1) + length (ones_in d 1)) }
     ensures ok { IfOk result (λ s. AreAnswers (description pla.now) job.now.mode
@@ -297,15 +305,15 @@ pub(crate) fn solve<R: Threads + Sync, P: Pool>(
         × IsDueSolving job.now (description pla.now)
         (solved job.now (description pla.now) (map shown_answer s.shown.items))) }
     ensures jobs { IfOk result (λ s. jobs_for job.now.mode (map shown_answer s.shown.items)
-        ≤ P.done means.new.pool.now) }
-    ensures err { IfErr result (EndsUnsolved job.now (description pla.now)) }
-    ensures unfinished { IfErr result (λ o. o ≢ outcomes.Done) }
+        ≤ P.done interp.new.pool.now) }
+    ensures err { IfErr result (EndsWithout (IsDueSolving job.now (description pla.now))) }
+    ensures unfinished { IfErr result (λ o. ¬ HasText end_way o) }
 {
-    let (leads, bits) = match prepare_leads(means, pla, job) {
+    let (leads, bits) = match prepare_leads(interp, pla, job) {
         Ok(found) => found,
         Err(unsolved) => return Err(unsolved.outcome(job)),
     };
-    match seek_solution(means, pla, job, leads.as_slice(), bits) {
+    match seek_solution(interp, pla, job, leads.as_slice(), bits) {
         Ok(solution) => Ok(solution),
         Err(unsolved) => Err(unsolved.outcome(job)),
     }

@@ -1,17 +1,19 @@
 //! Mode gen: the summary of the description that a seed makes.
-ghost use Rattle.std.specs.Prelude.{◌≡◌, ◌≢◌, ◌≤◌, ◌∷◌, ◌++◌, [], IfErr, IfOk, OnOk, List, ℕ};
+ghost use Rattle.std.specs.Prelude.{◌≡◌, ◌≤◌, ◌++◌, [], IfErr, IfOk, OnOk};
 ghost use Rattle.std.specs.Prelude.{codes, decimal, length, map};
 ghost use Rattle.std.specs.List.{enumerate_from, flat_map};
 ghost use Rattle.lattice.specs.declared.kind.Mode.TheVariants.{Gen};
 ghost use Rattle.anf_printer.specs.Text.{shown_answer};
 ghost use Rattle.cli_words.specs.CommandLine.{IsWithin};
+ghost use Rattle.program.specs.Duties.{done};
+ghost use Rattle.program.specs.Outcomes.{HasText};
+ghost use Rattle.program.specs.Runs.{EndsWithout};
 ghost use Rattle.interp_run.specs.Answers.{summary_line};
 ghost use Rattle.interp_run.specs.Due.{IsDue};
-ghost use Rattle.interp_run.specs.Parts.{EndsWithout};
-ghost use Rattle.interp_run.specs.declared.outcome.Outcome.TheVariants as outcomes;
+ghost use Rattle.interp_run.specs.Ends.{end_way};
 
-use crate::Outcome;
-use crate::means::Means;
+use crate::ends::OwnEnd;
+use crate::means::Interp;
 use crate::solve::solve;
 use anf_printer::Shown;
 use cli_words::Job;
@@ -19,6 +21,7 @@ use fork_branches::Pool;
 use gen_pla::generate;
 use itoa::Buffer;
 use lattice::{Memory, Text};
+use program::Outcome;
 use std::alloc::{AllocError, Global};
 use std::thread::Threads;
 
@@ -74,24 +77,23 @@ fn print_summary(alloc: Global, points: u64, shown: &[Shown]) -> Result<Text, Me
 
 /// The summary of the description that the job's seed makes, or how the run ends without it.
 pub(crate) fn summarize<R: Threads + Sync, P: Pool>(
-    means: &mut Means<'_, R, P>,
+    interp: &mut Interp<'_, R, P>,
     job: &Job,
-) -> Result<Text, Outcome>
+) -> Result<Text, Outcome<OwnEnd>>
     requires mode { job.now.mode ≡ Gen }
     requires within { IsWithin job.now }
-    requires fresh { P.done means.old.pool.now ≡ 0 }
-    ensures same_pool { means.new.pool.ghost_name ≡ means.old.pool.ghost_name }
-    ensures ok { IfOk result (λ text. (bytes : List ℕ)
-        → IsDue job.now bytes (record { outcome = outcomes.Done; pages = text ∷ []; notes = [] })) }
-    ensures jobs { OnOk result (2 ≤ P.done means.new.pool.now) }
-    ensures unfinished { IfErr result (λ o. o ≢ outcomes.Done) }
-    ensures err { IfErr result (λ o. (bytes : List ℕ) → EndsWithout job.now bytes o) }
+    requires fresh { P.done interp.old.pool.now ≡ 0 }
+    ensures same_pool { interp.new.pool.ghost_name ≡ interp.old.pool.ghost_name }
+    ensures ok { IfOk result (λ text. IsDue job.now [] (done text)) }
+    ensures jobs { OnOk result (2 ≤ P.done interp.new.pool.now) }
+    ensures err { IfErr result (EndsWithout (IsDue job.now [])) }
+    ensures unfinished { IfErr result (λ o. ¬ HasText end_way o) }
 {
-    let Ok(pla) = generate(means.alloc, job.seed) else {
+    let Ok(pla) = generate(interp.alloc, job.seed) else {
         return Err(Outcome::Memory);
     };
-    let solution = solve(means, &pla, job)?;
-    match print_summary(means.alloc, solution.points, &solution.shown) {
+    let solution = solve(interp, &pla, job)?;
+    match print_summary(interp.alloc, solution.points, &solution.shown) {
         Ok(text) => Ok(text),
         Err(Memory) => Err(Outcome::Memory),
     }

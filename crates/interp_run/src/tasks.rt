@@ -12,7 +12,7 @@ ghost use Rattle.pla_reader.specs.Reading.{description};
 ghost use Rattle.interp_run.specs.Phases.{AreCares, AreDone, IsPart, IsTask, element_list, jobs_of};
 ghost use Rattle.interp_run.specs.Phases.{no_task, part_family, part_list, task_family, task_list};
 
-use crate::means::Means;
+use crate::means::Interp;
 use crate::phases::Unsolved;
 use bool_poly::SetOps;
 use computed_cache::CachedPass;
@@ -180,13 +180,13 @@ impl Jobs for Tasks<'_> {
 
 /// Runs the tasks as jobs of the pool, by so many workers: what each of them finds.
 pub(crate) fn run_tasks<R: Threads + Sync, P: Pool>(
-    means: &mut Means<'_, R, P>,
+    interp: &mut Interp<'_, R, P>,
     store: &mut CachedPass,
     workers: u32,
     tasks: &Tasks,
 ) -> Result<Vec<Handle>, Unsolved>
     requires workers { (1 ≤ workers) × (workers ≤ 16) }
-    requires room { P.done means.old.pool.now < 2 ^ 30 }
+    requires room { P.done interp.old.pool.now < 2 ^ 30 }
     requires vars { (cached_state store.old).vars ≡ tasks.now.pla.now.inputs }
     requires cares { AreCares (cached_state store.old) (description tasks.now.pla.now)
         tasks.now.pla.now.outputs tasks.now.cares.now }
@@ -196,18 +196,16 @@ pub(crate) fn run_tasks<R: Threads + Sync, P: Pool>(
     ensures grows { Grows (cached_state store.old) (cached_state store.new) }
     ensures done { IfOk result (λ found. AreDone (cached_state store.new)
         (description tasks.now.pla.now) tasks.now.list.now found.items) }
-    ensures same_pool { means.new.pool.ghost_name ≡ means.old.pool.ghost_name }
-    ensures jobs { OnOk result (P.done means.old.pool.now + length tasks.now.list.now
-        ≤ P.done means.new.pool.now) }
-    ensures least { P.done means.old.pool.now ≤ P.done means.new.pool.now }
-    ensures most { P.done means.new.pool.now
-        ≤ P.done means.old.pool.now + length tasks.now.list.now }
+    ensures same_pool { interp.new.pool.ghost_name ≡ interp.old.pool.ghost_name }
+    ensures jobs { OnOk result (P.done interp.old.pool.now + length tasks.now.list.now
+        ≤ P.done interp.new.pool.now) }
+    ensures least { P.done interp.old.pool.now ≤ P.done interp.new.pool.now }
+    ensures most { P.done interp.new.pool.now
+        ≤ P.done interp.old.pool.now + length tasks.now.list.now }
     ensures full { IsErrOf result Unsolved.Full
         → IsFull (cached_state store.old) (cached_state store.new) }
     ensures counted { ¬ IsErrOf result Unsolved.Terms }
 {
-    let found = means
-        .pool
-        .all(means.rt, means.alloc, store, tasks, means.gate, workers)?;
+    let found = interp.pool.all(interp.rt, interp.alloc, store, tasks, interp.gate, workers)?;
     Ok(found)
 }

@@ -22,9 +22,7 @@ use Rattle.program.specs.Runs.{no_memory, no_memory_for_words}
 use Rattle.program.specs.Runs.{out_of_memory, read_fault, refused}
 use Rattle.program.specs.declared.outcome.Outcome.{Outcome}
 use Rattle.program.specs.declared.outcome.Outcome.TheVariants as ends
-use Rattle.program.proofs.Streams.{bytes_behind, read_all, read_over}
--- What a sink holds where it gains nothing, and the bytes that a source has.
-pub use Rattle.program.proofs.Streams.{appends_nothing, bytes_of_source, keeps_nothing, keeps_same}
+use Rattle.program.proofs.Streams.{appends_nothing, bytes_behind, bytes_of_source, keeps_nothing, keeps_same, read_all, read_over}
 
 -- ---- answers by what is due
 

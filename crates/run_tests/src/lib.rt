@@ -5,6 +5,6 @@
 #[cfg(test)]
 mod of_interp_run;
 #[cfg(test)]
-mod of_run_parts;
+mod of_program;
 #[cfg(test)]
 mod of_uses_library;

@@ -3,10 +3,11 @@ ghost use Rattle.watch.specs.Notes.{states_by};
 
 use cli_words::Job;
 use fork_branches::{Drawn, Pool, Solved};
-use interp_run::{Outcome, answer_of, run};
+use interp_run::{answer_of, run};
 use lattice::{Mode, Words};
 use node_store::Handle;
 use outside::{MemSink, MemSource, Rendezvous};
+use program::Outcome;
 use std::alloc::{AllocError, Global};
 use std::process::Abort;
 use std::test::Fail;
@@ -810,6 +811,12 @@ fn answers_as_values(rt: HostRuntime) -> Result<(), Fail> {
     assert!(rt;
         matches!(refused, Err(Outcome::Terms { limit: 3 })),
         "terms"
+    );
+    let long = vec![in alloc; b'\n'; 4_194_305]?;
+    let refused = answer_of(&rt, alloc, &job, &mut Drawn::new(), &long, &gate);
+    assert!(rt;
+        matches!(refused, Err(Outcome::TooLong { limit: 4_194_304 })),
+        "bytes"
     );
     Ok(())
 }

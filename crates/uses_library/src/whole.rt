@@ -2,8 +2,11 @@
 ghost use Rattle.std.specs.Prelude.{◌≡◌, ◌≢◌, ◌⊎◌, [], List, IfOk};
 ghost use Rattle.std.specs.List.{concat};
 ghost use Rattle.cli_words.specs.declared.job.Job.{Job};
-ghost use Rattle.interp_run.specs.Due.{Due, IsDue};
-ghost use Rattle.interp_run.specs.Run.{HasText, IsAsked, status_of};
+ghost use Rattle.program.specs.Duties.{IsDueFor};
+ghost use Rattle.program.specs.Outcomes.{HasText, status_of};
+ghost use Rattle.interp_run.specs.Due.{InterpDue};
+ghost use Rattle.interp_run.specs.Duty.{IsAsked, interp_duty};
+ghost use Rattle.interp_run.specs.Ends.{end_way};
 
 use fork_branches::Drawn;
 use interp_run::run;
@@ -29,10 +32,10 @@ pub fn run_on<R: Threads + Sync>(
     file: &[u8],
     room: usize,
 ) -> Result<Ended, Memory>
-    ensures due { IfOk result (λ e. (job : Job) (due : Due) → IsAsked words.now job
-        → IsDue job file.now due → HasText due.outcome
+    ensures due { IfOk result (λ e. (job : Job) (due : InterpDue) → IsAsked words.now job
+        → IsDueFor interp_duty job file.now due → HasText end_way due.outcome
         → e.out.faults ≡ 0 → (e.status ≡ 7)
-        ⊎ ((e.status ≡ status_of due.outcome) × (e.out.held ≡ concat due.pages))) }
+        ⊎ ((e.status ≡ status_of end_way due.outcome) × (e.out.held ≡ concat due.pages))) }
     ensures nothing { IfOk result
         (λ e. e.status ≢ 0 → e.status ≢ 1 → e.status ≢ 9 → e.out.held ≡ []) }
 {

@@ -1,4 +1,4 @@
-use Rattle.std.proofs.Common.{◌∙◌, Err, ap, sym}
+use Rattle.std.proofs.Common.{Err, ap}
 use Rattle.pla_reader.specs.Reading.{description}
 use Rattle.interp_run.proofs.SolvedAnswers.{first_nodes_over, last_nodes_over, unsolved_ends, unsolved_unfinished}
 use Rattle.interp_run.proofs.solve.solve.Goals as goal
@@ -9,7 +9,7 @@ returns-in-Err-clause-err g c = let d = description c.args.pla.now in let job = 
     (λ is. first_nodes_over job d c.requires.consistent (c.in-Err.ensures.full (ap Err is))) (λ is. c.in-Err.ensures.terms (ap Err is)))
 
 pub returns-in-Err-clause-unfinished : goal.returns-in-Err-clause-unfinished
-returns-in-Err-clause-unfinished g c = λ e. unsolved_unfinished c.args.job.now c.in-Err.unsolved (sym c.outcome.ensures ∙ e)
+returns-in-Err-clause-unfinished g c = rw c.outcome.ensures (unsolved_unfinished c.args.job.now c.in-Err.unsolved)
 
 pub seek_solution-requires-clause-leads : goal.seek_solution-requires-clause-leads
 seek_solution-requires-clause-leads g c κs within = rw c.as_slice.ensures c.in-Ok.ensures.leads
@@ -22,4 +22,4 @@ returns-clause-err g c = let d = description c.args.pla.now in let job = c.args.
 
 pub returns-clause-unfinished : goal.returns-clause-unfinished
 returns-clause-unfinished g c =
-    λ e. unsolved_unfinished c.args.job.now c.in-Err-seek_solution.unsolved (sym c.outcome-in-Err-seek_solution.ensures ∙ e)
+    rw c.outcome-in-Err-seek_solution.ensures (unsolved_unfinished c.args.job.now c.in-Err-seek_solution.unsolved)

@@ -1,8 +1,10 @@
-use Rattle.std.proofs.Common.{Ok, ap, arith, subst, sym}
+use Rattle.std.proofs.Common.{Ok, [], ap, arith, subst, sym}
 use Rattle.lattice.specs.Words.{IsConsistent}
 use Rattle.pla_reader.specs.Reading.{Description, description}
-use Rattle.interp_run.specs.Due.{is_gen, solving}
-use Rattle.interp_run.specs.Parts.{EndsWithout, no_memory}
+use Rattle.program.specs.Outcomes.{HasText}
+use Rattle.program.specs.Runs.{EndsWithout, no_memory}
+use Rattle.interp_run.specs.Due.{IsDue, is_gen, solving}
+use Rattle.interp_run.specs.Ends.{end_way}
 use Rattle.interp_run.proofs.Due.{if_err, unsolved_ends}
 use Rattle.interp_run.proofs.summary.summarize.Goals as goal
 
@@ -11,7 +13,7 @@ solve-requires-clause-consistent g c κs within =
     subst (λ (d : Description). IsConsistent d.inputs d.outputs d.rows) (sym c.in-Ok.ensures.file) c.in-Ok.ensures.consistent
 
 pub returns-in-Ok-print_summary-clause-ok : goal.returns-in-Ok-print_summary-clause-ok
-returns-in-Ok-print_summary-clause-ok g c = λ bytes.
+returns-in-Ok-print_summary-clause-ok g c =
     let d = description c.in-Ok.pla in let gen = ap is_gen c.requires.mode in
     let text = rw (c.in_ok-solution.ensures.points c.requires.mode, c.deref.ensures.value) at c.in-Ok-print_summary.ensures in
     rw text (solving d _ (rw gen (ap Ok (sym c.in-Ok.ensures.file))) (rw c.requires.mode tt) (rw gen at c.in_ok-solution.ensures.ok.1))
@@ -23,12 +25,16 @@ returns-in-Ok-print_summary-clause-jobs g c =
 
 pub returns-in_err-solution-clause-err : goal.returns-in_err-solution-clause-err
 returns-in_err-solution-clause-err g c =
-    if_err c.from_residual.result _ (λ o. (bytes : _) → EndsWithout c.args.job.now bytes o) c.from_residual.ensures.1
-    (λ bytes. unsolved_ends (rw (ap is_gen c.requires.mode) (ap Ok (sym c.in-Ok.ensures.file))) (rw c.requires.mode tt)
+    if_err c.from_residual.result _ (EndsWithout (IsDue c.args.job.now [])) c.from_residual.ensures.1
+    (unsolved_ends (rw (ap is_gen c.requires.mode) (ap Ok (sym c.in-Ok.ensures.file))) (rw c.requires.mode tt)
     c.in_err-solution.ensures.err)
 
+pub returns-in_err-solution-clause-unfinished : goal.returns-in_err-solution-clause-unfinished
+returns-in_err-solution-clause-unfinished g c =
+    if_err c.from_residual.result _ (λ o. ¬ HasText end_way o) c.from_residual.ensures.1 c.in_err-solution.ensures.unfinished
+
 pub returns-in_default-clause-err : goal.returns-in_default-clause-err
-returns-in_default-clause-err g c = λ bytes. no_memory
+returns-in_default-clause-err g c = no_memory
 
 pub returns-clause-err : goal.returns-clause-err
-returns-clause-err g c = λ bytes. no_memory
+returns-clause-err g c = no_memory

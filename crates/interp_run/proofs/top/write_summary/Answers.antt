@@ -1,32 +1,17 @@
-use Rattle.std.proofs.Common.{◌≡◌, ◌∙◌, [], arith, false, rules, sym, true, ⊎_elim}
-use Rattle.std.specs.Prelude.{OnErr, OnOk, Result}
-use Rattle.std.specs.Result.{is_err}
-use Rattle.interp_run.proofs.Due.{ends_paged, ends_within, ends_without, without_owed}
+use Rattle.std.proofs.Common.{ap}
+use Rattle.program.proofs.Endings.{answers_done, answers_without}
+use Rattle.interp_run.specs.Due.{is_gen}
+use Rattle.interp_run.proofs.Due.{summary_jobs, without_fault}
 use Rattle.interp_run.proofs.top.write_summary.Goals as goal
 
--- what holds after an error, and after success
-after_err : {T E : Type 0} (r : Result T E) (P : Type 0) → is_err r ≡ true → OnErr r P → P
-after_err r P is p = grind arith
+pub returns-in-Err-clause-answers : goal.returns-in-Err-clause-answers
+returns-in-Err-clause-answers g c =
+    λ states. answers_without (g.K.Sink.held c.args.out.now) (λ has. absurd (c.in-Err.ensures.unfinished has)) c.in-Err.ensures.err
 
-after_ok : {T E : Type 0} (r : Result T E) (P : Type 0) → is_err r ≡ false → OnOk r P → P
-after_ok r P is p = grind arith
+pub returns-in-Err-clause-write : goal.returns-in-Err-clause-write
+returns-in-Err-clause-write g c = λ fault. absurd (without_fault c.in-Err.ensures.err fault)
 
-pub returns-in-Err : goal.returns-in-Err
-returns-in-Err g c =
-    let owed = without_owed (c.in-Err.ensures.err []) in
-    record {
-      same_pool = search rules;
-      read = (owed.0, owed.1);
-      write = λ e. absurd (owed.2 e);
-      jobs = λ ended. absurd (⊎_elim c.in-Err.ensures.unfinished owed.2 ended);
-      ends = λ words whole states asked. ends_without asked (c.in-Err.ensures.err whole);
-    }
-
-pub returns-then-is_err-clause-ends : goal.returns-then-is_err-clause-ends
-returns-then-is_err-clause-ends g c = λ words whole states asked.
-    ends_within asked (c.in-Ok.ensures.ok whole) (omega arith)
-    (rw c.as_slice.ensures at (after_err c.write_whole.result _ (sym c.is_err.ensures.value ∙ c.if-is_err.true) c.write_whole.ensures.less))
-
-pub returns-clause-ends : goal.returns-clause-ends
-returns-clause-ends g c = λ words whole states asked. ends_paged asked (c.in-Ok.ensures.ok whole) (rw c.as_slice.ensures at
-    (after_ok c.write_whole.result _ (sym c.is_err.ensures.value ∙ c.if-is_err.false) c.write_whole.ensures.whole))
+pub returns-in-Ok-clause-answers : goal.returns-in-Ok-clause-answers
+returns-in-Ok-clause-answers g c =
+    λ states. answers_done c.in-Ok.text c.in-Ok.ensures.ok c.write_page.ensures.ends (rw c.as_slice.ensures at c.write_page.ensures.whole)
+    (rw c.as_slice.ensures at c.write_page.ensures.less) (summary_jobs (ap is_gen c.requires.mode) c.in-Ok.ensures.jobs)
