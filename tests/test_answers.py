@@ -18,7 +18,7 @@ sys.path.insert(0, str(TOP / "tools"))
 from leastanf import answers
 from leastanf.answers import AnswerError
 from leastanf.formats import FORMATS
-from leastanf.polynomials import Monomials, Polynomial
+from leastanf.polynomials import Monomials, Polynomial, bits_of
 
 ANSWER_AS = [sys.executable, TOP / "tools/answer_as"]
 
@@ -105,6 +105,11 @@ class Polynomials(Test):
                 mask = draws.getrandbits(width)
                 wanted = tuple(name for place, name in enumerate(inputs) if mask >> (width - 1 - place) & 1)
                 self.assertEqual(found.of(mask), wanted)
+                self.assertEqual(found.terms([mask, 0]), ["*".join(wanted) or "1", "1"])
+                masks = sorted({draws.getrandbits(width) & draws.getrandbits(width) for _ in range(50)}, reverse=True)
+                text = plain_polynomials.text(masks, inputs)
+                self.assertEqual(found.text(masks), text)
+                self.assertEqual(answers.masks_of(text, bits_of(inputs)), masks)
 
 
 class Reading(Test):

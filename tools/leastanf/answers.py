@@ -2,6 +2,7 @@
 
 import math
 import operator
+import re
 
 from . import formats
 from .factors import COMPLEMENT, factors_of
@@ -76,25 +77,54 @@ def monomials_of(text):
     return [() if term == "1" else tuple(term.split("*")) for term in text.split(" + ")]
 
 
+# Terms are cut before the first of so many factors, the last ones. Their parts are kept, but for those that are longer,
+# which are cut again.
+LAST, LONGEST = 12, 40
+
+
 def masks_of(text, bits):
-    """The monomials of a polynomial's text, each the sum of the bits of its factors, or an AnswerError. The halves of
-    terms are kept, as most of them come again."""
+    """The monomials of a polynomial's text, each the sum of the bits of its factors, or an AnswerError. The bits stand
+    in the order that factors have in the text, as far as it is in order, which makes it fast."""
     if text == "0":
         return []
-    bit, kept, found = bits.__getitem__, {"": 0}, []
-    try:
-        for term in text.split(" + "):
-            middle = term.find("*", len(term) // 2) + 1
-            front, back = term[:middle], term[middle:]
-            high, low = kept.get(front), kept.get(back) if back else None
-            if high is None:
-                high = kept[front] = sum(map(bit, front[:-1].split("*")))
-            if low is None:
-                low = 0 if term == "1" else kept.setdefault(back, sum(map(bit, back.split("*"))))
-            found.append(high + low)
-    except KeyError as error:
-        raise AnswerError(None, f"{error.args[0][:60]!r} is no input of the file") from None
+    terms, masks = text.split(" + "), Masks(bits)
+    cut = re.compile(rf"\*(?:{'|'.join(map(re.escape, last_factors(terms, bits)))})(?![^*])").search
+    front, size, base, found = " ", 0, 0, []
+    for term in terms:
+        # A term that begins like the one before, as most do, has its front from there.
+        if not term.startswith(front):
+            met = cut(term)
+            if met is None:
+                found.append(0 if term == "1" else masks[term])
+                continue
+            size = met.start() + 1
+            front, base = term[:size], masks[term[: size - 1]]
+        found.append(base + masks[term[size:]])
     return found
+
+
+def last_factors(terms, bits):
+    """The last factors that occur in some of the terms."""
+    met = set("*".join(terms[:: len(terms) // 100 + 1]).split("*"))
+    return [factor for factor in bits if factor in met][-LAST:] or list(bits)[-LAST:]
+
+
+class Masks(dict):
+    """The masks of products of factors by their texts, as far as they were asked for and are kept."""
+
+    def __init__(self, bits):
+        super().__init__()
+        self.bits = bits
+
+    def __missing__(self, text):
+        middle = text.find("*", len(text) // 2)
+        if len(text) > LONGEST and middle > 0:
+            return self[text[:middle]] + self[text[middle + 1 :]]
+        try:
+            mask = self[text] = sum(map(self.bits.__getitem__, text.split("*")))
+        except KeyError as error:
+            raise AnswerError(None, f"{error.args[0][:60]!r} is no input of the file") from None
+        return mask
 
 
 class Reader:
@@ -104,9 +134,13 @@ class Reader:
     def __init__(self, inputs, aliases, text, ordered=False):
         factors = factors_of(inputs, COMPLEMENT in text)
         self.monomials = Monomials(factors)
-        self.bits = bits_of(factors)
-        self.aliases = {before: after for before, after in (aliases or {}).items() if before not in self.bits}
-        self.bits.update((before, self.bits[after]) for before, after in self.aliases.items() if after in self.bits)
+        bits = bits_of(factors)
+        others = [(before, after) for before, after in (aliases or {}).items() if before not in bits and after in bits]
+        self.aliases = dict(others)
+        bits.update([(before, bits[after]) for before, after in others])
+        self.bits = dict(sorted(bits.items(), key=operator.itemgetter(1), reverse=True))
+        names = {after: before for before, after in others}
+        self.writers = [self.monomials, Monomials(names.get(factor, factor) for factor in factors)][: 1 + bool(names)]
         self.ordered = ordered
 
     def polynomial(self, line, text):
@@ -115,26 +149,32 @@ class Reader:
             masks = masks_of(text, self.bits)
         except AnswerError as error:
             raise AnswerError(line, str(error)) from None
+        if not self.is_in_order(masks, text):
+            return self.refuse_faults(line, text, masks)
+        return Polynomial.of_masks(self.monomials, masks)
+
+    def is_in_order(self, masks, text):
+        """Whether a text is that of these monomials, as it is written, and they descend."""
+        if not all(map(operator.gt, masks, masks[1:])) or masks and masks[0] >> len(self.monomials.factors):
+            return False
+        return any(text == writer.text(masks) for writer in self.writers)
+
+    def refuse_faults(self, line, text, masks):
+        """The polynomial of another text, which is refused where a term or a factor stands twice, and where order is
+        asked for."""
         factors = text.count("*") + len(masks) - masks.count(0)
         if "".join(map(bin, masks)).count("1") != factors:
             raise AnswerError(line, "a term has an input twice")
-        found = Polynomial.of_masks(self.monomials, masks)
-        if self.aliases or str(found) != text or not all(map(operator.gt, masks, masks[1:])):
-            named = ([self.aliases.get(factor, factor) for factor in monomial] for monomial in monomials_of(text))
-            found = Polynomial(named)
-            self.refuse_faults(line, found.monomials, masks)
-        return found
-
-    def refuse_faults(self, line, monomials, masks):
-        """Refuses a polynomial with a term twice, and where order is asked for one in another order."""
         if len(set(masks)) != len(masks):
             raise AnswerError(line, "a term stands twice")
+        found = Polynomial([self.aliases.get(name, name) for name in monomial] for monomial in monomials_of(text))
         before = math.inf
-        for monomial, mask in zip(monomials, masks):
+        for monomial, mask in zip(found.monomials, masks):
             if self.ordered and (mask > before or monomial != self.monomials.of(mask)):
                 term = "*".join(monomial)[:60] or "1"
                 raise AnswerError(line, f"{term!r} does not stand in the order of the inputs: name it by --order")
             before = mask
+        return found
 
 
 def parse(text, inputs, outputs, aliases=None, ordered=False, whole=False):

@@ -88,19 +88,21 @@ class Polynomial:
 
 
 def bits_of(factors):
-    """The bit of each factor, where the first one is the greatest."""
-    return {factor: 1 << place for place, factor in enumerate(reversed(factors))}
+    """The bit of each factor, in their order, where the first one is the greatest."""
+    return {factor: 1 << (len(factors) - 1 - place) for place, factor in enumerate(factors)}
 
 
-# So many factors of a monomial are found at once.
-CHUNK = 8
+# So many factors of a monomial are found at once, and so many of the last ones of its text.
+CHUNK, LAST = 8, 12
 
 
 class Monomials:
-    """Monomials of numbers in which the first of some factors is the greatest bit."""
+    """Monomials of numbers in which the first of some factors is the greatest bit. In their texts `times` stands
+    between factors, and `one` is the text of the monomial without factors."""
 
-    def __init__(self, factors):
+    def __init__(self, factors, times="*", one="1"):
         self.factors = tuple(factors)
+        self.times, self.one = times, one
 
     @functools.cached_property
     def parts(self):
@@ -113,21 +115,52 @@ class Monomials:
             found.insert(0, (shift, parts))
         return found
 
-    @functools.cached_property
-    def words(self):
-        """The same with texts, in which a sign stands behind each factor."""
-        return [(shift, ["".join(f"{factor}*" for factor in part) for part in parts]) for shift, parts in self.parts]
-
     def of(self, mask):
         """The monomial of a number."""
         last = (1 << CHUNK) - 1
         return tuple(itertools.chain.from_iterable([parts[mask >> shift & last] for shift, parts in self.parts]))
 
+    @functools.cached_property
+    def words(self):
+        """The texts of the monomials in the last factors, by their numbers."""
+        words = [""]
+        for factor in reversed(self.factors[-LAST:]):
+            words += [f"{factor}{self.times}{word}" if word else factor for word in words]
+        return [self.one, *words[1:]]
+
+    @functools.cached_property
+    def endings(self):
+        """The same as they stand behind other factors."""
+        return ["", *(f"{self.times}{word}" for word in self.words[1:])]
+
+    @functools.cached_property
+    def before(self):
+        """Those in the factors before the last ones."""
+        return Monomials(self.factors[:-LAST], self.times, "")
+
+    def term(self, mask):
+        """The text of a number."""
+        first = mask >> LAST
+        return self.before.term(first) + self.endings[mask & (1 << LAST) - 1] if first else self.words[mask]
+
+    def terms(self, masks):
+        """The texts of a list of numbers. Those beside each other that have the same first factors, as most have in a
+        list in order, take these from the one before."""
+        words = self.words
+        if len(self.factors) <= LAST:
+            return [words[mask] for mask in masks]
+        endings, last = self.endings, (1 << LAST) - 1
+        found, known, front = [], 0, ""
+        for mask in masks:
+            first = mask >> LAST
+            if first != known:
+                known, front = first, self.before.term(first)
+            found.append(front + endings[mask & last] if first else words[mask])
+        return found
+
     def text(self, masks):
         """The text of a polynomial, its terms in the order of a list of numbers."""
-        last, words = (1 << CHUNK) - 1, self.words
-        terms = ["".join([texts[mask >> shift & last] for shift, texts in words]) or "1*" for mask in masks]
-        return "+ ".join(terms).replace("*+ ", " + ")[:-1] or "0"
+        return " + ".join(self.terms(masks)) or "0"
 
     def polynomial(self, masks):
         """The polynomial of a set of numbers, its terms from the greatest to the least."""

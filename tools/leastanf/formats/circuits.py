@@ -4,6 +4,7 @@ An element of a basis is an output too: element K of output NAME is NAME_K, and 
 ideal_K. A care point is one where all of these are 0.
 """
 
+import functools
 import re
 
 from ..factors import input_of, is_complement
@@ -16,6 +17,9 @@ VERILOG = Language(" ^ ", " & ", ("1'b0", "1'b1"), brackets=True)
 
 # The symbol of an input by the bits that a monomial has for it and for its complement.
 LITERALS = {"00": "-", "10": "1", "01": "0"}
+
+# The symbols of so many inputs, the last ones, are found once for all monomials that have them.
+LAST = 12
 
 # How many names stand on a line.
 ON_A_LINE = 10
@@ -90,13 +94,11 @@ def blif(answer):
     yield ".model anf"
     yield ".inputs " + " \\\n ".join(groups(inputs, " "))
     yield ".outputs " + " \\\n ".join(groups(outputs, " "))
-    for number in diagram.order(roots):
-        factor = diagram.factor(number)
+    starts = {factor: f".names {signal[input_of(factor)]}" for factor in diagram.factors}
+    for number, factor, high, low in diagram.steps():
         one = "0" if is_complement(factor) else "1"
-        high, low = diagram.high(number), diagram.low(number)
-        sources = [signal[input_of(factor)], *(f"{letter}{child}" for child in (high, low) if child > 1)]
-        yield f".names {' '.join(sources)} {letter}{number}"
-        yield from table(one, high, low)
+        above, below = (f" {letter}{child}" if child > 1 else "" for child in (high, low))
+        yield f"{starts[factor]}{above}{below} {letter}{number}\n{table(one, min(high, 2), min(low, 2))}"
     for output, root in zip(outputs, roots):
         yield f".names {output}" if root < 2 else f".names {letter}{root} {output}"
         if root:
@@ -104,14 +106,18 @@ def blif(answer):
     yield ".end"
 
 
+@functools.cache
 def table(one, high, low):
-    """The rows of `low + factor*high`, where the factor is 1 at the symbol that is given; constants have no column."""
+    """The rows of `low + factor*high`, where the factor is 1 at the symbol that is given. High and low are constants,
+    which have no column, or 2."""
     zero = "1" if one == "0" else "0"
+    rows = []
     for factor in (zero, one):
         for above in (high,) if high < 2 else (0, 1):
             for below in (low,) if low < 2 else (0, 1):
                 if below ^ (factor == one and above):
-                    yield f"{factor}{above if high > 1 else ''}{below if low > 1 else ''} 1"
+                    rows.append(f"{factor}{above if high > 1 else ''}{below if low > 1 else ''} 1")
+    return "\n".join(rows)
 
 
 def esop(answer):
@@ -120,8 +126,9 @@ def esop(answer):
     factors = answer.factors()
     rows = {}
     for place, (_, polynomial) in enumerate(named):
+        bit = 1 << (len(named) - 1 - place)
         for mask in polynomial.masks(factors):
-            rows[mask] = rows.get(mask, 0) | 1 << (len(named) - 1 - place)
+            rows[mask] = rows.get(mask, 0) | bit
     yield from comments("#", answer, named, inputs + outputs)
     yield f".i {len(inputs)}"
     yield f".o {len(named)}"
@@ -129,22 +136,25 @@ def esop(answer):
     yield ".ob " + " ".join(outputs)
     yield ".type esop"
     yield f".p {len(rows)}"
-    symbols = cube_symbols(len(inputs)) if len(factors) == len(inputs) else literal_symbols(len(inputs))
-    for mask, values in rows.items():
-        yield f"{symbols(mask)} {values:0{len(named)}b}"
+    bits = len(factors) // len(inputs)
+    back = min(len(inputs), LAST // bits)
+    front, shift, last = len(inputs) - back, back * bits, (1 << back * bits) - 1
+    first_symbols, last_symbols = functools.cache(symbols(front, bits)), functools.cache(symbols(back, bits))
+    ends = {values: f" {values:0{len(named)}b}" for values in set(rows.values())}
+    lines = [first_symbols(mask >> shift) + last_symbols(mask & last) + ends[values] for mask, values in rows.items()]
+    if lines:
+        yield "\n".join(lines)
     yield ".e"
 
 
-def cube_symbols(width):
-    """The symbols of a monomial of inputs."""
-    return lambda mask: f"{mask:0{width}b}".replace("0", "-")
+def symbols(width, bits):
+    """The function that gives the symbols of so many inputs by their bits in a monomial: one for each input, or two, of
+    which the second one is that of its complement."""
+    if bits == 1:
+        return lambda mask: f"{mask:0{width}b}"[:width].replace("0", "-")
 
+    def of_literals(mask):
+        text = f"{mask:0{2 * width}b}"
+        return "".join([LITERALS[text[place : place + 2]] for place in range(0, 2 * width, 2)])
 
-def literal_symbols(width):
-    """The symbols of a monomial in which each input has two bits, that of its complement behind its own."""
-
-    def symbols(mask):
-        bits = f"{mask:0{2 * width}b}"
-        return "".join(LITERALS[bits[place : place + 2]] for place in range(0, 2 * width, 2))
-
-    return symbols
+    return of_literals

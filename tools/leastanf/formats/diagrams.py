@@ -5,24 +5,24 @@ A node stands for the polynomial `low + factor*high`. The nodes 0 and 1 are thes
 """
 
 from bisect import bisect_left
+from itertools import accumulate
 
 # The last factors of a monomial, whose sets are kept as the bits of one number while a diagram is made.
 LEAF_BITS = 6
 
 
 class Diagram:
-    """Nodes that are shared between polynomials over the same factors; a node is a number."""
+    """Nodes that are shared between polynomials over the same factors. A node is a number, greater than those that it
+    needs, and each node but 0 and 1 is needed by a polynomial that was added."""
 
     def __init__(self, factors):
         self.factors = tuple(factors)
         self.nodes = [None, None]
         self._numbers = {}
-        self._leaves = {}
+        self._leaves = [{} for _ in range(LEAF_BITS + 1)]
 
     def node(self, bit, high, low):
-        """The node whose factor has this bit in monomials, which the nodes below do not have."""
-        if high == 0:
-            return low
+        """The node whose factor has this bit in monomials, which the nodes below do not have, where high is not 0."""
         key = bit, high, low
         number = self._numbers.get(key)
         if number is None:
@@ -30,26 +30,25 @@ class Diagram:
             self.nodes.append(key)
         return number
 
-    def factor(self, number):
-        """The factor of a node."""
-        return self.factors[-1 - self.nodes[number][0]]
-
-    def high(self, number):
-        return self.nodes[number][1]
-
-    def low(self, number):
-        return self.nodes[number][2]
+    def steps(self, before=2):
+        """The nodes from a number on: of each its number, its factor, and the nodes high and low."""
+        by_bit = self.factors[::-1]
+        return [(number, by_bit[bit], high, low) for number, (bit, high, low) in enumerate(self.nodes[before:], before)]
 
     def add(self, polynomial):
         """The node of a polynomial."""
-        groups = {}
-        for mask in polynomial.masks(self.factors):
-            key = mask >> LEAF_BITS
-            groups[key] = groups.get(key, 0) | 1 << (mask & (1 << LEAF_BITS) - 1)
-        if not groups:
+        masks = sorted(polynomial.masks(self.factors))
+        if not masks:
             return 0
-        keys = sorted(groups)
-        return self._of_groups(keys, [groups[key] for key in keys], (0, len(keys)), 0)
+        last = (1 << LEAF_BITS) - 1
+        groups = [mask >> LEAF_BITS for mask in masks]
+        ends = {key: end for end, key in enumerate(groups, 1)}
+        # As no monomial stands twice, the sum of a group's bits is their union.
+        sums = [0, *accumulate([1 << (mask & last) for mask in masks])]
+        keys = list(ends)
+        places = [0, *ends.values()]
+        sets = [sums[end] - sums[start] for start, end in zip(places, places[1:])]
+        return self._of_groups(keys, sets, (0, len(keys)), 0)
 
     def _of_groups(self, keys, sets, part, known):
         """The node of a part of the groups, whose greatest factors are known and left out."""
@@ -58,8 +57,8 @@ class Diagram:
             return self._chain(keys[start] ^ known, sets[start])
         bit = (keys[end - 1] ^ known).bit_length() - 1
         middle = bisect_left(keys, known | 1 << bit, start, end)
-        high = self._of_groups(keys, sets, (middle, end), known | 1 << bit)
         low = self._of_groups(keys, sets, (start, middle), known) if middle > start else 0
+        high = self._of_groups(keys, sets, (middle, end), known | 1 << bit)
         return self.node(bit + LEAF_BITS, high, low)
 
     def _chain(self, key, members):
@@ -75,26 +74,14 @@ class Diagram:
 
     def _leaf(self, members, bits):
         """The node of a set of monomials in the last factors, one bit for each monomial."""
-        if members == 0 or bits == 0:
+        if members < 2 or bits == 0:
             return members
-        key = members, bits
-        number = self._leaves.get(key)
+        number = self._leaves[bits].get(members)
         if number is None:
             half = 1 << (bits - 1)
-            high, low = self._leaf(members >> half, bits - 1), self._leaf(members & (1 << half) - 1, bits - 1)
-            number = self._leaves[key] = self.node(bits - 1, high, low)
+            low, high = members & (1 << half) - 1, members >> half
+            number = self._leaf(low, bits - 1)
+            if high:
+                number = self.node(bits - 1, self._leaf(high, bits - 1), number)
+            self._leaves[bits][members] = number
         return number
-
-    def order(self, roots):
-        """The nodes that the roots need, children first."""
-        found, seen = [], {0, 1}
-        stack = [(root, False) for root in reversed(roots)]
-        while stack:
-            number, entered = stack.pop()
-            if entered:
-                found.append(number)
-            elif number not in seen:
-                seen.add(number)
-                _, high, low = self.nodes[number]
-                stack += [(number, True), (high, False), (low, False)]
-        return found

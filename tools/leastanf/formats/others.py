@@ -28,7 +28,8 @@ def cnf(answer):
     for number, name in enumerate(names, 1):
         yield f"c {number} is {name}"
     yield f"p cnf {clauses.last} {len(clauses.lines)}"
-    yield from clauses.lines
+    if clauses.lines:
+        yield "\n".join(clauses.lines)
 
 
 class Clauses:
@@ -38,24 +39,21 @@ class Clauses:
     def __init__(self, answer, last):
         self.inputs = {name: number for number, name in enumerate(answer.inputs, 1)}
         self.diagram = Diagram(answer.factors())
-        self.literals = {}
+        self.literals = [None, None]
         self.last = last
         self.lines = []
 
     def root(self, polynomial):
         """The node of a polynomial, whose clauses are made."""
         root = self.diagram.add(polynomial)
-        for number in self.diagram.order([root]):
-            if number not in self.literals:
-                self.literals[number] = self.literal(number)
+        for _, factor, high, low in self.diagram.steps(len(self.literals)):
+            self.literals.append(self.literal(factor, high, low))
         return root
 
-    def literal(self, number):
+    def literal(self, factor, high, low):
         """The literal of a node `low + factor*high`. A new one for the product is 1 where both are, and one for the sum
         fits an exclusive-or."""
-        factor = self.diagram.factor(number)
         product = -self.inputs[input_of(factor)] if is_complement(factor) else self.inputs[factor]
-        high, low = self.diagram.high(number), self.diagram.low(number)
         if high != 1:
             parts = product, self.literals[high]
             product = self.new()
@@ -119,29 +117,26 @@ def python(answer):
 def as_json(answer):
     """The names of the inputs, and of each output its name, its polynomial and the elements of its basis; or the
     elements of the ideal. A polynomial is a list of monomials, each a list of factors."""
+    factors = answer.factors()
+    write = Monomials(map(json.dumps, factors), ", ", "")
+
+    def monomials(polynomial):
+        return f"[[{'], ['.join(write.terms(polynomial.masks(factors)))}]]" if polynomial.terms else "[]"
+
+    def elements(polynomials):
+        return f"[{', '.join(map(monomials, polynomials))}]"
+
     yield f'{{"inputs": {json.dumps(answer.inputs)},'
     if answer.ideal is None:
         yield '"outputs": ['
         last = len(answer.outputs) - 1
         for place, output in enumerate(answer):
             yield f'{{"name": {json.dumps(output.name)},'
-            yield f'"polynomial": {json_monomials(output.polynomial)},'
-            yield f'"basis": {json_list(output.basis)}}}{"," if place < last else ""}'
+            yield f'"polynomial": {monomials(output.polynomial)},'
+            yield f'"basis": {elements(output.basis)}}}{"," if place < last else ""}'
         yield "]}"
     else:
-        yield f'"ideal": {json_list(answer.ideal)}}}'
-
-
-def json_list(elements):
-    return f"[{', '.join(map(json_monomials, elements))}]"
-
-
-def json_monomials(polynomial):
-    """The monomials of a polynomial, made from its text, since of a long one that takes a small part of the time."""
-    text = json.dumps(str(polynomial))[1:-1]
-    if text == "0":
-        return "[]"
-    return f'[["{text}"]]'.replace(" + ", '"], ["').replace("*", '", "').replace('["1"]', "[]")
+        yield f'"ideal": {elements(answer.ideal)}}}'
 
 
 def latex(answer):
@@ -149,14 +144,14 @@ def latex(answer):
     factors = answer.factors()
     names = [latex_name(input_of(factor)) for factor in factors]
     pairs = zip(factors, names)
-    write = Monomials(f"\\overline{{{name}}}" if is_complement(factor) else name for factor, name in pairs)
+    write = Monomials((f"\\overline{{{name}}}" if is_complement(factor) else name for factor, name in pairs), r"\,")
     lines = []
     for output in answer:
-        lines += latex_lines(latex_name(output.name), write.text(output.polynomial.masks(factors)))
+        lines += latex_lines(latex_name(output.name), write.terms(output.polynomial.masks(factors)))
         for element in output.basis:
-            lines += latex_lines("0", write.text(element.masks(factors)))
+            lines += latex_lines("0", write.terms(element.masks(factors)))
     for element in answer.ideal or ():
-        lines += latex_lines("0", write.text(element.masks(factors)))
+        lines += latex_lines("0", write.terms(element.masks(factors)))
     yield r"\begin{align*}"
     yield " \\\\\n".join(lines)
     yield r"\end{align*}"
@@ -173,11 +168,10 @@ def latex_name(name):
     return "\\mathit{" + "".join(special.get(c, "\\" + c if c in "#$%&_{}" else c) for c in name) + "}"
 
 
-def latex_lines(left, text):
-    """The lines of an equation with a polynomial's text, with a few terms on each."""
-    terms = text.replace("*", r"\,").split(" + ")
+def latex_lines(left, terms):
+    """The lines of an equation with a polynomial's terms, with a few on each."""
     parts = [" + ".join(terms[start : start + TERMS_ON_A_LINE]) for start in range(0, len(terms), TERMS_ON_A_LINE)]
-    return [f"{left} &= {parts[0]}", *(f"&\\quad + {part}" for part in parts[1:])]
+    return [f"{left} &= {parts[0] if parts else '0'}", *(f"&\\quad + {part}" for part in parts[1:])]
 
 
 def dot(answer):
@@ -190,11 +184,10 @@ def dot(answer):
     yield "  1 [shape=box];"
     if 0 in roots:
         yield "  0 [shape=box];"
-    for number in diagram.order(roots):
-        yield f"  {number} [label={quoted(diagram.factor(number))}];"
-        yield f"  {number} -> {diagram.high(number)};"
-        if diagram.low(number):
-            yield f"  {number} -> {diagram.low(number)} [style=dashed];"
+    labels = {factor: f"[label={quoted(factor)}]" for factor in diagram.factors}
+    for number, factor, high, low in diagram.steps():
+        dashed = f"\n  {number} -> {low} [style=dashed];" if low else ""
+        yield f"  {number} {labels[factor]};\n  {number} -> {high};{dashed}"
     for place, ((name, _), root) in enumerate(zip(named, roots)):
         yield f"  output{place} [label={quoted(name)}, shape=plaintext];"
         yield f"  output{place} -> {root};"

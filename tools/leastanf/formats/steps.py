@@ -33,42 +33,33 @@ class Steps:
     def write(self):
         """The named nodes, each a name and its expression over names before it, and the expressions of the
         polynomials."""
-        order = self.diagram.order(self.roots)
-        uses = self._uses(order)
+        language, uses = self.language, self._uses()
         named = []
-        texts = {number: (text, 2) for number, text in enumerate(self.language.constants)}
-        for number in order:
-            text, binding = self._expression(number, texts)
-            if uses[number] > 1 and binding < 2 or len(text) > MOST_CHARACTERS:
+        # The expression of each node, and how it binds: 0 as a sum, 1 as a product, 2 as a name.
+        texts = [(text, 2) for text in language.constants]
+        for number, factor, high, low in self.diagram.steps():
+            text, binding = self.texts[factor], 2
+            if high != 1:
+                times, bound = texts[high]
+                text, binding = f"{text}{language.times}{times if bound else f'({times})'}", 1
+            if low:
+                plus, bound = texts[low]
+                if language.brackets:
+                    text = f"({text})" if binding == 1 else text
+                    plus = f"({plus})" if bound == 1 else plus
+                text, binding = f"{text}{language.plus}{plus}", 0
+            if binding < 2 and uses[number] > 1 or len(text) > MOST_CHARACTERS:
                 named.append((f"{self.letter}{self.before + len(named) + 1}", text))
                 text, binding = named[-1][0], 2
-            texts[number] = text, binding
+            texts.append((text, binding))
         return named, [texts[root][0] for root in self.roots]
 
-    def _uses(self, order):
-        uses = dict.fromkeys(order, 0)
-        for number in order:
-            for child in (self.diagram.high(number), self.diagram.low(number)):
-                if child > 1:
-                    uses[child] += 1
+    def _uses(self):
+        """How often each node is used."""
+        uses = [0] * len(self.diagram.nodes)
+        for _, _, high, low in self.diagram.steps():
+            uses[high] += 1
+            uses[low] += 1
         for root in self.roots:
-            if root > 1:
-                uses[root] += 1
+            uses[root] += 1
         return uses
-
-    def _expression(self, number, texts):
-        """The expression of a node, and how it binds: 0 as a sum, 1 as a product, 2 as a name."""
-        language = self.language
-        text, binding = self.texts[self.diagram.factor(number)], 2
-        high, low = self.diagram.high(number), self.diagram.low(number)
-        if high != 1:
-            factor, bound = texts[high]
-            text, binding = f"{text}{language.times}{factor if bound else f'({factor})'}", 1
-        if low != 0:
-            if binding == 1 and language.brackets:
-                text = f"({text})"
-            rest, bound = texts[low]
-            if bound == 1 and language.brackets:
-                rest = f"({rest})"
-            text, binding = f"{text}{language.plus}{rest}", 0
-        return text, binding
