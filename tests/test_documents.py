@@ -54,10 +54,9 @@ PROGRAMS = ("yosys", "berkeley-abc", "Singular", "M2", "cryptominisat5")
 SHOWN = {
     "README.md": (
         "./interp anf < examples/two_points.pla",
-        "./interp anf < examples/seven_segments.pla",
+        "./interp anf < examples/digits.pla",
         "./interp basis < examples/half_adder.pla",
         "{ cat examples/half_adder.pla; ./interp basis < examples/half_adder.pla; } | ./interp check",
-        "./nfq reduce < examples/relations.pla",
     ),
     "docs/EXAMPLES.md": (
         "./interp anf < examples/seven_segments.pla",

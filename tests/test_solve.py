@@ -16,12 +16,13 @@ import sys
 import tempfile
 import time
 
-from tests.harness import TOP, Test, program
+from tests.harness import TOP, Test, program, run
 
 sys.path.insert(0, str(TOP / "tools"))
 
 import leastanf
 from leastanf import descriptions, orders, points, remedies, solving
+from leastanf.__main__ import COMMANDS
 from leastanf.polynomials import Monomials
 from leastanf.commands import solve as command
 
@@ -796,19 +797,34 @@ class Interface(Test):
         self.assertEqual(([output.name for output in caught.exception.answer], caught.exception.outputs), (["f2"], [0]))
 
     def test_installed(self):
-        """pip installs the package with its commands, which find the program on PATH."""
+        """pip installs the package with its commands, which find the program on PATH, and read no folder."""
         with tempfile.TemporaryDirectory() as folder:
-            pip = [sys.executable, "-m", "pip"]
-            if subprocess.run([*pip, "--version"], capture_output=True, check=False).returncode:
-                self.skipTest("pip is not installed")
-            words = [*pip, "install", "-q", "--no-deps", "--no-index", "--target", folder, TOP / "tools"]
+            made = pathlib.Path(folder) / "the environment"
+            if subprocess.run([sys.executable, "-m", "venv", made], capture_output=True, check=False).returncode:
+                self.skipTest("pip or venv is not installed")
+            words = [made / "bin/pip", "install", "-q", "--no-deps", "--no-index", TOP / "tools"]
             subprocess.run(words, check=True, capture_output=True)
-            (pathlib.Path(folder) / "interp").symlink_to(program("interp"))
-            environment = {**os.environ, "PYTHONPATH": folder, "PATH": f"{folder}:{os.environ['PATH']}"}
+            (made / "bin/interp").symlink_to(program("interp"))
+            (made / "solve it").symlink_to(made / "bin/solve")
+            environment = {**os.environ, "PATH": f"{made}/bin:{os.environ['PATH']}"}
             del environment["INTERP"]
-            words = [pathlib.Path(folder) / "bin/solve", TOP / "examples/full_adder.pla"]
-            run = subprocess.run(words, env=environment, capture_output=True, text=True, check=False)
-            self.assertEqual((run.returncode, run.stdout), (0, "s = a + b + cin\nc = a*b + a*cin + b*cin\n"))
+            for path in (made / "bin/solve", made / "solve it"):
+                ended = run([path, TOP / "examples/full_adder.pla"], env=environment)
+                self.assertEqual((ended.status, ended.out), (0, "s = a + b + cin\nc = a*b + a*cin + b*cin\n"), ended)
+            given = os.open("/", os.O_RDONLY)
+            self.addCleanup(os.close, given)
+            for name in COMMANDS:
+                with self.case(name):
+                    ended = run([made / "bin" / name, "--help"], env=environment, stdin=given)
+                    self.assertEqual((ended.status, ended.err), (0, ""), ended)
+            with self.case("a folder"):
+                ended = run([made / "bin/solve", "-"], env=environment, stdin=given)
+                said = "solve: standard input: it is closed, or a folder\n"
+                self.assertEqual((ended.status, ended.out, ended.err), (8, "", said))
+            for words in ([], ["solved"], ["solve"]):
+                with self.case(words):
+                    ended = run([made / "bin/leastanf", *words], env=environment)
+                    self.assertEqual((ended.status, ended.out, ended.err.count("\n")), (2, "", 1), ended)
 
     def test_page(self):
         """The lines of docs/PYTHON.md."""

@@ -7,12 +7,19 @@ import pathlib
 import tarfile
 import zipfile
 
+from leastanf.__main__ import COMMANDS
+
 HERE = pathlib.Path(__file__).resolve().parent
 NAME, VERSION = "leastanf", "0.1.0"
-COMMANDS = ("solve", "ask", "judge", "agrees", "answer_as", "describe")
 SUMMARY = "Least Boolean polynomials of PLA files, tables and lists of points, by the proved programs interp and nfq"
 
 METADATA = f"Metadata-Version: 2.1\nName: {NAME}\nVersion: {VERSION}\nSummary: {SUMMARY}\nRequires-Python: >=3.9\n"
+# A command. Python itself ends where its standard input is a folder, so there it is closed.
+SCRIPT = """#!/bin/sh
+[ -d /dev/stdin ] && exec <&-
+exec "$(dirname "$(readlink -f "$0")")/{package}" {command} "$@"
+"""
+
 WHEEL = f"Wheel-Version: 1.0\nGenerator: {NAME}\nRoot-Is-Purelib: true\nTag: py3-none-any\n"
 
 
@@ -20,17 +27,21 @@ def build_wheel(wheel_directory, config_settings=None, metadata_directory=None):
     """Writes the package as a wheel to a folder, and gives the name of the file. The settings have no effect."""
     del config_settings, metadata_directory
     about = f"{NAME}-{VERSION}.dist-info"
-    scripts = "".join(f"{command} = {NAME}.commands.{command}:main\n" for command in COMMANDS)
     texts = {f"{about}/METADATA": METADATA, f"{about}/WHEEL": WHEEL}
-    texts[f"{about}/entry_points.txt"] = f"[console_scripts]\n{scripts}"
+    texts[f"{about}/entry_points.txt"] = f"[console_scripts]\n{NAME} = {NAME}.__main__:main\n"
+    scripts = f"{NAME}-{VERSION}.data/scripts"
+    texts.update((f"{scripts}/{command}", SCRIPT.format(package=NAME, command=command)) for command in COMMANDS)
     files = {path: text.encode() for path, text in texts.items()}
     files.update({str(path.relative_to(HERE)): path.read_bytes() for path in sources()})
     record = "".join(f"{path},sha256={digest(data)},{len(data)}\n" for path, data in files.items())
     files[f"{about}/RECORD"] = f"{record}{about}/RECORD,,\n".encode()
     name = f"{NAME}-{VERSION}-py3-none-any.whl"
-    with zipfile.ZipFile(pathlib.Path(wheel_directory) / name, "w", zipfile.ZIP_DEFLATED) as wheel:
+    with zipfile.ZipFile(pathlib.Path(wheel_directory) / name, "w") as wheel:
         for path, data in files.items():
-            wheel.writestr(path, data)
+            entry = zipfile.ZipInfo(path)
+            entry.compress_type = zipfile.ZIP_DEFLATED
+            entry.external_attr = (0o100755 if path.startswith(scripts) else 0o100644) << 16
+            wheel.writestr(entry, data)
     return name
 
 
