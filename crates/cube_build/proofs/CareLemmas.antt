@@ -19,7 +19,7 @@ use Rattle.node_store.specs.declared.store.Handle.{Handle}
 use Rattle.node_store.proofs.StoreLaws.{Denotes-family, Grows-trans, Grows-refl}
 use Rattle.set_algebra.specs.GivenPoints.{GivesPoints}
 use Rattle.set_algebra.specs.declared.points.ValuedPoints.{ValuedPoints}
-use Rattle.set_algebra.proofs.GivenPoints.{points_failed}
+use Rattle.set_algebra.proofs.Calls.{points_failed}
 use Rattle.cube_build.specs.declared.covers.PointSet.{PointSet}
 use Rattle.cube_build.specs.declared.covers.PointSet.TheVariants.{On}
 

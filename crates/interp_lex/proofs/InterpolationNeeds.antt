@@ -1,5 +1,5 @@
 -- What finding the least polynomial needs, and that plans with every family have it.
-use Rattle.std.proofs.Common.{◌≢◌, ◌⊎◌, inl, inr, ◌++◌, ℕ, zero, suc, ◌≤◌, List, [], ◌∷◌, sym, subst, arith, ⊎_elim}
+use Rattle.std.proofs.Common.{◌≢◌, ◌⊎◌, inl, inr, ℕ, zero, suc, ◌≤◌, List, [], sym, subst, arith, ⊎_elim}
 use Rattle.lattice.specs.Words.{Family, IsFamily, Covers, high_cofactor, join, sub, working_set, ones_list, interpolation_list, upper_zeros}
 use Rattle.lattice.specs.Words.{upper_ones, lower_points}
 use Rattle.lattice.specs.declared.op.Op.TheVariants.{Least}
@@ -10,7 +10,7 @@ use Rattle.node_store.specs.Stores.{State, family, needs_of}
 use Rattle.node_store.specs.AnyFamily.{MayHoldAny}
 use Rattle.node_store.specs.declared.store.Handle.{Handle}
 use Rattle.bool_poly.proofs.OnesLemmas.{any_ones_set}
-use Rattle.interp_lex.proofs.Recursion.{h, g, part_needs, list_step}
+use Rattle.interp_lex.proofs.Recursion.{h, g, step_list, list_step}
 -- the working set, by the list
 pub use Rattle.interp_lex.proofs.LeastStep.{needs_least}
 
@@ -23,7 +23,7 @@ module _ (plan : List Family) (n : ℕ) (any : (f : Family) → IsFamily n f →
   any_step : (d : ℕ) → d ≤ n → (Z O : Family) → AnyList (interpolation_list d (upper_zeros d Z O) (upper_ones d Z O))
       → AnyList (interpolation_list d (lower_points d (h d Z O) Z O) (lower_points d (h d Z O) O Z))
       → Covers plan (sub n (join d (g d Z O) (h d Z O)))
-      → AnyList (part_needs d Z O ++ join d (g d Z O) (h d Z O) ∷ [])
+      → AnyList (step_list d Z O (join d (g d Z O) (h d Z O)))
   any_step d less Z O high low whole =
       let each : (f : Family) → IsFamily d f → Covers plan (sub n f) = λ f is. any f (IsFamily_wider d n f is less) in
       let ones : (f : Family) → IsFamily d f → AnyList (ones_list d (h d Z O) f) = λ f is.

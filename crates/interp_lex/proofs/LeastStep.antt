@@ -1,27 +1,27 @@
 -- The steps of finding the least polynomial in a store.
 use Rattle.std.proofs.Common.{◌≡◌, ◌≢◌, ℕ, suc, ◌-◌, ◌<◌, ◌≤◌, max, Result, Ok, Err, IfOk, List, [], ◌∷◌, ◌++◌, refl, ◌∙◌}
-use Rattle.std.proofs.Common.{ap, arith, ◌⊎◌, rules}
-use Rattle.lattice.specs.Words.{Family, IsFamily, AreDisjoint, Covers, low_cofactor, high_cofactor, join, level, IsLeast, interpolate}
+use Rattle.std.proofs.Common.{arith, ◌⊎◌, rules}
+use Rattle.lattice.specs.Words.{Family, IsFamily, AreDisjoint, Covers, low_cofactor, high_cofactor, level, IsLeast, interpolate}
 use Rattle.lattice.specs.Words.{answer, needs, operation_list, working_set, interpolation_list, upper_zeros, upper_ones, lower_points}
 use Rattle.lattice.specs.declared.op.Op.TheVariants.{Least}
-use Rattle.lattice.proofs.Diagrams.{Has-head, Has-append_left, Has-append_right, cases_empty, low_cofactor_whole, level-below}
-use Rattle.lattice.proofs.Diagrams.{covers_family, covers_nil}
+use Rattle.lattice.proofs.Diagrams.{cases_empty, low_cofactor_whole, level-below, covers_nil}
 use Rattle.lattice.proofs.Polynomials.{has_head, IsFamily-low_cofactor, IsFamily-interpolate, IsLeast-interpolate, no_ones, no_zeros}
 use Rattle.lattice.proofs.Polynomials.{one_is_least, zero_is_least, interpolate-narrow, interpolation_list-narrow}
-use Rattle.node_store.specs.Stores.{State, Knows, Denotes, family, IsSound, Grows, Reads, Gives, Builds, IsResult, needs_of}
+use Rattle.node_store.specs.Stores.{State, Knows, family, IsSound, Reads, Gives, IsResult, needs_of}
 use Rattle.node_store.specs.declared.store.Handle.{Handle}
 use Rattle.node_store.specs.declared.store.Full.{Full}
-use Rattle.node_store.proofs.StoreLaws.{Found, Halves, found_read, grow_gives, Denotes-family, Denotes-knows, Grows-family, Grows-refl}
-use Rattle.node_store.proofs.StoreLaws.{Grows-trans}
-use Rattle.node_store.proofs.StoreLaws.{Reads-trans, then_reads, filled, given_kept, handles, kept_given, known_after, zero_family}
+use Rattle.node_store.proofs.StoreLaws.{Denotes-family, Denotes-knows, Grows-family, Grows-refl, then_reads, filled, given_kept, handles}
+use Rattle.node_store.proofs.StoreLaws.{kept_given, known_after, zero_family}
 use Rattle.set_algebra.proofs.Levels.{top_after}
+use Rattle.set_algebra.proofs.Calls.{Calls, IsAtHand, LastNode, after_call, after_points, call_planned, cofactors_start, found_at_hand}
+use Rattle.set_algebra.proofs.Calls.{last_node}
 use Rattle.set_algebra.specs.Pairs.{AreCofactors}
 use Rattle.set_algebra.specs.declared.pairs.Cofactors.{Cofactors}
 use Rattle.interp_lex.specs.Parts.{common_of, upper_list, lower_of, lower_list, AreKnown}
 use Rattle.set_algebra.specs.GivenPoints.{GivesPoints}
 use Rattle.set_algebra.specs.declared.points.ValuedPoints.{ValuedPoints}
-use Rattle.interp_lex.proofs.PointSteps.{Four, four_known, found_named, planned_later, points_found_after}
-use Rattle.interp_lex.proofs.Recursion.{h, g, upper_needs, lower_needs, high_needs, part_needs, Points, Split, points_above, points_below}
+use Rattle.interp_lex.proofs.PointSteps.{four}
+use Rattle.interp_lex.proofs.Recursion.{h, upper_needs, lower_needs, step_list, after_upper, after_lower, Split, points_above, points_below}
 use Rattle.interp_lex.proofs.Recursion.{result_is, list_is, upper_zeros_are, upper_ones_are, upper_list_is, lower_points_are, lower_list_is}
 
 -- the working set of the operation
@@ -83,13 +83,6 @@ module _ {s : State} {R : Type 0} (zeros ones : Handle) (sound : IsSound s) (cal
 
 -- ---- at the first variable
 
--- in t the cofactors c of the zeros and the ones at their first variable are known
-pub record Cut (s t : State) (zeros ones : Handle) (c : Cofactors) : Type 0 where
-  pub planned : Covers s.plan (needs_of s Least zeros ones.0)
-  pub split : Split s.vars (s.vars - c.var) (family s zeros) (family s ones)
-  pub reads : Reads s t
-  pub are : AreCofactors s t zeros ones c
-
 first_high : (d n : ℕ) (f g : Family) → IsFamily (suc d) f → IsFamily (suc d) g → d < n → max (level n f) (level n g) ≡ suc d
     → (high_cofactor d f ≢ []) ⊎ (high_cofactor d g ≢ [])
 first_high d n f g ff fg less top =
@@ -97,37 +90,59 @@ first_high d n f g ff fg less top =
     let kf = IsFamily-low_cofactor d f in let kg = IsFamily-low_cofactor d g in
     grind (arith, cases_empty (high_cofactor d f), cases_empty (high_cofactor d g), wf, wg, lf, lg)
 
+-- in t the cofactors c of the zeros and the ones at their first variable are at hand
+pub record Cut (s t : State) (zeros ones : Handle) (c : Cofactors) : Type 0 where
+  pub split : Split s.vars (s.vars - c.var) (family s zeros) (family s ones)
+  pub are : AreCofactors s t zeros ones c
+  pub calls : Calls s t (s.vars - c.var) (interpolation_list s.vars (family s zeros) (family s ones))
+      (step_list (s.vars - c.var) (family s zeros) (family s ones) (interpolate s.vars (family s zeros) (family s ones)))
+      (four c (low_cofactor (s.vars - c.var) (family s zeros)) (high_cofactor (s.vars - c.var) (family s zeros))
+      (low_cofactor (s.vars - c.var) (family s ones)) (high_cofactor (s.vars - c.var) (family s ones)))
+
 pub cut_at : {s a t : State} {R : Type 0} {zeros ones : Handle} {c : Cofactors} → IsSound s → Asked s zeros ones R → zeros.0 ≢ 0
     → ones.0 ≢ 0 → Reads s a → Reads a t → AreCofactors a t zeros ones c → Cut s t zeros ones c
+unfolding needs operation_list
 cut_at {s} {a} {t} {R} {zeros} {ones} {c} sound call nz nn one two found =
     let zs = Grows-family s a zeros one.grows call.zeros in let os = Grows-family s a ones one.grows call.ones in
     let are : AreCofactors s t zeros ones c = grind arith in
     let fits = top_after s zeros ones (suc (s.vars - c.var)) sound call.zeros call.ones are.top in
     let less : s.vars - c.var < s.vars = omega (arith, are.first, are.last) in
-    record {
-      planned = call.planned;
-      split = record {
-        points = record { zeros_fit = fits.0; ones_fit = fits.1; apart = call.disjoint };
-        less = less;
-        some_zero = filled s zeros sound call.zeros nz;
-        some_one = filled s ones sound call.ones nn;
-        high = first_high (s.vars - c.var) s.vars (family s zeros) (family s ones) fits.0 fits.1 less are.top;
-      };
-      reads = Reads-trans s a t one two;
-      are = are;
-    }
+    let split : Split s.vars (s.vars - c.var) (family s zeros) (family s ones) = record {
+      points = record { zeros_fit = fits.0; ones_fit = fits.1; apart = call.disjoint };
+      less = less;
+      some_zero = filled s zeros sound call.zeros nz;
+      some_one = filled s ones sound call.ones nn;
+      high = first_high (s.vars - c.var) s.vars (family s zeros) (family s ones) fits.0 fits.1 less are.top;
+    } in record { split = split; are = are; calls = cofactors_start (then_reads one two) are call.planned (list_is split) }
 
--- reads before points were given
-pub then_points : {s t u : State} {p : ValuedPoints} {f g : Family} {needed : List Family} → Reads s t
-    → GivesPoints t u (Ok p) f g needed → Reads s u
-then_points one two = then_reads one (record { grows = two.grows; quiet = two.quiet })
+-- a call whose list comes next, for zeros A and ones B at hand
+module _ {s u : State} {d : ℕ} {all : List Family} {hs : List (Handle × Family)} {z o : Handle} {A B : Family} (rest : List Family)
+    (k : Calls s u d all (interpolation_list d A B ++ rest) hs) (x : IsAtHand u d z A) (y : IsAtHand u d o B) where
+  next_needs : needs_of u Least z o.0 ≡ working_set s.vars (interpolation_list d A B)
+  next_needs = needs_least u z o ∙ rw (k.reads.grows.vars, x.0, y.0, interpolation_list-narrow d s.vars A B x.1 y.1 k.le) refl
 
--- in u there are the points p of a part, with the zeros A and the ones B over d variables, and the families of the list
-pub record Next (s u : State) (d : ℕ) (p : ValuedPoints) (A B : Family) (list : List Family) : Type 0 where
-  pub fit : Points d A B
-  pub zeros : Denotes u p.zeros A
-  pub ones : Denotes u p.ones B
-  pub found : Found s u list
+  pub next_falls : (Z O : Family) → max (level s.vars Z) (level s.vars O) ≡ suc d
+      → max (level u.vars (family u z)) (level u.vars (family u o)) < max (level s.vars Z) (level s.vars O)
+  next_falls Z O top =
+      rw (k.reads.grows.vars, x.0, y.0, top) (omega (arith, level-below d s.vars A x.1 k.le, level-below d s.vars B y.1 k.le))
+
+  next_asked : {R : Type 0} → AreDisjoint A B → R → Asked u z o R
+  next_asked apart ready = record {
+    zeros = Denotes-knows u z A x.0;
+    ones = Denotes-knows u o B y.0;
+    disjoint = rw (x.0, y.0) apart;
+    planned = call_planned (interpolation_list d A B) rest k next_needs;
+    ready = ready;
+  }
+
+-- the polynomial is found after its list
+next_found : {s u v : State} {d : ℕ} {all : List Family} {hs : List (Handle × Family)} {z o r : Handle} {A B : Family} (rest : List Family)
+    → Calls s u d all (interpolation_list d A B ++ interpolate d A B ∷ rest) hs → IsAtHand u d z A → IsAtHand u d o B → AreDisjoint A B
+    → IsSound v → Does u z o v (Ok r) → Calls s v d all rest ((r, interpolate d A B) ∷ hs)
+next_found {s} {d = d} {A = A} {B} rest k x y apart sound does =
+    let after = after_call (interpolation_list d A B) (interpolate d A B ∷ rest) k (next_needs _ k x y)
+    (rw (k.reads.grows.vars, x.0, y.0) (interpolate-narrow d s.vars A B x.1 y.1 k.le apart)) (IsFamily-interpolate d A B) does in
+    found_at_hand sound after after.here.0
 
 module _ {s t : State} {zeros ones : Handle} {c : Cofactors} (k : Cut s t zeros ones c) where
   abbrev d : ℕ
@@ -139,60 +154,10 @@ module _ {s t : State} {zeros ones : Handle} {c : Cofactors} (k : Cut s t zeros 
   abbrev O : Family
   O = family s ones
 
-  abbrev list : List Family
-  list = part_needs d Z O ++ interpolate s.vars Z O ∷ []
-
-  needs_list : needs_of s Least zeros ones.0 ≡ working_set s.vars list
-  needs_list = needs_least s zeros ones ∙ ap (working_set s.vars) (list_is k.split)
-
-  planned : Covers s.plan (working_set s.vars list)
-  planned = rw (← needs_list) k.planned
-
-  le : d ≤ s.vars
-  le = omega (arith, k.split.less)
-
-  four : {u : State} → Grows t u → Four u c (low_cofactor d Z) (high_cofactor d Z) (low_cofactor d O) (high_cofactor d O)
-  four grows = search (grows.known, k.are)
-
-  -- ---- the call for the points of one of the two parts
-
-  module _ {u : State} {p : ValuedPoints} {A B : Family} {before : List Family} (at : Next s u d p A B before) where
-    next_needs : needs_of u Least p.zeros p.ones.0 ≡ working_set s.vars (interpolation_list d A B)
-    next_needs = needs_least u p.zeros p.ones
-        ∙ rw (at.found.reads.grows.vars, at.zeros, at.ones, interpolation_list-narrow d s.vars A B at.fit.zeros_fit at.fit.ones_fit le) refl
-
-    next_result : interpolate u.vars (family u p.zeros) (family u p.ones) ≡ interpolate d A B
-    next_result =
-        rw (at.found.reads.grows.vars, at.zeros, at.ones) (interpolate-narrow d s.vars A B at.fit.zeros_fit at.fit.ones_fit le at.fit.apart)
-
-    pub next_falls : max (level u.vars (family u p.zeros)) (level u.vars (family u p.ones)) < max (level s.vars Z) (level s.vars O)
-    next_falls = rw (at.found.reads.grows.vars, at.zeros, at.ones, k.are.top)
-        (omega (arith, level-below d s.vars A at.fit.zeros_fit le, level-below d s.vars B at.fit.ones_fit le))
-
-    next_call : {R : Type 0} → Covers list (interpolation_list d A B) → R → Asked u p.zeros p.ones R
-    next_call part ready = record {
-      zeros = Denotes-knows u p.zeros A at.zeros;
-      ones = Denotes-knows u p.ones B at.ones;
-      disjoint = rw (at.zeros, at.ones) at.fit.apart;
-      planned = planned_later list (interpolation_list d A B) planned at.found.reads next_needs part;
-      ready = ready;
-    }
-
-    module _ {v : State} {r : Handle} (does : Does u p.zeros p.ones v (Ok r)) where
-      next_at : Denotes v r (interpolate d A B)
-      next_at = rw next_result at does.ok
-
-      next_found : IsSound v → Found s v (before ++ (interpolation_list d A B ++ interpolate d A B ∷ []))
-      next_found sound = found_named (interpolation_list d A B) at.found sound next_result next_needs does
-
-  pub high_call : {u : State} {p : ValuedPoints} {R : Type 0}
-      → Next s u d p (upper_zeros d Z O) (upper_ones d Z O) (upper_needs d Z O) → R → Asked u p.zeros p.ones R
-  high_call at = next_call at (λ f i. search (Has-append_left, Has-append_right) depth 8)
-
-  pub low_call : {w : State} {q : ValuedPoints} {R : Type 0}
-      → Next s w d q (lower_points d (h d Z O) Z O) (lower_points d (h d Z O) O Z) (high_needs d Z O ++ lower_needs d Z O) → R
-      → Asked w q.zeros q.ones R
-  low_call at = next_call at (λ f i. search (Has-append_left, Has-append_right) depth 8)
+  -- in u these families are still to be found, and these handles were
+  abbrev In : State → List Family → List (Handle × Family) → Type 0
+  In u rest hs = Calls s u d (interpolation_list s.vars Z O) rest
+      (hs ++ four c (low_cofactor d Z) (high_cofactor d Z) (low_cofactor d O) (high_cofactor d O))
 
   -- ---- the upper part
 
@@ -200,56 +165,51 @@ module _ {s t : State} {zeros ones : Handle} {c : Cofactors} (k : Cut s t zeros 
   UpperList = upper_list t.vars (family t c.a_low) (family t c.a_high) (family t c.b_low) (family t c.b_high)
 
   upper_needs_are : working_set t.vars UpperList ≡ working_set s.vars (upper_needs d Z O)
-  upper_needs_are =
-      let at = four (Grows-refl t) in
-      rw (k.reads.grows.vars, at.a_low, at.a_high, at.b_low, at.b_high, upper_list_is d s.vars le Z O) refl
+  upper_needs_are = let at = k.calls.here in
+      rw (k.calls.reads.grows.vars, at.0.0, at.1.0.0, at.1.1.0.0, at.1.1.1.0.0, upper_list_is d s.vars k.calls.le Z O) refl
 
   pub upper_planned : Covers t.plan (working_set t.vars UpperList)
-  upper_planned = planned_later list (upper_needs d Z O) planned k.reads upper_needs_are
-      (λ f i. search (Has-append_left, Has-append_right) depth 8)
+  upper_planned = call_planned (upper_needs d Z O) _ k.calls upper_needs_are
 
   -- u is the state after the points p of the upper part were found
   module _ {u : State} {p : ValuedPoints}
       (two : GivesPoints t u (Ok p) (common_of t.vars (family t c.a_low) (family t c.a_high) (family t c.b_low) (family t c.b_high))
       (common_of t.vars (family t c.a_low) (family t c.b_high) (family t c.b_low) (family t c.a_high)) (working_set t.vars UpperList)) where
-    pub at_u : Next s u d p (upper_zeros d Z O) (upper_ones d Z O) (upper_needs d Z O)
-    at_u = let at = four (Grows-refl t) in record {
-      fit = points_above k.split;
-      zeros = rw (k.reads.grows.vars, at.a_low, at.a_high, at.b_low, at.b_high, upper_zeros_are d s.vars le Z O) at two.zeros;
-      ones = rw (k.reads.grows.vars, at.a_low, at.a_high, at.b_low, at.b_high, upper_ones_are d s.vars le Z O) at two.ones;
-      found = points_found_after (upper_needs d Z O) (found_read k.reads) upper_needs_are two;
-    }
+    pub upper_found : In u (after_upper d Z O (interpolate s.vars Z O)) ((p.zeros, upper_zeros d Z O) ∷ (p.ones, upper_ones d Z O) ∷ [])
+    upper_found = let at = k.calls.here in let up = points_above k.split in
+        after_points (upper_needs d Z O) _ k.calls upper_needs_are
+        (rw (k.calls.reads.grows.vars, at.0.0, at.1.0.0, at.1.1.0.0, at.1.1.1.0.0, upper_zeros_are d s.vars k.calls.le Z O) refl)
+        (rw (k.calls.reads.grows.vars, at.0.0, at.1.0.0, at.1.1.0.0, at.1.1.1.0.0, upper_ones_are d s.vars k.calls.le Z O) refl)
+        up.zeros_fit up.ones_fit two
+
+    pub high_asked : {R : Type 0} → R → Asked u p.zeros p.ones R
+    high_asked = let at = upper_found in next_asked _ at at.here.0 at.here.1.0 (points_above k.split).apart
 
     -- v is the state after the polynomial r of the upper part was found
     module _ {v : State} {r : Handle} (sound_v : IsSound v) (three : Does u p.zeros p.ones v (Ok r)) where
-      pub at_v : Found s v (high_needs d Z O)
-      at_v = next_found at_u three sound_v
-
-      four_v : Four v c (low_cofactor d Z) (high_cofactor d Z) (low_cofactor d O) (high_cofactor d O)
-      four_v = four (Grows-trans t u v two.grows three.grows)
-
-      h_at : Denotes v r (h d Z O)
-      h_at = next_at at_u three
+      pub high_found : In v (lower_needs d Z O ++ after_lower d Z O (interpolate s.vars Z O))
+          ((r, h d Z O) ∷ (p.zeros, upper_zeros d Z O) ∷ (p.ones, upper_ones d Z O) ∷ [])
+      high_found = let at = upper_found in next_found _ at at.here.0 at.here.1.0 (points_above k.split).apart sound_v three
 
       abbrev pub LowerList : List Family
       LowerList = lower_list v.vars (family v r) (family v c.a_low) (family v c.a_high) (family v c.b_low) (family v c.b_high)
 
       lower_needs_are : working_set v.vars LowerList ≡ working_set s.vars (lower_needs d Z O)
-      lower_needs_are =
-          let same = lower_list_is d s.vars le Z O (h d Z O) (IsFamily-interpolate d _ _) in
-          rw (at_v.reads.grows.vars, h_at, four_v.a_low, four_v.a_high, four_v.b_low, four_v.b_high, same) refl
+      lower_needs_are = let at = high_found.here in
+          let same = lower_list_is d s.vars k.calls.le Z O (h d Z O) at.0.1 in
+          rw (high_found.reads.grows.vars, at.0.0, at.1.1.1.0.0, at.1.1.1.1.0.0, at.1.1.1.1.1.0.0, at.1.1.1.1.1.1.0.0, same) refl
 
-      pub lower_asked : {R : Type 0} → R → record {
-        known : AreKnown v c;
-        h : Knows v r;
-        planned : Covers v.plan (working_set v.vars LowerList);
-        ready : R;
-      }
-      lower_asked ready = record {
-        known = four_known four_v;
-        h = Denotes-knows v r _ h_at;
-        planned = planned_later list (lower_needs d Z O) planned at_v.reads lower_needs_are
-            (λ f i. search (Has-append_left, Has-append_right) depth 8);
+      pub lower_asked : {R : Type 0} → R
+          → record { known : AreKnown v c; h : Knows v r; planned : Covers v.plan (working_set v.vars LowerList); ready : R }
+      lower_asked ready = let at = high_found.here in record {
+        known = record {
+          a_low = Denotes-knows v c.a_low _ at.1.1.1.0.0;
+          a_high = Denotes-knows v c.a_high _ at.1.1.1.1.0.0;
+          b_low = Denotes-knows v c.b_low _ at.1.1.1.1.1.0.0;
+          b_high = Denotes-knows v c.b_high _ at.1.1.1.1.1.1.0.0;
+        };
+        h = Denotes-knows v r _ at.0.0;
+        planned = call_planned (lower_needs d Z O) _ high_found lower_needs_are;
         ready = ready;
       }
 
@@ -257,34 +217,22 @@ module _ {s t : State} {zeros ones : Handle} {c : Cofactors} (k : Cut s t zeros 
       module _ {w : State} {q : ValuedPoints}
           (four' : GivesPoints v w (Ok q) (lower_of v.vars (family v r) (family v c.a_low) (family v c.a_high) (family v c.b_high))
           (lower_of v.vars (family v r) (family v c.b_low) (family v c.b_high) (family v c.a_high)) (working_set v.vars LowerList)) where
-        pub at_w : Next s w d q (lower_points d (h d Z O) Z O) (lower_points d (h d Z O) O Z) (high_needs d Z O ++ lower_needs d Z O)
-        at_w = record {
-          fit = points_below k.split;
-          zeros = rw (at_v.reads.grows.vars, h_at, four_v.a_low, four_v.a_high, four_v.b_high, lower_points_are d s.vars le Z O (h d Z O))
-              at four'.zeros;
-          ones = rw (at_v.reads.grows.vars, h_at, four_v.b_low, four_v.b_high, four_v.a_high, lower_points_are d s.vars le O Z (h d Z O))
-              at four'.ones;
-          found = points_found_after (lower_needs d Z O) at_v lower_needs_are four';
-        }
+        pub lower_found : In w (after_lower d Z O (interpolate s.vars Z O)) ((q.zeros, lower_points d (h d Z O) Z O)
+            ∷ (q.ones, lower_points d (h d Z O) O Z) ∷ (r, h d Z O) ∷ (p.zeros, upper_zeros d Z O) ∷ (p.ones, upper_ones d Z O) ∷ [])
+        lower_found = let at = high_found.here in let low = points_below k.split in let vars = high_found.reads.grows.vars in
+            after_points (lower_needs d Z O) _ high_found lower_needs_are
+            (rw (vars, at.0.0, at.1.1.1.0.0, at.1.1.1.1.0.0, at.1.1.1.1.1.1.0.0, lower_points_are d s.vars k.calls.le Z O (h d Z O)) refl)
+            (rw (vars, at.0.0, at.1.1.1.1.1.0.0, at.1.1.1.1.1.1.0.0, at.1.1.1.1.0.0, lower_points_are d s.vars k.calls.le O Z (h d Z O))
+            refl)
+            low.zeros_fit low.ones_fit four'
+
+        pub low_asked : {R : Type 0} → R → Asked w q.zeros q.ones R
+        low_asked = let at = lower_found in next_asked _ at at.here.0 at.here.1.0 (points_below k.split).apart
 
         -- x is the state after the polynomial e of the lower part was found
         module _ {x : State} {e : Handle} (sound_x : IsSound x) (five : Does w q.zeros q.ones x (Ok e)) where
-          pub halves : Halves s x c.var e r (interpolate s.vars (family s zeros) (family s ones)) (part_needs d Z O)
-          halves = record {
-            low_half = g d Z O;
-            high_half = h d Z O;
-            found = next_found at_w five sound_x;
-            sound = sound_x;
-            first = k.are.first;
-            last = k.are.last;
-            low = next_at at_w five;
-            high = five.grows.known r.0 _ (four'.grows.known r.0 _ h_at);
-            low_after = IsFamily-interpolate d _ _;
-            high_after = IsFamily-interpolate d _ _;
-            whole = result_is k.split;
-            planned = covers_family s.vars s.plan list _ planned (search (Has-append_right, Has-head));
-          }
-
-          pub grown_gives : {y : State} (o : Result Handle Full) → Builds x y o (join (x.vars - c.var) (family x e) (family x r))
-              → Does s zeros ones y o
-          grown_gives o built = rw needs_list (grow_gives halves o built)
+          pub node : LastNode s x c.var e r (interpolate s.vars Z O) (needs_of s Least zeros ones.0)
+          unfolding needs operation_list
+          node = let at = lower_found in
+              let last = next_found _ at at.here.0 at.here.1.0 (points_below k.split).apart sound_x five in
+              last_node c.var last sound_x (k.are.first, k.are.last) refl last.here.0 last.here.1.1.1.0 (result_is k.split)

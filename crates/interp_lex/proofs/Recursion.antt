@@ -56,11 +56,15 @@ module _ (d : ℕ) (Z O : Family) where
   abbrev pub lower_needs : List Family
   lower_needs = lower_list d h (low_cofactor d Z) (high_cofactor d Z) (low_cofactor d O) (high_cofactor d O)
 
-  abbrev pub high_needs : List Family
-  high_needs = upper_needs ++ (interpolation_list d (upper_zeros d Z O) (upper_ones d Z O) ++ h ∷ [])
+  -- what is needed after the points of the lower part were found, and after those of the upper part, for the result r
+  abbrev pub after_lower : Family → List Family
+  after_lower r = interpolation_list d (lower_points d h Z O) (lower_points d h O Z) ++ g ∷ r ∷ []
 
-  abbrev pub part_needs : List Family
-  part_needs = (high_needs ++ lower_needs) ++ (interpolation_list d (lower_points d h Z O) (lower_points d h O Z) ++ g ∷ [])
+  abbrev pub after_upper : Family → List Family
+  after_upper r = interpolation_list d (upper_zeros d Z O) (upper_ones d Z O) ++ h ∷ (lower_needs ++ after_lower r)
+
+  abbrev pub step_list : Family → List Family
+  step_list r = upper_needs ++ after_upper r
 
 some_high : (f g : Family) → (f ≢ []) ⊎ (g ≢ []) → (is_empty f && is_empty g) ≡ false
 some_high f g (inl ne) = rw (not_empty f ne) refl
@@ -75,7 +79,7 @@ interpolate_step d (z ∷ Z) (o ∷ O) nz nn = refl
 
 -- the working list of a step
 pub list_step : (d : ℕ) (Z O : Family) → Z ≢ [] → O ≢ [] → (high_cofactor d Z ≢ []) ⊎ (high_cofactor d O ≢ [])
-    → interpolation_list (suc d) Z O ≡ part_needs d Z O ++ join d (g d Z O) (h d Z O) ∷ []
+    → interpolation_list (suc d) Z O ≡ step_list d Z O (join d (g d Z O) (h d Z O))
 unfolding interpolation_list upper_zeros upper_ones lower_points
 list_step d Z O some_zero some_one high = simp (not_empty, some_high, append_assoc)
 
@@ -117,6 +121,6 @@ module _ {n d : ℕ} {Z O : Family} (k : Split n d Z O) where
       ∙ interpolate_step d Z O k.some_zero k.some_one
 
   -- the working list
-  pub list_is : interpolation_list n Z O ≡ part_needs d Z O ++ interpolate n Z O ∷ []
+  pub list_is : interpolation_list n Z O ≡ step_list d Z O (interpolate n Z O)
   list_is = interpolation_list-narrow (suc d) n Z O k.points.zeros_fit k.points.ones_fit k.less
       ∙ (list_step d Z O k.some_zero k.some_one k.high ∙ rw result_is refl)

@@ -7,6 +7,7 @@ mod Least
 mod Examples
 mod Standard
 mod Results
+mod Staircases
 mod WordParts
 mod Pointwise
 mod WorkingSets

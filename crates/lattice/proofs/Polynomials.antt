@@ -53,6 +53,18 @@ pub use Rattle.lattice.proofs.Standard.{standard_of_family, standard_of_to, leng
 pub use Rattle.lattice.proofs.Results.{divides_zero, divides_self, has_divisor, list_all_has, weight_below}
 -- Standard monomials and leads.
 pub use Rattle.lattice.proofs.Results.{standard_by_recursion, IsFamily-leads_of, leads_are_minimal, leads_by_recursion}
+-- The points of either half, and those of both.
+pub use Rattle.lattice.proofs.Standard.{either, both}
+-- Standard monomials over more variables, of constants, and cut at the first variable.
+pub use Rattle.lattice.proofs.Staircases.{standard_of-narrow, standard_of-constant, standard_of-join, standard_of-members}
+-- What finding them needs.
+pub use Rattle.lattice.proofs.Staircases.{standard_split, standard_list-narrow, standard_list-split, needs-standard, needs-constant}
+-- Leads where no monomial is given, where all are, and cut at a variable.
+pub use Rattle.lattice.proofs.Staircases.{leads_of-nil, leads_of-all, leads_of-join, kept_of, unit_only, low_closed, high_closed}
+-- What finding leads needs.
+pub use Rattle.lattice.proofs.Staircases.{leads_split, leads_list-split, needs-leads, needs-nil, needs-none_left}
+-- Plans with every family have both.
+pub use Rattle.lattice.proofs.Staircases.{any_standard_list, any_leads_list}
 -- Normal forms and basis elements.
 pub use Rattle.lattice.proofs.Results.{split_at, IsLeast-normal_form_of, IsBasisElement-basis_element_of}
 -- The reduced basis, and polynomials by their values.

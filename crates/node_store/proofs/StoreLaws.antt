@@ -222,10 +222,6 @@ found_after s t u xs ys one two = record {
   held = covers_append s.vars u.held xs ys (λ f i. two.reads.grows.held f (one.held f i)) (rw one.reads.grows.vars at two.held);
 }
 
--- a part of what was needed
-pub found_part : (s t : State) (xs ys : List Family) → Found s t xs → Covers xs ys → Found s t ys
-found_part s t xs ys is more = record { reads = is.reads; held = covers_part s.vars t.held xs ys is.held more }
-
 -- a last call after others
 pub found_gives : (s t u : State) (r : Result Handle Full) (f : Family) (xs ys : List Family) → Found s t xs
     → Gives t u r f (working_set t.vars ys) → Gives s u r f (working_set s.vars (xs ++ ys))
@@ -303,38 +299,6 @@ module _ {s v : State} {var : ℕ} {lo hi : Handle} {F : Family} (may : MayGrow 
   -- what was grown over the parts
   pub node_builds : {x : State} {r : Result Handle Full} → Builds v x r (join (v.vars - var) (family v lo) (family v hi)) → Builds s x r F
   node_builds {x} {r} built = Builds-after s v x r F may.reads (rw grown_is at built)
-
--- the calls from s to x found the two halves of F at var, and x holds what the list needs
-pub record Halves (s x : State) (var : ℕ) (lo hi : Handle) (F : Family) (list : List Family) : Type 0 where
-  pub low_half : Family
-  pub high_half : Family
-  pub found : Found s x list
-  pub sound : IsSound x
-  pub first : 1 ≤ var
-  pub last : var ≤ s.vars
-  pub low : Denotes x lo low_half
-  pub high : Denotes x hi high_half
-  pub low_after : IsFamily (s.vars - var) low_half
-  pub high_after : IsFamily (s.vars - var) high_half
-  pub whole : F ≡ join (s.vars - var) low_half high_half
-  pub planned : Covers s.plan (sub s.vars F)
-
-module _ {s x : State} {var : ℕ} {lo hi : Handle} {F : Family} {list : List Family} (k : Halves s x var lo hi F list) where
-  may : MayGrow s x var lo hi F
-  may = grind arith
-
-  -- the two halves may be grown
-  pub grow_parts : AreParts x var lo hi
-  grow_parts = node_parts may
-
-  -- the plan has the node over the two halves
-  pub grow_planned : hi.0 ≢ 0 → Has x.plan (join (x.vars - var) (family x lo) (family x hi))
-  grow_planned some = node_planned may k.sound some
-
-  -- what was grown over the two halves
-  pub grow_gives : {y : State} (r : Result Handle Full) → Builds x y r (join (x.vars - var) (family x lo) (family x hi))
-      → Gives s y r F (working_set s.vars (list ++ F ∷ []))
-  grow_gives {y} r built = found_gives s x y r F list (F ∷ []) k.found (builds_gives x y r F (rw (grown_is may) at built))
 
 -- ---- operands and kept results: s is the state at the call
 

@@ -8,7 +8,8 @@ use Rattle.node_store.specs.declared.store.Full.{Full}
 use Rattle.node_store.specs.declared.store.Handle.{Handle}
 use Rattle.node_store.proofs.StoreLaws.{Denotes-family, Found, found_call, found_gives, found_start, gives_as, known_after}
 use Rattle.std_monomials.specs.Monomials.{AreStandard}
-use Rattle.std_monomials.proofs.MonomialNeeds.{standard_closed, needs-standard, needs-leads}
+use Rattle.lattice.proofs.Polynomials.{needs-standard, needs-leads}
+use Rattle.std_monomials.proofs.MonomialNeeds.{standard_closed}
 use Rattle.run_parts.specs.Found.{point_leads_list}
 
 -- s is the state at the call

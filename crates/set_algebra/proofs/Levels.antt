@@ -1,5 +1,5 @@
 -- Two operands: their levels, by which recursions end, in order, in a later state, and what their halves give.
-use Rattle.std.proofs.Common.{◌≡◌, ℕ, ◌-◌, max, Bool, ◌∙◌, arith, Result}
+use Rattle.std.proofs.Common.{◌≡◌, ℕ, suc, ◌-◌, max, Bool, ◌∙◌, arith, Result}
 use Rattle.lattice.specs.Words.{Family, IsFamily, has, combine, low_cofactor, high_cofactor, level, test_of}
 use Rattle.lattice.specs.declared.op.Op.{Op}
 use Rattle.lattice.proofs.Diagrams.{IsFamily_level}
@@ -32,6 +32,12 @@ top_after s a b d ok ka kb top =
     let one = IsFamily_level s.vars (family s a) (known_after s a ok ka) in
     let two = IsFamily_level s.vars (family s b) (known_after s b ok kb) in
     (IsFamily_wider _ d (family s a) one (omega arith), IsFamily_wider _ d (family s b) two (omega arith))
+
+-- a family has no variable before its first one, in a later state too
+pub first_after : {s t : State} (a : Handle) (var : ℕ) → IsSound s → Knows s a → level s.vars (family s a) ≡ suc (s.vars - var) → Reads s t
+    → IsFamily (suc (t.vars - var)) (family t a)
+first_after {s} {t} a var sound known top reads = rw (reads.grows.vars, Grows-family s t a reads.grows known, ← top)
+    (IsFamily_level s.vars (family s a) (known_after s a sound known))
 
 -- ---- operands in order
 

@@ -1,4 +1,5 @@
 pub mod Levels
-pub mod GivenPoints
+pub mod Calls
+mod GivenPoints
 mod HalvesLemmas
 mod PairLemmas

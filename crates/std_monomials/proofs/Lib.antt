@@ -1,3 +1,2 @@
-mod Families
 mod Steps
 pub mod MonomialNeeds

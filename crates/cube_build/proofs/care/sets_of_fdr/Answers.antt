@@ -1,5 +1,5 @@
 use Rattle.node_store.proofs.StoreLaws.{Reads-refl, reads_one}
-use Rattle.set_algebra.proofs.GivenPoints.{points_failed}
+use Rattle.set_algebra.proofs.Calls.{points_failed}
 use Rattle.cube_build.proofs.CallsUnderway.{combined_planned, combined_next, combined_is, points_end, underway}
 use Rattle.cube_build.proofs.care.sets_of_fdr.Goals as goal
 

@@ -1,14 +1,14 @@
 use Rattle.node_store.proofs.StoreLaws.{reads_one, then_call}
-use Rattle.set_algebra.proofs.GivenPoints.{points_failed}
-use Rattle.interp_lex.proofs.PointSteps.{lower_at, first_ones_planned, second_ones_planned, zeros_asked, ones_asked, lower_gives}
+use Rattle.set_algebra.proofs.Calls.{points_failed}
+use Rattle.interp_lex.proofs.PointSteps.{first_ones_planned, second_ones_planned, zeros_asked, ones_asked, lower_gives}
 use Rattle.interp_lex.proofs.parts.lower_part.Goals as goal
 
 pub ones_of-requires-clause-planned : goal.ones_of-requires-clause-planned
-ones_of-requires-clause-planned g c = first_ones_planned (lower_at c.requires)
+ones_of-requires-clause-planned g c = first_ones_planned _ (g.met.S.Store.sound c.args.store.now) c.requires
 
 pub ones_of-requires-2-clause-planned : goal.ones_of-requires-2-clause-planned
 ones_of-requires-2-clause-planned g c =
-    second_ones_planned (lower_at c.requires) (g.met.S.Store.sound c.ones_of.new.store) c.in_ok-zeros_at_one.ensures.result
+    second_ones_planned _ (g.met.S.Store.sound c.args.store.now) c.requires c.in_ok-zeros_at_one.ensures.result
 
 pub returns-in_err-ones_at_one-clause-result : goal.returns-in_err-ones_at_one-clause-result
 returns-in_err-ones_at_one-clause-result g c =
@@ -17,7 +17,7 @@ returns-in_err-ones_at_one-clause-result g c =
 
 pub replaced-requires : goal.replaced-requires
 replaced-requires g c =
-    zeros_asked (lower_at c.requires) (g.met.S.Store.sound c.ones_of.new.store) c.in_ok-zeros_at_one.ensures.result
+    zeros_asked _ (g.met.S.Store.sound c.args.store.now) c.requires c.in_ok-zeros_at_one.ensures.result
     (g.met.S.Store.sound c.ones_of-2.new.store) c.in_ok-ones_at_one.ensures.result c.in_ok-ones_at_one.ensures.ready
 
 pub returns-in_err-zeros-clause-result : goal.returns-in_err-zeros-clause-result
@@ -27,7 +27,7 @@ returns-in_err-zeros-clause-result g c =
 
 pub replaced-requires-2 : goal.replaced-requires-2
 replaced-requires-2 g c =
-    ones_asked (lower_at c.requires) (g.met.S.Store.sound c.ones_of.new.store) c.in_ok-zeros_at_one.ensures.result
+    ones_asked _ (g.met.S.Store.sound c.args.store.now) c.requires c.in_ok-zeros_at_one.ensures.result
     (g.met.S.Store.sound c.ones_of-2.new.store) c.in_ok-ones_at_one.ensures.result c.in_ok-zeros.ensures.result
     c.in_ok-zeros.ensures.ready
 
@@ -38,6 +38,6 @@ returns-in_err-ones-clause-result g c =
 
 pub returns-clause-result : goal.returns-clause-result
 returns-clause-result g c =
-    lower_gives (lower_at c.requires) (g.met.S.Store.sound c.ones_of.new.store) c.in_ok-zeros_at_one.ensures.result
+    lower_gives _ (g.met.S.Store.sound c.args.store.now) c.requires c.in_ok-zeros_at_one.ensures.result
     (g.met.S.Store.sound c.ones_of-2.new.store) c.in_ok-ones_at_one.ensures.result c.in_ok-zeros.ensures.result
     c.in_ok-ones.ensures.result

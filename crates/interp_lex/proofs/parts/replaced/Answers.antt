@@ -1,3 +1,4 @@
+use Rattle.std.proofs.Common.{◌||◌, refl}
 use Rattle.lattice.specs.Words.{first_only}
 use Rattle.lattice.proofs.Diagrams.{covers_head}
 use Rattle.node_store.proofs.StoreLaws.{failed, reads_one}
@@ -9,8 +10,8 @@ union-requires-clause-planned g c = covers_head _ _ _ _ c.requires.planned
 
 pub minus-requires-clause-planned : goal.minus-requires-clause-planned
 minus-requires-clause-planned g c =
-    let known = c.requires.known in
-    second_planned first_only c.args.high c.args.removed known.2 known.3 c.requires.planned c.in_ok-first.ensures.result
+    second_planned (λ a b. a || b) first_only refl refl _ _ _ _ _ (g.met.S.Store.sound c.args.store.now) c.requires.known c.requires.planned
+    c.in_ok-first.ensures.result
 
 pub returns-in_err-second-clause-result : goal.returns-in_err-second-clause-result
 returns-in_err-second-clause-result g c =
@@ -18,10 +19,10 @@ returns-in_err-second-clause-result g c =
 
 pub union-requires-2-clause-planned : goal.union-requires-2-clause-planned
 union-requires-2-clause-planned g c =
-    last_planned first_only c.args.high c.args.removed c.requires.known.2 c.requires.known.3 c.requires.planned
+    last_planned (λ a b. a || b) first_only refl refl _ _ _ _ _ (g.met.S.Store.sound c.args.store.now) c.requires.known c.requires.planned
     c.in_ok-first.ensures.result c.in_ok-second.ensures.result
 
 pub returns-clause-result : goal.returns-clause-result
 returns-clause-result g c =
-    last_gives first_only c.args.high c.args.removed c.requires.known.2 c.requires.known.3 c.requires.planned
+    last_gives (λ a b. a || b) first_only refl refl _ _ _ _ _ (g.met.S.Store.sound c.args.store.now) c.requires.known c.requires.planned
     c.in_ok-first.ensures.result c.in_ok-second.ensures.result c.union-2.result c.union-2.ensures.result
