@@ -8,7 +8,8 @@ use Rattle.lattice.specs.Words.{operation_list, needs, working_set, sub}
 use Rattle.lattice.specs.declared.op.Op.TheVariants.{Standard, Leads}
 use Rattle.lattice.proofs.Families.{IsFamily-nil, IsFamily-unit, has-nil, has_none, has_head, has_other, below_bound}
 use Rattle.lattice.proofs.Families.{has-family_where_below, family_where_has, same_below, IsFamily_wider, IsFamily-combine}
-use Rattle.lattice.proofs.Cofactors.{not_empty, steady, high_cofactor_none, low_cofactor_whole, join-nil, IsFamily_level, level-below}
+use Rattle.lattice.proofs.NumberLaws.{steady}
+use Rattle.lattice.proofs.Cofactors.{not_empty, high_cofactor_none, low_cofactor_whole, join-nil, IsFamily_level, level-below}
 use Rattle.lattice.proofs.Cofactors.{IsFamily-low_cofactor, IsFamily-high_cofactor, has-low_cofactor, has-high_cofactor, cases_empty}
 use Rattle.lattice.proofs.Pointwise.{combine-right_empty, combine-right_empty_lost}
 use Rattle.lattice.proofs.WorkingSets.{covers_nil, covers_append, covers_cons}
