@@ -41,6 +41,7 @@ REFUSED = [
     ("f = a+b\n", 1, "'a+b' is no input"),
     ("f = f\n", 1, "'f' is no input"),
     ("f = a*a\n", 1, "an input twice"),
+    ("f = a*~a + b\n", 1, "an input and its complement"),
     ("f = a + b + a\n", 1, "a term stands twice"),
     ("f = a*b + b*a\n", 1, "a term stands twice"),
     ("0 = a\nf = b\n", 2, "behind the elements"),
@@ -94,6 +95,11 @@ class Polynomials(Test):
         self.assertEqual(hash(one), hash(Polynomial([("c",), ("b", "a")])))
         self.assertNotEqual(one, Polynomial([("a", "b")]))
         self.assertNotEqual(one, Polynomial([("a", "b"), ("c",), ()]))
+
+    def test_twice(self):
+        for monomials in ([("a",), ("a",)], [("a", "b"), ("b", "a")], [(), ()], [("a", "a")]):
+            with self.case(monomials), self.assertRaises(ValueError):
+                Polynomial(monomials)
 
     def test_many_factors(self):
         """Numbers of more factors than are found at once."""

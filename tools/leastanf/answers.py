@@ -5,7 +5,7 @@ import operator
 import re
 
 from . import formats
-from .factors import COMPLEMENT, factors_of
+from .factors import COMPLEMENT, factors_of, is_complement
 from .polynomials import Monomials, Polynomial, bits_of
 
 
@@ -142,6 +142,8 @@ class Reader:
         names = {after: before for before, after in others}
         self.writers = [self.monomials, Monomials(names.get(factor, factor) for factor in factors)][: 1 + bool(names)]
         self.ordered = ordered
+        # The bits of complements, each beside that of its input.
+        self.complements = sum(bit for factor, bit in self.bits.items() if is_complement(factor))
 
     def polynomial(self, line, text):
         """The polynomial of a text on a line."""
@@ -149,6 +151,8 @@ class Reader:
             masks = masks_of(text, self.bits)
         except AnswerError as error:
             raise AnswerError(line, str(error)) from None
+        if self.complements and any(mask >> 1 & mask & self.complements for mask in masks):
+            raise AnswerError(line, "a term has an input and its complement")
         if not self.is_in_order(masks, text):
             return self.refuse_faults(line, text, masks)
         return Polynomial.of_masks(self.monomials, masks)

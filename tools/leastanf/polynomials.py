@@ -7,7 +7,8 @@ from .factors import COMPLEMENT, input_of, is_complement
 
 
 class Polynomial:
-    """A Boolean polynomial: the sum modulo 2 of its monomials, each the product of its factors, a tuple of names.
+    """A Boolean polynomial: the sum modulo 2 of its monomials, each the product of its factors, a tuple of names. A
+    monomial, or a factor in one, that stands twice is a ValueError.
 
     Two polynomials are equal where they have the same monomials, in whichever order.
     """
@@ -18,6 +19,9 @@ class Polynomial:
     def __init__(self, monomials=()):
         self._monomials = tuple(map(tuple, monomials))
         self._masks = self._writer = None
+        products = self.as_set()
+        if len(products) < len(self._monomials) or sum(map(len, products)) < sum(map(len, self._monomials)):
+            raise ValueError("a monomial, or a factor of one, stands twice")
 
     @classmethod
     def of_masks(cls, writer, masks):
