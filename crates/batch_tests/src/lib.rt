@@ -3,6 +3,8 @@
 #![tactic(auto)]
 
 #[cfg(test)]
+mod of_batch_pipe;
+#[cfg(test)]
 mod of_file_batch;
 #[cfg(test)]
 mod of_file_stream;

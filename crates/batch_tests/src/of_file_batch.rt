@@ -11,6 +11,8 @@ struct Echo;
 impl Answerer for Echo {
     ghost use Rattle.std.specs.Prelude.{⊤};
 
+    ghost ready = { λ echo. ⊤ };
+
     ghost answers = { λ echo file status pages. ⊤ };
 
     fn answer(&self, alloc: Global, file: &Piece) -> Result<FileAnswer, Memory> {

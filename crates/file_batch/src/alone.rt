@@ -2,7 +2,7 @@
 ghost use Rattle.std.specs.Prelude.{◌≡◌, ◌≤◌, ◌<◌, ◌+◌, ◌^◌, ◌++◌, ◌∷◌, [], List, ℕ, Option};
 ghost use Rattle.std.specs.Prelude.{length, IsErrOf, OnErr, OnOk};
 ghost use Rattle.lattice.specs.Counts.{Rose};
-ghost use Rattle.file_relay.specs.Reading.{IsReadPast};
+ghost use Rattle.file_relay.specs.Reading.{IsReadPast, IsReadThrough};
 ghost use Rattle.file_batch.specs.Alone.{AllAnswered, IsAnswered, ArePartlyAnswered};
 ghost use Rattle.file_batch.specs.Batches.{IsWritten, IsWrittenPart};
 ghost use Rattle.file_batch.specs.Progress.{IsCaused};
@@ -36,6 +36,7 @@ fn answer_next<A: Answerer, K: Sink>(
     reading: &mut Reading,
     byte: u8,
 ) -> Result<(), AllocError>
+    requires ready { A.ready answerer.now }
     requires room { reading.old.number + 1 < 2 ^ 64 }
     ensures few { reading.new.number ≤ reading.old.number + 1 }
     ensures fed { (start : Option (List ℕ)) (read : List ℕ)
@@ -68,6 +69,7 @@ fn answer_piece<A: Answerer, K: Sink>(
     reading: &mut Reading,
     bytes: &[u8],
 ) -> Result<(), AllocError>
+    requires ready { A.ready answerer.now }
     requires room { reading.old.number + length bytes.now < 2 ^ 64 }
     ensures few { reading.new.number ≤ reading.old.number + length bytes.now }
     ensures fed { (start : Option (List ℕ)) (read : List ℕ)
@@ -94,6 +96,7 @@ fn answer_last<A: Answerer, K: Sink>(
     out: &mut K,
     reading: Reading,
 ) -> Result<(), Halt>
+    requires ready { A.ready answerer.now }
     requires room { reading.number + 1 < 2 ^ 64 }
     ensures all { (start : Option (List ℕ)) (read : List ℕ)
         → IsAnswered (A.answers answerer.now) start (K.held out.old) reading read
@@ -123,12 +126,15 @@ pub fn write_alone<A: Answerer, S: Source, K: Sink>(
     source: &mut S,
     out: &mut K,
 ) -> Result<(), BatchStop>
+    requires ready { A.ready answerer.now }
     ensures whole { OnOk result (IsWritten (A.answers answerer.now) (S.left source.old)
         (S.left source.new) (K.held out.old) (K.held out.new)) }
     ensures part { IsWrittenPart (A.answers answerer.now) (S.left source.old) (S.left source.new)
         (K.held out.old) (K.held out.new) }
     ensures read { IsErrOf result ReadFault → Rose (S.faults source.old) (S.faults source.new) }
     ensures write { IsErrOf result WriteFault → Rose (K.faults out.old) (K.faults out.new) }
+    ensures through { IsErrOf result WriteFault
+        → IsReadThrough (S.left source.old) (S.left source.new) }
     ensures long { IsErrOf result TooLong → IsReadPast (S.left source.old) (S.left source.new) }
 {
     let mut reading = Reading {

@@ -4,7 +4,8 @@ ghost use Rattle.crossbeam_channel.specs.Claims.{view, IsSeatAt};
 ghost use Rattle.crossbeam_channel.specs.Ends.{receives_on, sends_on};
 ghost use Rattle.lattice.specs.Counts.{Rose};
 ghost use Rattle.file_relay.specs.Messages.{ends_once};
-ghost use Rattle.file_relay.specs.Reading.{BeforeEnd, IsReadPart, IsReadPast, IsReadWhole};
+ghost use Rattle.file_relay.specs.Reading.{BeforeEnd, IsReadPart, IsReadPast, IsReadThrough};
+ghost use Rattle.file_relay.specs.Reading.{IsReadWhole};
 ghost use Rattle.file_relay.specs.Relayed.{log};
 ghost use Rattle.file_relay.specs.declared.reader.StreamStop.TheVariants as reads;
 ghost use Rattle.file_batch.specs.Progress.{IsCaused, Progress};
@@ -38,6 +39,7 @@ fn run_both<R: Threads + Wait + Sync, A: Answerer + Sync, S: Source + Send, K: S
     sending: &mut Token,
     taking: &mut Token,
 ) -> (Result<(), Halt>, Result<(), StreamStop>)
+    requires ready { A.ready answerer.now }
     requires outlet { IsSeatAt (sends_on outlet.now) sending.old }
     requires inlet { IsSeatAt (receives_on inlet.now) taking.old }
     requires sending { view sending.old ≡ log true false [] [] }
@@ -75,12 +77,15 @@ fn write_by_two<R: Threads + Wait + Sync, A: Answerer + Sync, S: Source + Send, 
     source: &mut S,
     out: &mut K,
 ) -> Result<(), BatchStop>
+    requires ready { A.ready answerer.now }
     ensures whole { OnOk result (IsWritten (A.answers answerer.now) (S.left source.old)
         (S.left source.new) (K.held out.old) (K.held out.new)) }
     ensures part { IsWrittenPart (A.answers answerer.now) (S.left source.old) (S.left source.new)
         (K.held out.old) (K.held out.new) }
     ensures read { IsErrOf result ReadFault → Rose (S.faults source.old) (S.faults source.new) }
     ensures write { IsErrOf result WriteFault → Rose (K.faults out.old) (K.faults out.new) }
+    ensures through { IsErrOf result WriteFault
+        → IsReadThrough (S.left source.old) (S.left source.new) }
     ensures long { IsErrOf result TooLong → IsReadPast (S.left source.old) (S.left source.new) }
 {
     let Ok(link) = open_link(alloc) else {
@@ -123,12 +128,15 @@ pub fn write_batch<R: Threads + Wait + Sync, A: Answerer + Sync, S: Source + Sen
     source: &mut S,
     out: &mut K,
 ) -> Result<(), BatchStop>
+    requires ready { A.ready answerer.now }
     ensures whole { OnOk result (IsWritten (A.answers answerer.now) (S.left source.old)
         (S.left source.new) (K.held out.old) (K.held out.new)) }
     ensures part { IsWrittenPart (A.answers answerer.now) (S.left source.old) (S.left source.new)
         (K.held out.old) (K.held out.new) }
     ensures read { IsErrOf result ReadFault → Rose (S.faults source.old) (S.faults source.new) }
     ensures write { IsErrOf result WriteFault → Rose (K.faults out.old) (K.faults out.new) }
+    ensures through { IsErrOf result WriteFault
+        → IsReadThrough (S.left source.old) (S.left source.new) }
     ensures long { IsErrOf result TooLong → IsReadPast (S.left source.old) (S.left source.new) }
 {
     if threads_come(rt) {

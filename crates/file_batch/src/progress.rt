@@ -33,6 +33,7 @@ fn write_answer<A: Answerer, K: Sink>(
     number: u64,
     file: &Piece,
 ) -> Result<(), Halt>
+    requires ready { A.ready answerer.now }
     ensures wrote { HasWritten (IsAnswerTo (A.answers answerer.now) number file.now)
         (K.held out.old) (K.held out.new) result }
     ensures cause { IsCaused (K.faults out.old) (K.faults out.new) result }
@@ -54,6 +55,7 @@ pub(crate) fn write_next<A: Answerer, K: Sink>(
     message: &Message,
     written: Result<(), Halt>,
 ) -> Result<(), Halt>
+    requires ready { A.ready answerer.now }
     ensures progress { (start : Option (List ℕ)) (got : List Message)
         → Progress (A.answers answerer.now) start (K.held out.old) got written
         → Progress (A.answers answerer.now) start (K.held out.new) (got ++ message.now ∷ [])
@@ -80,6 +82,7 @@ pub(crate) fn write_blocks<R: Wait, A: Answerer, K: Sink>(
     inlet: &Inlet,
     pass: &mut Token,
 ) -> Result<(), Halt>
+    requires ready { A.ready answerer.now }
     requires channel { IsSeatAt (receives_on inlet.now) pass.old }
     requires fresh { view pass.old ≡ log false true [] [] }
     ensures channel { IsSeatAt (receives_on inlet.now) pass.new × (pass.new.id ≡ pass.old.id) }

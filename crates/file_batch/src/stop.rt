@@ -34,7 +34,7 @@ pub(crate) fn stop_of(
     ensures done { OnOk result (IsOk read × IsOk written) }
     ensures read { IsErrOf result ReadFault → IsErrOf read reads.Fault }
     ensures long { IsErrOf result TooLong → IsErrOf read reads.TooLong }
-    ensures write { IsErrOf result WriteFault → IsErrOf written halts.Fault }
+    ensures write { IsErrOf result WriteFault → IsOk read × IsErrOf written halts.Fault }
 {
     match (read, written) {
         (Err(StreamStop::Fault), _) => Err(BatchStop::ReadFault),

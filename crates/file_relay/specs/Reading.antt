@@ -26,6 +26,10 @@ pub record IsReadPart (old new : Option (List ℕ)) (sent : List Message) : Type
   pub cut : IsCut read done rest
   pub files : HaveFiles 1 sent done
 
+-- the stream was read to its end, and has no more bytes than it may have
+abbrev pub IsReadThrough : Option (List ℕ) → Option (List ℕ) → Type 0
+IsReadThrough old new = (read : List ℕ) × Consumes old new read × IsAtEnd new × (length read ≤ MOST_STREAM)
+
 -- more than a stream may have was read
 abbrev pub IsReadPast : Option (List ℕ) → Option (List ℕ) → Type 0
 IsReadPast old new = (read : List ℕ) × Consumes old new read × (MOST_STREAM < length read)

@@ -1,6 +1,6 @@
 //! Functions that do nothing. Their contracts are the laws of `specs/Laws.antt`, so a check proves
 //! these.
-ghost use Rattle.program.specs.Duties.{OneIsDue};
+ghost use Rattle.program.specs.Duties.{IsLawful, OneIsDue};
 ghost use Rattle.interp_run.specs.Duty.{interp_duty};
 ghost use Rattle.interp_run.specs.Laws.{DueForTwoPoints, FirstWithinLast, SomeIsDue};
 ghost use Rattle.interp_run.specs.Laws.{WordsAskForJobs, WorkersAreFree, YesIsRight};
@@ -10,9 +10,11 @@ use gen_pla::generate;
 use pla_reader::Pla;
 use std::alloc::Global;
 
-/// For a job and bytes one outcome, with its texts and notes, is due at most.
+/// Words ask for one job at most, and for a job and bytes one outcome, with its texts and notes, is
+/// due at most.
 pub fn one_is_due()
-    ensures { OneIsDue interp_duty }
+    ensures one { OneIsDue interp_duty }
+    ensures lawful { IsLawful interp_duty }
 {}
 
 /// For a job and bytes that describe the file, one is due at least. Where the bytes have no file,
