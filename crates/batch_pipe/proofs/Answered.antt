@@ -13,7 +13,7 @@ use Rattle.program.specs.declared.outcome.Outcome.TheVariants as ends
 use Rattle.interp_run.specs.Due.{is_gen}
 use Rattle.interp_run.specs.Duty.{interp_duty}
 use Rattle.interp_run.specs.declared.ends.OwnEnd.{OwnEnd}
-use Rattle.batch_pipe.specs.Batches.{IsAnswer, Solves}
+use Rattle.batch_pipe.specs.Batches.{IsAnsweredAlone, Solves}
 
 module _ (job : Job) (bytes : List ℕ) (o : Outcome OwnEnd) where
   -- an answer by its status alone
@@ -21,13 +21,13 @@ module _ (job : Job) (bytes : List ℕ) (o : Outcome OwnEnd) where
   HasStatus r = IfOk r (λ a. (a.status ≡ status_of interp_duty.way o) × (a.pages ≡ []))
 
   pub due_alone : (r : Result FileAnswer Memory) → IsDueFor interp_duty job bytes (silent o) → HasStatus r
-      → IfOk r (λ a. IsAnswer job bytes a.status a.pages)
+      → IfOk r (λ a. IsAnsweredAlone job bytes a.status a.pages)
   due_alone (Ok a) is has = record { due = silent o; is_due = is; status_is = has.0; pages_are = has.1 }
   due_alone (Err e) is has = tt
 
 pub ends_alone : (job : Job) (bytes : List ℕ) {o : Outcome OwnEnd} (r : Result FileAnswer Memory)
     → EndsWithout (IsDueFor interp_duty job bytes) o → HasStatus job bytes o r → (IsOk r → o ≢ ends.Memory)
-    → IfOk r (λ a. IsAnswer job bytes a.status a.pages)
+    → IfOk r (λ a. IsAnsweredAlone job bytes a.status a.pages)
 ends_alone job bytes r (due_without o is) has remembered = due_alone job bytes o r is has
 ends_alone job bytes (Ok a) no_memory has remembered = absurd (remembered refl refl)
 ends_alone job bytes (Err e) no_memory has remembered = tt

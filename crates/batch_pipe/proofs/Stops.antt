@@ -1,11 +1,11 @@
 -- What a batch says by how it ended, where its source tells its bytes.
-use Rattle.std.proofs.Common.{◌≡◌, ◌≢◌, ◌⊎◌, ◌≤◌, ◌<◌, ◌++◌, ◌∷◌, ◌∙◌, ℕ, List, [], Option, None, Some, ap, append-nil, arith, inl, inr}
+use Rattle.std.proofs.Common.{◌≡◌, ◌≢◌, ◌⊎◌, ◌≤◌, ◌++◌, ◌∙◌, ℕ, List, [], Option, None, Some, ap, append-nil, arith, inl, inr}
 use Rattle.std.proofs.Common.{length, length-append, refl, subst, sym}
 use Rattle.std.specs.List.{concat}
 use Rattle.std.specs.Io.KnownBytes.{Appends, Consumes, IsAtEnd}
 use Rattle.cli_words.specs.declared.job.Job.{Job}
 use Rattle.file_stream.specs.Files.{files_of}
-use Rattle.file_relay.specs.Reading.{IsReadPast, IsReadThrough}
+use Rattle.file_relay.specs.Reading.{IsReadPast}
 use Rattle.file_relay.specs.declared.reader.TheConstants.{MOST_STREAM}
 use Rattle.file_batch.specs.Batches.{IsWritten}
 use Rattle.file_batch.specs.Blocks.{AreBlocks}
@@ -17,7 +17,7 @@ use Rattle.program.specs.Runs.{no_memory_for_words, refused}
 use Rattle.program.specs.declared.outcome.NoEnd.{NoEnd}
 use Rattle.program.specs.declared.outcome.Outcome.{Outcome}
 use Rattle.program.specs.declared.outcome.Outcome.TheVariants as ends
-use Rattle.batch_pipe.specs.Batches.{IsAnswer, IsAsked, IsRefused, batch_duty, blocks}
+use Rattle.batch_pipe.specs.Batches.{IsAnsweredAlone, IsAsked, IsRefused, batch_duty, blocks}
 use Rattle.batch_pipe.specs.Runs.{Ends, no_job, stop_outcome, stopped, written}
 
 -- ---- what was read of a source that tells its bytes
@@ -82,13 +82,14 @@ module _ (lawful : IsLawful batch_duty) (left later old new : Option (List ℕ))
   past (read, lost, long) due (too_long reads over) = inr (refl, λ text. absurd (omega (arith, text)))
   past (read, lost, long) due (within _ reads few is) = absurd (omega (arith, long, few, read_length left later read bytes lost told))
 
-  whole : IsWritten (IsAnswer job) left later old new → (due : Due NoEnd) → IsDueFor batch_duty job bytes due → Meets old new due ends.Done
+  whole : IsWritten (IsAnsweredAlone job) left later old new → (due : Due NoEnd) → IsDueFor batch_duty job bytes due
+      → Meets old new due ends.Done
   whole w due (unread _ none is) = cc
   whole w due (too_long reads over) =
       absurd (omega (arith, over, w.within, ap length (read_whole left later w.read bytes w.lost w.ended told)))
   whole w due (within _ reads few (blocks text are)) =
       let all = read_whole left later w.read bytes w.lost w.ended told in
-      let read = subst (λ (l : List ℕ). AreBlocks (IsAnswer job) 1 (files_of l) w.text) all w.blocks in
+      let read = subst (λ (l : List ℕ). AreBlocks (IsAnsweredAlone job) 1 (files_of l) w.text) all w.blocks in
       let same = lawful.one_due job bytes (done w.text) (done text) (blocks w.text read) (blocks text are) in
       let page : w.text ++ [] ≡ text ++ [] = ap (λ (d : Due NoEnd). concat d.pages) same in
       inr (refl, λ has. subst (Appends old new) (sym (append-nil w.text) ∙ page) w.gained)
@@ -101,7 +102,7 @@ module _ (lawful : IsLawful batch_duty) {words : List (List ℕ)} {left later ol
   met (no_job _ (refused r) lost kept) read write long due is = absurd (lawful.apart words job r asked)
   met (no_job _ (no_memory_for_words m) lost kept) read write long due is = inl refl
   met (written other a w) read write long due is =
-      let same = subst (λ (j : Job). IsWritten (IsAnswer j) left later old new) (lawful.one_job words other job a asked) w in
+      let same = subst (λ (j : Job). IsWritten (IsAnsweredAlone j) left later old new) (lawful.one_job words other job a asked) w in
       whole lawful left later old new job bytes told same due is
   met (stopped other stops.Memory a part) read write long due is = inl refl
   met (stopped other stops.ReadFault a part) read write long due is = absurd (calm (read refl))

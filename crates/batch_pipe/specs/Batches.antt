@@ -13,7 +13,7 @@ use Rattle.interp_run.specs.Duty.{interp_duty}
 use Rattle.interp_run.specs.declared.ends.OwnEnd.{OwnEnd}
 
 -- what `interp` answers to a file alone: the status, and the texts of the outputs
-pub record IsAnswer (job : Job) (file : List ℕ) (status : ℕ) (pages : List (List ℕ)) : Type 0 where
+pub record IsAnsweredAlone (job : Job) (file : List ℕ) (status : ℕ) (pages : List (List ℕ)) : Type 0 where
   pub due : Due OwnEnd
   pub is_due : IsDueFor interp_duty job file due
   pub status_is : status ≡ status_of interp_duty.way due.outcome
@@ -34,7 +34,7 @@ IsRefused words = interp_duty.IsRefused words ⊎ ((job : Job) × interp_duty.Is
 
 -- what is due for a stream: the blocks of its files, in order
 pub data IsDue (job : Job) (stream : List ℕ) : Due NoEnd → Type 0 where
-  blocks : (text : List ℕ) → AreBlocks (IsAnswer job) 1 (files_of stream) text → IsDue job stream (done text)
+  blocks : (text : List ℕ) → AreBlocks (IsAnsweredAlone job) 1 (files_of stream) text → IsDue job stream (done text)
 
 abbrev pub batch_duty : Duty Job NoEnd
 batch_duty = record {

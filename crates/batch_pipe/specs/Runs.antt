@@ -10,7 +10,7 @@ use Rattle.program.specs.Runs.{GivesNoJob}
 use Rattle.program.specs.declared.outcome.NoEnd.{NoEnd}
 use Rattle.program.specs.declared.outcome.Outcome.{Outcome}
 use Rattle.program.specs.declared.outcome.Outcome.TheVariants as ends
-use Rattle.batch_pipe.specs.Batches.{IsAnswer, IsAsked, batch_duty}
+use Rattle.batch_pipe.specs.Batches.{IsAnsweredAlone, IsAsked, batch_duty}
 
 -- the outcome of a batch that stopped before its end
 abbrev pub stop_outcome : BatchStop → Outcome NoEnd
@@ -22,6 +22,6 @@ stop_outcome stops.TooLong = ends.TooLong MOST_STREAM
 -- with such words a batch ends so: all blocks were written, or it stopped, and of the blocks of files that were read whole a front was
 pub data Ends (words : List (List ℕ)) (left later old new : Option (List ℕ)) : Outcome NoEnd → Type 0 where
   no_job : (o : Outcome NoEnd) → GivesNoJob batch_duty words o → later ≡ left → Keeps old new → Ends words left later old new o
-  written : (job : Job) → IsAsked words job → IsWritten (IsAnswer job) left later old new → Ends words left later old new ends.Done
-  stopped : (job : Job) (stop : BatchStop) → IsAsked words job → IsWrittenPart (IsAnswer job) left later old new
+  written : (job : Job) → IsAsked words job → IsWritten (IsAnsweredAlone job) left later old new → Ends words left later old new ends.Done
+  stopped : (job : Job) (stop : BatchStop) → IsAsked words job → IsWrittenPart (IsAnsweredAlone job) left later old new
       → Ends words left later old new (stop_outcome stop)

@@ -5,7 +5,7 @@ ghost use Rattle.cli_words.specs.CommandLine.{IsWithin};
 ghost use Rattle.program.specs.Outcomes.{status_of};
 ghost use Rattle.program.specs.declared.outcome.Outcome.TheVariants as outcomes;
 ghost use Rattle.interp_run.specs.Duty.{interp_duty};
-ghost use Rattle.batch_pipe.specs.Batches.{IsAnswer, Solves};
+ghost use Rattle.batch_pipe.specs.Batches.{IsAnsweredAlone, Solves};
 
 use cli_words::Job;
 use file_batch::{Answerer, FileAnswer};
@@ -48,7 +48,7 @@ fn without_answer(alloc: Global, outcome: Outcome<OwnEnd>) -> Result<FileAnswer,
 impl<'a, R: Threads + Sync> Answerer for FileSolver<'a, R> {
     ghost ready = { λ solver. IsSync R.row × Solves solver.job.now.mode × IsWithin solver.job.now };
 
-    ghost answers = { λ solver. IsAnswer solver.job.now };
+    ghost answers = { λ solver. IsAnsweredAlone solver.job.now };
 
     fn answer(&self, alloc: Global, file: &Piece) -> Result<FileAnswer, Memory> {
         let bytes = match file {
@@ -58,7 +58,14 @@ impl<'a, R: Threads + Sync> Answerer for FileSolver<'a, R> {
             }
         };
         let mut pool = Drawn::new();
-        match answer_of(self.rt, alloc, self.job, &mut pool, bytes.as_slice(), self.gate) {
+        match answer_of(
+            self.rt,
+            alloc,
+            self.job,
+            &mut pool,
+            bytes.as_slice(),
+            self.gate,
+        ) {
             Ok(answer) => Ok(FileAnswer {
                 status: 0,
                 pages: answer.pages,

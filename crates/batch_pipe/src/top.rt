@@ -156,13 +156,7 @@ pub fn start_batch<
     S: Source + Send,
     K: Sink + Send,
     E: Sink,
->(
-    rt: &R,
-    alloc: Global,
-    source: &mut S,
-    out: &mut K,
-    err: &mut E,
-) -> u8
+>(rt: &R, alloc: Global, source: &mut S, out: &mut K, err: &mut E) -> u8
     // There are words for which the batch ended so, or there was no memory for them; and err gained
     // the line of the outcome.
     ensures ran { (outcome : Outcome NoEnd) × (result ≡ status_of batch_duty.way outcome)

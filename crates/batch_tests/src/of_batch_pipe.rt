@@ -47,8 +47,9 @@ fn check<R: Threads + Wait + Abort + Sync>(
 ) -> Result<(), Fail> {
     let words = words_of(alloc, line)?;
     let stream = joined(alloc, stream)?;
-    let mut source =
-        MemSource::make(alloc, stream.as_bytes(), 16, &[fails.0]).map_err(|_| "memory")?;
+    let mut source = MemSource::make(alloc, stream.as_bytes(), 16, &[fails.0]).map_err(
+        |_| "memory",
+    )?;
     let mut out = MemSink::make(alloc, 400, 100, &[fails.1]).map_err(|_| "memory")?;
     let mut err = MemSink::make(alloc, 200, 7, &[]).map_err(|_| "memory")?;
     let gate = Rendezvous::open();
@@ -64,18 +65,45 @@ fn files_are_answered_alone(rt: HostRuntime) -> Result<(), Fail> {
     let alloc = rt.alloc();
     let stream = [POINTS, ".e\n", CONTRADICTION, ".e\n", POINTS];
     let blocks = "file 1 0\nf1 = x2\nfile 2 4\nfile 3 0\nf1 = x2\n";
-    check(&rt, alloc, "batch anf", &stream, (NEVER, NEVER), (0, blocks, ""))?;
+    check(
+        &rt,
+        alloc,
+        "batch anf",
+        &stream,
+        (NEVER, NEVER),
+        (0, blocks, ""),
+    )?;
     let blocks = "file 1 0\nf1 = x2\n0 = x1 + x2\nfile 2 4\nfile 3 0\nf1 = x2\n0 = x1 + x2\n";
-    check(&rt, alloc, "batch basis --workers 4", &stream, (NEVER, NEVER), (0, blocks, ""))?;
+    check(
+        &rt,
+        alloc,
+        "batch basis --workers 4",
+        &stream,
+        (NEVER, NEVER),
+        (0, blocks, ""),
+    )?;
     let blocks = "file 1 0\nf1 = x1\nfile 2 4\nfile 3 0\nf1 = x1\n";
-    check(&rt, alloc, "batch anf --order x2,x1", &stream, (NEVER, NEVER), (0, blocks, ""))?;
+    check(
+        &rt,
+        alloc,
+        "batch anf --order x2,x1",
+        &stream,
+        (NEVER, NEVER),
+        (0, blocks, ""),
+    )?;
     check(&rt, alloc, "batch anf", &[""], (NEVER, NEVER), (0, "", ""))
 }
 
 #[test]
 fn words_are_refused(rt: HostRuntime) -> Result<(), Fail> {
     let alloc = rt.alloc();
-    for line in ["batch", "batch check", "batch gen --seed 1", "batch anf basis", "batch reduce"] {
+    for line in [
+        "batch",
+        "batch check",
+        "batch gen --seed 1",
+        "batch anf basis",
+        "batch reduce",
+    ] {
         check(&rt, alloc, line, &[POINTS], (NEVER, NEVER), (2, "", USAGE))?;
     }
     Ok(())
@@ -85,11 +113,39 @@ fn words_are_refused(rt: HostRuntime) -> Result<(), Fail> {
 fn faults_end_a_batch(rt: HostRuntime) -> Result<(), Fail> {
     let alloc = rt.alloc();
     let stream = [POINTS, ".e\n", POINTS, ".e\n", POINTS];
-    check(&rt, alloc, "batch anf", &stream, (1, NEVER), (8, "", "batch: read fault\n"))?;
-    check(&rt, alloc, "batch anf", &stream, (NEVER, 1), (9, "", "batch: write fault\n"))?;
-    check(&rt, alloc, "batch anf", &stream, (2, 1), (8, "", "batch: read fault\n"))?;
+    check(
+        &rt,
+        alloc,
+        "batch anf",
+        &stream,
+        (1, NEVER),
+        (8, "", "batch: read fault\n"),
+    )?;
+    check(
+        &rt,
+        alloc,
+        "batch anf",
+        &stream,
+        (NEVER, 1),
+        (9, "", "batch: write fault\n"),
+    )?;
+    check(
+        &rt,
+        alloc,
+        "batch anf",
+        &stream,
+        (2, 1),
+        (8, "", "batch: read fault\n"),
+    )?;
     let front = "file 1 0\nf1 = x2\nfile 2 0\n";
-    check(&rt, alloc, "batch anf", &stream, (NEVER, 4), (9, front, "batch: write fault\n"))
+    check(
+        &rt,
+        alloc,
+        "batch anf",
+        &stream,
+        (NEVER, 4),
+        (9, front, "batch: write fault\n"),
+    )
 }
 
 #[test]

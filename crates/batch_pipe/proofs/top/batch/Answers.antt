@@ -1,4 +1,4 @@
-use Rattle.std.proofs.Common.{◌≡◌, ◌∙◌, sym}
+use Rattle.std.proofs.Common.{◌∙◌, sym}
 use Rattle.batch_pipe.proofs.Stops.{is_long, is_usage, met, met_end, refuses}
 use Rattle.batch_pipe.proofs.top.batch.Goals as goal
 

@@ -1,6 +1,6 @@
 use Rattle.std.proofs.Common.{◌≡◌, ◌⊎◌, ◌∙◌, Err, ap, inl, inr, sym}
 use Rattle.lattice.specs.declared.kind.Mode.{Mode}
-use Rattle.lattice.specs.declared.kind.Mode.TheVariants.{Anf, Basis, Check, Gen}
+use Rattle.lattice.specs.declared.kind.Mode.TheVariants.{Check, Gen}
 use Rattle.program.specs.Runs.{no_memory_for_words, refused}
 use Rattle.batch_pipe.specs.Batches.{Solves}
 use Rattle.batch_pipe.proofs.top.job_of.Goals as goal
