@@ -83,6 +83,12 @@ workers_of Away = 0
 workers_of (One w) = w.workers
 workers_of (Two' p a q b) = workers_of a + workers_of b
 
+-- how many job workers there are
+abbrev pub job_workers_of : Crew → ℕ
+job_workers_of Away = 0
+job_workers_of (One w) = 1
+job_workers_of (Two' p a q b) = job_workers_of a + job_workers_of b
+
 -- how many job workers and halves there are
 abbrev pub size_of : Crew → ℕ
 size_of Away = 0
@@ -97,29 +103,24 @@ pub record IsSent (tasks : Tasks) (table : Shared) (counter : Counter) (token : 
   pub may : MayWork tasks (token_state token)
   pub ready : IsReady tasks.total (drawing drawer).parts crew
 
+-- workers drew numbers and answered them from s to t, or found the store full
+pub record DidWork (tasks : Tasks) (s t : State) : Type 0 where
+  pub drew : List ℕ
+  pub answers : List Answer
+  pub result : Result (Unit {0}) Full
+  pub works : Works tasks s t drew answers result
+
+-- so many job workers did: one of them, or those of two halves, of which each worked from a twin of s and to the token that it gave
+-- back, and t took in what both know, hold and did, whether or not one of them found the store full
+pub data WorkedBy (tasks : Tasks) : ℕ → State → State → Type 0 where
+  alone : (s t : State) → DidWork tasks s t → WorkedBy tasks 1 s t
+  in_halves : (m n : ℕ) (s t : State) (first second : Token) → DidWork tasks s t → WorkedBy tasks m (twin_of s) (token_state first)
+      → WorkedBy tasks n (twin_of s) (token_state second) → TakesBoth s (token_state first) (token_state second) t
+      → WorkedBy tasks (m + n) s t
+
 -- what it leaves
-pub record IsBack (tasks : Tasks) (table : Shared) (token : Token) (drawer : Drawer) (back : Branch) : Type 0 where
+pub record IsBack (tasks : Tasks) (table : Shared) (token : Token) (drawer : Drawer) (crew : Crew) (back : Branch) : Type 0 where
   pub of_table : IsOf back.token table
   pub draws : GoesOnDrawing (drawing drawer) (drawing back.drawer)
   pub works : Works tasks (token_state token) (token_state back.token) (drawing back.drawer).drawn (answers_of back.crew.value) back.result
-
--- both halves of a crew worked, each from a twin of s and to the token that it gave back, and t took in what both know, hold and did,
--- whether or not one of them found the store full
-pub record WorksInHalves (tasks : Tasks) (s t : State) : Type 0 where
-  pub first : Token
-  pub second : Token
-  pub first_drew : List ℕ
-  pub second_drew : List ℕ
-  pub front : List Answer
-  pub back : List Answer
-  pub first_result : Result (Unit {0}) Full
-  pub second_result : Result (Unit {0}) Full
-  pub one : Works tasks (twin_of s) (token_state first) first_drew front first_result
-  pub two : Works tasks (twin_of s) (token_state second) second_drew back second_result
-  pub takes : TakesBoth s (token_state first) (token_state second) t
-
--- the crew has two halves
-abbrev pub HasHalves : Crew → Type 0
-HasHalves Away = ⊥
-HasHalves (One w) = ⊥
-HasHalves (Two' p a q b) = Unit {0}
+  pub worked : WorkedBy tasks (job_workers_of crew) (token_state token) (token_state back.token)

@@ -1,6 +1,6 @@
 //! The job workers of a call, by halves.
 ghost use Rattle.std.specs.Prelude.{◌≡◌, ◌+◌, ◌*◌, ◌^◌, ◌≤◌, ℕ, IfOk, min};
-ghost use Rattle.fork_branches.specs.Work.{IsReady, HasHalves, workers_of};
+ghost use Rattle.fork_branches.specs.Work.{IsReady, workers_of, job_workers_of};
 
 use lattice::Memory;
 use node_store::Handle;
@@ -44,7 +44,7 @@ pub fn make_crew(
     ensures ready { IfOk result (λ c. (parts : ℕ) → job_workers * job_workers * 2 ^ 30 ≤ parts
         → IsReady room parts c) }
     ensures workers { IfOk result (λ c. workers_of c ≡ job_workers * each + more) }
-    ensures halves { IfOk result (λ c. 2 ≤ job_workers → HasHalves c) }
+    ensures job_workers { IfOk result (λ c. job_workers_of c ≡ job_workers) }
 {
     if job_workers == 1 {
         let answers = Vec::with_capacity(alloc, room as usize)?;

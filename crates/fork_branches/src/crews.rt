@@ -1,10 +1,10 @@
 //! The job workers beside each other.
-ghost use Rattle.std.specs.Prelude.{◌≡◌, ◌/◌, ◌-◌, ◌++◌, []};
+ghost use Rattle.std.specs.Prelude.{◌≡◌, ◌+◌, ◌/◌, ◌-◌, ◌++◌, []};
 ghost use Rattle.std.specs.Thread.{IsSync};
 ghost use Rattle.job_counter.specs.Drawing.{drawing, IsOf};
 ghost use Rattle.computed_cache.specs.Cached.{cached_state};
-ghost use Rattle.fork_branches.specs.Work.{MayWork, Works, WorksInHalves, GoesOnDrawing, IsReady};
-ghost use Rattle.fork_branches.specs.Work.{IsSent, IsBack, HasHalves, answers_of};
+ghost use Rattle.fork_branches.specs.Work.{MayWork, Works, WorkedBy, GoesOnDrawing, IsReady};
+ghost use Rattle.fork_branches.specs.Work.{IsSent, IsBack, answers_of, job_workers_of};
 
 use crate::crew::Crew;
 use crate::forked::Forked;
@@ -50,7 +50,8 @@ fn work_both<R: Threads + Sync, J: Jobs>(
     ensures works { Works (J.tasks jobs.now) (cached_state pass.old) (cached_state pass.new)
         (drawing drawer.new).drawn (answers_of result.0.value ++ answers_of result.1.value)
         result.2 }
-    ensures halves { WorksInHalves (J.tasks jobs.now) (cached_state pass.old)
+    ensures worked { WorkedBy (J.tasks jobs.now)
+        (job_workers_of first.value + job_workers_of second.value) (cached_state pass.old)
         (cached_state pass.new) }
 {
     let table = pass.table();
@@ -61,7 +62,7 @@ fn work_both<R: Threads + Sync, J: Jobs>(
     let front = move || -> Branch
         requires { IsSync R.row × IsSent (J.tasks jobs.now) table.now counter.now one mine
             first.value }
-        ensures { IsBack (J.tasks jobs.entry.now) table.entry.now one mine result }
+        ensures { IsBack (J.tasks jobs.entry.now) table.entry.now one mine first.value result }
     {
         gate.enter(0);
         work_on(rt, gate, counter, table, jobs, one, mine, first)
@@ -69,7 +70,7 @@ fn work_both<R: Threads + Sync, J: Jobs>(
     let back = move || -> Branch
         requires { IsSync R.row × IsSent (J.tasks jobs.now) table.now counter.now two other
             second.value }
-        ensures { IsBack (J.tasks jobs.entry.now) table.entry.now two other result }
+        ensures { IsBack (J.tasks jobs.entry.now) table.entry.now two other second.value result }
     {
         gate.enter(1);
         work_on(rt, gate, counter, table, jobs, two, other, second)
@@ -95,7 +96,7 @@ fn work_on<R: Threads + Sync, J: Jobs>(
     crew: Box<Crew>,
 ) -> Branch
     requires { IsSent (J.tasks jobs.now) table.now counter.now token drawer crew.value }
-    ensures { IsBack (J.tasks jobs.now) table.entry.now token drawer result }
+    ensures { IsBack (J.tasks jobs.now) table.entry.now token drawer crew.value result }
 {
     let mut drawer = drawer;
     let mut crew = crew;
@@ -129,8 +130,8 @@ pub fn work_in<R: Threads + Sync, J: Jobs>(
     ensures drawer { GoesOnDrawing (drawing drawer.old) (drawing drawer.new) }
     ensures works { Works (J.tasks jobs.now) (cached_state pass.old) (cached_state pass.new)
         (drawing drawer.new).drawn (answers_of crew.new) result }
-    ensures halves { HasHalves crew.old
-        → WorksInHalves (J.tasks jobs.now) (cached_state pass.old) (cached_state pass.new) }
+    ensures worked { WorkedBy (J.tasks jobs.now) (job_workers_of crew.old)
+        (cached_state pass.old) (cached_state pass.new) }
 {
     match mem::replace(crew, Crew::Away) {
         Crew::Away => Ok(()),

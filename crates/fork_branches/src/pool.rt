@@ -27,10 +27,10 @@ impl Solved {
 /// What runs lists of jobs, and counts the jobs that it answered: `done`.
 pub trait Pool {
     ghost use Rattle.std.specs.Prelude.{◌≡◌, ◌≤◌, ◌<◌, ◌+◌, ◌^◌, ℕ, length, IfOk, IfErr, OnOk};
-    ghost use Rattle.std.specs.Prelude.{OnErr};
+    ghost use Rattle.std.specs.Prelude.{OnErr, min};
     ghost use Rattle.node_store.specs.Stores.{Grows};
     ghost use Rattle.computed_cache.specs.Cached.{cached_state};
-    ghost use Rattle.fork_branches.specs.Work.{MayWork, WorksInHalves};
+    ghost use Rattle.fork_branches.specs.Work.{MayWork, WorkedBy};
     ghost use Rattle.fork_branches.specs.Solves.{AreSolved, Refuses, AreRun};
 
     ghost done: { Self → ℕ };
@@ -60,8 +60,9 @@ pub trait Pool {
             (λ v. AreSolved (J.tasks jobs.now) (cached_state pass.old) (cached_state pass.new)
             v.items) }
         ensures refused { IfErr result (Refuses (cached_state pass.old) (cached_state pass.new)) }
-        ensures halves { AreRun result → 2 ≤ workers → 2 ≤ (J.tasks jobs.now).total
-            → WorksInHalves (J.tasks jobs.now) (cached_state pass.old) (cached_state pass.new) }
+        ensures worked { AreRun result → 1 ≤ (J.tasks jobs.now).total
+            → WorkedBy (J.tasks jobs.now) (min workers (J.tasks jobs.now).total)
+            (cached_state pass.old) (cached_state pass.new) }
         ensures done { OnOk result (done self.new ≡ done self.old + (J.tasks jobs.now).total) }
         ensures undone { OnErr result (done self.new ≡ done self.old) }
     {

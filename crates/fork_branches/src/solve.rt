@@ -1,11 +1,11 @@
 //! All jobs of a list.
-ghost use Rattle.std.specs.Prelude.{◌≡◌, ◌≤◌, ◌<◌, IfOk, IfErr, All, length};
+ghost use Rattle.std.specs.Prelude.{◌≡◌, ◌≤◌, ◌<◌, IfOk, IfErr, All, length, min};
 ghost use Rattle.node_store.specs.Stores.{Grows};
 ghost use Rattle.computed_cache.specs.Cached.{cached_state};
 ghost use Rattle.job_counter.specs.Drawing.{drawing, first_drawing, name};
 ghost use Rattle.job_counter.specs.declared.counter.TheConstants.{ALL_PARTS};
-ghost use Rattle.fork_branches.specs.Work.{MayWork, WorksInHalves, IsReady, HasHalves, answers_of};
-ghost use Rattle.fork_branches.specs.Work.{workers_of};
+ghost use Rattle.fork_branches.specs.Work.{MayWork, WorkedBy, IsReady, answers_of};
+ghost use Rattle.fork_branches.specs.Work.{workers_of, job_workers_of};
 ghost use Rattle.fork_branches.specs.Solves.{AreSolved, Refuses, AreRun, placed};
 
 use crate::crew::{Answer, Crew, make_crew};
@@ -65,7 +65,7 @@ fn prepare(alloc: Global, count: u32, workers: u32) -> Result<Prepared, Memory>
     ensures handles { IfOk result (λ p. length p.handles.items ≡ count) }
     ensures ready { IfOk result (λ p. IsReady count ALL_PARTS p.crew) }
     ensures workers { IfOk result (λ p. workers_of p.crew ≡ workers) }
-    ensures halves { IfOk result (λ p. 2 ≤ workers → 2 ≤ count → HasHalves p.crew) }
+    ensures job_workers { IfOk result (λ p. job_workers_of p.crew ≡ min workers count) }
     ensures drawer { IfOk result (λ p. drawing p.drawer ≡ first_drawing (name p.counter)) }
 {
     let handles = Vec::from_elem(alloc, Handle(0), count as usize)?;
@@ -129,8 +129,9 @@ pub fn solve_all<R: Threads + Sync, J: Jobs>(
     ensures solved { IfOk result (λ v. AreSolved (J.tasks jobs.now) (cached_state pass.old)
         (cached_state pass.new) v.items) }
     ensures refused { IfErr result (Refuses (cached_state pass.old) (cached_state pass.new)) }
-    ensures halves { AreRun result → 2 ≤ workers → 2 ≤ (J.tasks jobs.now).total
-        → WorksInHalves (J.tasks jobs.now) (cached_state pass.old) (cached_state pass.new) }
+    ensures worked { AreRun result → 1 ≤ (J.tasks jobs.now).total
+        → WorkedBy (J.tasks jobs.now) (min workers (J.tasks jobs.now).total)
+        (cached_state pass.old) (cached_state pass.new) }
 {
     let count = jobs.count();
     if count == 0 {

@@ -2,7 +2,7 @@ use Rattle.std.proofs.Common.{rules, ◌≡◌, ◌∙◌, ◌++◌, refl, ap, s
 use Rattle.unique_table.specs.Passes.{twin_of}
 use Rattle.job_counter.specs.Drawing.{drawing, left_half, right_half}
 use Rattle.computed_cache.specs.Cached.{cached_sound, cached_state}
-use Rattle.fork_branches.specs.Work.{IsReady, IsSent, answers_of}
+use Rattle.fork_branches.specs.Work.{DidWork, IsReady, IsSent, alone, in_halves, job_workers_of}
 use Rattle.fork_branches.specs.declared.crew.Crew.TheVariants.{One}
 use Rattle.fork_branches.proofs.Branches.{takes_both}
 use Rattle.fork_branches.proofs.Works.{both_work, sent}
@@ -28,6 +28,12 @@ work_in-work-result-requires-sync-J g t c κs within =
     rw (sym c.replace.ensures.value ∙ c.in-One.is) at c.requires.ready in
     search (rules, ready)
 
+pub work_in-returns-in-One-clause-worked : goal.work_in-returns-in-One-clause-worked
+work_in-returns-in-One-clause-worked g t c =
+    let did : DidWork (g.J.Jobs.tasks c.args.jobs.now) (cached_state c.args.pass.now) (cached_state c.work-result.new.pass) =
+    record { drew = _; answers = _; result = _; works = c.work-result.ensures.works } in
+    rw (sym c.replace.ensures.value ∙ c.in-One.is) (alone _ _ did)
+
 pub work_both-returns-clause-works : goal.work_both-returns-clause-works
 work_both-returns-clause-works g m c =
     let here = c.split-2.ensures.same ∙ c.split.ensures.same in let z_is = c.split-2.ensures.twin ∙ ap twin_of c.split.ensures.same in
@@ -42,20 +48,14 @@ work_both-returns-clause-works g m c =
     rw (c.join-4.ensures, c.join-3.ensures, c.split-other.ensures.left, c.split-mine.ensures.left, c.requires.fresh) refl in
     rw (all, c.and.ensures) both
 
-pub work_both-returns-clause-halves : goal.work_both-returns-clause-halves
-work_both-returns-clause-halves g m c =
+pub work_both-returns-clause-worked : goal.work_both-returns-clause-worked
+work_both-returns-clause-worked g m c =
     let here = c.split-2.ensures.same ∙ c.split.ensures.same in let z_is = c.split-2.ensures.twin ∙ ap twin_of c.split.ensures.same in
-    let front = c.join-front.result.0 in let back = c.join-front.result.1 in record {
-      first = front.token;
-      second = back.token;
-      first_drew = (drawing front.drawer).drawn;
-      second_drew = (drawing back.drawer).drawn;
-      front = answers_of front.crew.value;
-      back = answers_of back.crew.value;
-      first_result = front.result;
-      second_result = back.result;
-      one = rw (c.end-one.ensures.state, c.end.ensures.state, c.split.ensures.twin) at c.join-front.ensures.first.works;
-      two = rw (c.end-two.ensures.state, c.end-2.ensures.state, z_is) at c.join-front.ensures.second.works;
-      takes = takes_both (rw (c.new.ensures.state, c.pass.ensures.state, here) at c.join.ensures.joined)
-          (rw (c.new-2.ensures.state, c.pass-2.ensures.state) at c.join-2.ensures.joined);
-    }
+    let s = cached_state c.args.pass.now in let t = cached_state c.join-2.new.self in
+    let front = c.join-front.result.0 in let back = c.join-front.result.1 in
+    let one = rw (c.end-one.ensures.state, c.end.ensures.state, c.split.ensures.twin) at c.join-front.ensures.first.worked in
+    let two = rw (c.end-two.ensures.state, c.end-2.ensures.state, z_is) at c.join-front.ensures.second.worked in
+    let takes = takes_both (rw (c.new.ensures.state, c.pass.ensures.state, here) at c.join.ensures.joined)
+    (rw (c.new-2.ensures.state, c.pass-2.ensures.state) at c.join-2.ensures.joined) in
+    in_halves (job_workers_of c.args.first.value) (job_workers_of c.args.second.value) s t front.token back.token
+    (record { drew = _; answers = _; result = _; works = work_both-returns-clause-works g m c }) one two takes
