@@ -10,7 +10,7 @@ use Rattle.lattice.specs.Words.{Family, IsFamily, Covers, has, family_where, num
 use Rattle.lattice.specs.Words.{high_cofactor, level, sub, takes_family, takes_variable, answer, IsAllowed, working_set}
 use Rattle.lattice.specs.declared.op.Op.{Op}
 use Rattle.lattice.specs.declared.op.Op.TheVariants.{Least, Leads, TimesVar}
-use Rattle.lattice.proofs.Diagrams.{IsFamily-nil, IsFamily-unit, level-below, level-join, sub-join_self, covers_part, covers_append}
+use Rattle.lattice.proofs.Diagrams.{IsFamily-nil, IsFamily-unit, level-below, level-join, sub-join_self, covers_append}
 use Rattle.lattice.proofs.Diagrams.{covers_nil, covers_sub, covers_one, IsLegal-prop, Has-nil, Has-cases, Has-head, Has-tail}
 use Rattle.lattice.proofs.Diagrams.{IsFamily-single, power_whole, join_cofactors_suc, IsFamily-power, Has-all_of, working_set_members}
 use Rattle.lattice.proofs.Polynomials.{family_where_has, IsFamily-combine, IsFamily-low_cofactor, IsFamily-high_cofactor}
