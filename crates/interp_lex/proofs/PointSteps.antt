@@ -30,8 +30,13 @@ module _ (p q : Bool → Bool → Bool) (pn : p false false ≡ false) (qn : q f
   module _ (sound : IsSound s) (known : Knows s a × Knows s b × Knows s c × Knows s d)
       (planned : Covers s.plan (working_set s.vars needed)) where
     start : Calls s s s.vars needed needed ((a, family s a) ∷ (b, family s b) ∷ (c, family s c) ∷ (d, family s d) ∷ [])
-    start = calls_start (Reads-refl s) (search arith) planned refl (known_at_hand sound known.0, (known_at_hand sound known.1,
-        (known_at_hand sound known.2, (known_at_hand sound known.3, tt))))
+    start = calls_start (Reads-refl s) (search arith) planned refl (
+      known_at_hand sound known.0,
+      (
+        known_at_hand sound known.1,
+        (known_at_hand sound known.2, (known_at_hand sound known.3, tt)),
+      ),
+    )
 
     module _ {t : State} {x : Handle} (one : Builds s t (Ok x) F) where
       pub first_found : Calls s t s.vars needed (G ∷ union_of s.vars F G ∷ [])
@@ -60,8 +65,10 @@ four c z0 z1 o0 o1 = (c.a_low, z0) ∷ (c.a_high, z1) ∷ (c.b_low, o0) ∷ (c.b
 
 pub four_at_hand : {s : State} {c : Cofactors} {all : List Family} → IsSound s → AreKnown s c → Covers s.plan (working_set s.vars all)
     → Calls s s s.vars all all (four c (family s c.a_low) (family s c.a_high) (family s c.b_low) (family s c.b_high))
-four_at_hand {s} sound known planned = calls_start (Reads-refl s) (search arith) planned refl (known_at_hand sound known.a_low,
-    (known_at_hand sound known.a_high, (known_at_hand sound known.b_low, (known_at_hand sound known.b_high, tt))))
+four_at_hand {s} sound known planned = calls_start (Reads-refl s) (search arith) planned refl (
+  known_at_hand sound known.a_low,
+  (known_at_hand sound known.a_high, (known_at_hand sound known.b_low, (known_at_hand sound known.b_high, tt))),
+)
 
 -- a call on four handles at hand, where the list of what it needs comes next
 module _ (list : ℕ → Family → Family → Family → Family → List Family) {s t : State} {all : List Family} {hs : List (Handle × Family)}

@@ -56,16 +56,20 @@ pub parts_start : {s r t : State} {lh hh : Handle} {all rest : List Family} (a :
     ((lh, low_cofactor (s.vars - var) (family s a)) ∷ (hh, high_cofactor (s.vars - var) (family s a)) ∷ [])
 parts_start {s} {r} {t} a var known before cut low high planned e =
     let same = Grows-family s r a before.grows known in
-    calls_start (then_reads before cut) (omega arith) planned e ((rw (before.grows.vars, same) at low, IsFamily-low_cofactor _ _),
-    ((rw (before.grows.vars, same) at high, IsFamily-high_cofactor _ _), tt))
+    calls_start (then_reads before cut) (omega arith) planned e (
+      (rw (before.grows.vars, same) at low, IsFamily-low_cofactor _ _),
+      ((rw (before.grows.vars, same) at high, IsFamily-high_cofactor _ _), tt),
+    )
 
 -- the parts of two families at their first variable are at hand
 pub cofactors_start : {s t : State} {a b : Handle} {c : Cofactors} {all rest : List Family} → Reads s t → AreCofactors s t a b c
     → Covers s.plan (working_set s.vars all) → all ≡ rest → Calls s t (s.vars - c.var) all rest
     ((c.a_low, low_cofactor (s.vars - c.var) (family s a)) ∷ (c.a_high, high_cofactor (s.vars - c.var) (family s a))
     ∷ (c.b_low, low_cofactor (s.vars - c.var) (family s b)) ∷ (c.b_high, high_cofactor (s.vars - c.var) (family s b)) ∷ [])
-cofactors_start reads are planned e = calls_start reads (omega arith) planned e ((are.a_low, IsFamily-low_cofactor _ _),
-    ((are.a_high, IsFamily-high_cofactor _ _), ((are.b_low, IsFamily-low_cofactor _ _), ((are.b_high, IsFamily-high_cofactor _ _), tt))))
+cofactors_start reads are planned e = calls_start reads (omega arith) planned e (
+  (are.a_low, IsFamily-low_cofactor _ _),
+  ((are.a_high, IsFamily-high_cofactor _ _), ((are.b_low, IsFamily-low_cofactor _ _), ((are.b_high, IsFamily-high_cofactor _ _), tt))),
+)
 
 -- the same families in another order
 pub calls_in_order : {s t : State} {d : ℕ} {all xs ys : List Family} {hs : List (Handle × Family)} → Calls s t d all xs hs
