@@ -39,6 +39,9 @@ PRINTS = [
     ("tools/judge examples/seven_segments.pla", "a: yes\nb: yes\nc: yes\nd: yes\ne: yes\nf: yes\ng: yes\n"),
     ("tools/judge examples/half_adder.pla", "graph: yes\n"),
     ("tools/agrees examples/digits.pla", "prime: no, it is 1 at 0110, where 0 is given\nprime: yes\n"),
+    ("made/blocks", "file 2 ended with 4\n"),
+    ("-k ./batch anf < made/stream", "file 3 0\ns = a + b + cin\nc = a*b + a*cin + b*cin\n"),
+    ("--joblog made/log", "file 3 0\ns = a + b + cin\nc = a*b + a*cin + b*cin\n"),
     ("tools/solve -o", "s = a + b + cin\nc = a*b + a*cin + b*cin\n"),
     ("answer_as python", "{'s': 0, 'c': 1} {'s': 6, 'c': 8}\n"),
     ("answer_as dot", 'label="cin"'),
@@ -48,7 +51,7 @@ PRINTS = [
 NO_LINES = ("prime =", "mkdir")
 
 # The programs of the system that the lines need.
-PROGRAMS = ("yosys", "berkeley-abc", "Singular", "M2", "cryptominisat5")
+PROGRAMS = ("yosys", "berkeley-abc", "Singular", "M2", "cryptominisat5", "parallel")
 
 # Lines that stand in a document, where what they print stands too.
 SHOWN = {
