@@ -1,0 +1,122 @@
+use crate::of_interp_run::{ADDER, NEVER, PAIR, SUMS, answers, check_at, words_of};
+use fork_branches::{Drawn, Pool, Solved};
+use interp_run::run;
+use node_store::Handle;
+use outside::{MemSink, MemSource, Rendezvous};
+use std::alloc::{AllocError, Global};
+use std::process::Abort;
+use std::test::Fail;
+use std::thread::Threads;
+
+// The full adder with its rows 98 times over. So many rows do not fit the small tables, on which a
+// run has two workers at most.
+fn long_adder(alloc: Global) -> Result<String, AllocError> {
+    let mut text = String::from_str(alloc, ".i 3\n.o 2\n.ilb a b cin\n.ob s c\n")?;
+    for _ in 0..98 {
+        text.push_str("001 10\n010 10\n100 10\n111 11\n011 01\n101 01\n110 01\n")?;
+    }
+    Ok(text)
+}
+
+#[test]
+fn any_number_of_workers(rt: HostRuntime) -> Result<(), Fail> {
+    let alloc = rt.alloc();
+    let long = long_adder(alloc)?;
+    for line in [
+        "interp anf --workers 1",
+        "interp anf --workers 2",
+        "interp anf --workers 8",
+        "interp anf --workers 16",
+    ] {
+        answers(&rt, alloc, line, ADDER, SUMS)?;
+        answers(&rt, alloc, line, long.as_str(), SUMS)?;
+    }
+    Ok(())
+}
+
+// With two workers the branches of an operation are at their starts at one time: each waits at the
+// gate until it has seen the other. A body that runs both branches on one thread, or that drops the
+// workers or the gate, gives the same text and fails here. The first two files have several jobs,
+// whose workers meet before any operation. The last one has one cover and one polynomial, each of
+// which a worker finds alone: there the branches of the polynomial's operations are the first to
+// meet.
+#[test]
+fn branches_meet(rt: HostRuntime) -> Result<(), Fail> {
+    let parity = ".i 3\n.o 1\n001 1\n010 1\n100 1\n111 1\n";
+    let one_cover = ".i 3\n.o 1\n.type f\n001 1\n010 1\n100 1\n111 1\n";
+    for (text, answer) in [
+        (ADDER, SUMS),
+        (parity, "f1 = x1 + x2 + x3\n"),
+        (one_cover, "f1 = x1 + x2 + x3\n"),
+    ] {
+        let gate = Rendezvous::waiting(100_000_000);
+        check_at(
+            &rt,
+            rt.alloc(),
+            &gate,
+            "interp anf --workers 2",
+            text,
+            (NEVER, NEVER),
+            (0, answer, ""),
+        )?;
+        assert!(rt; gate.met(), "branches of {text}");
+    }
+    Ok(())
+}
+
+// A pool that counts the jobs that it answers, and passes on.
+#[derive(Drop)]
+struct Counting {
+    jobs: usize,
+    pool: Drawn,
+}
+
+impl Pool for Counting {
+    ghost done = { λ pool. pool.pool.done };
+
+    fn answered(&mut self, solved: Solved) -> Vec<Handle> {
+        let handles = self.pool.answered(solved);
+        self.jobs = self.jobs.saturating_add(handles.len());
+        handles
+    }
+}
+
+// How many jobs a pool answers in a run of the words on a text.
+fn jobs_of<R: Threads + Abort + Sync>(
+    rt: &R,
+    alloc: Global,
+    line: &str,
+    text: &str,
+) -> Result<usize, Fail> {
+    let words = words_of(alloc, line)?;
+    let mut source = MemSource::make(alloc, text.as_bytes(), 4, &[]).map_err(|_| "memory")?;
+    let mut out = MemSink::make(alloc, 200, 4, &[]).map_err(|_| "memory")?;
+    let mut err = MemSink::make(alloc, 200, 7, &[]).map_err(|_| "memory")?;
+    let mut pool = Counting {
+        jobs: 0,
+        pool: Drawn::new(),
+    };
+    let status = run(
+        rt,
+        alloc,
+        &words,
+        &mut source,
+        &mut out,
+        &mut err,
+        &mut pool,
+        &Rendezvous::open(),
+        &mut Vec::new(alloc),
+    );
+    assert_eq!(rt; status, 0, "{line} at {text}");
+    Ok(pool.jobs)
+}
+
+// A job for each polynomial, and in mode basis one for the leads of each output and one for each
+// element besides, where phase 2 builds phase 1 again. The two sets of each of two outputs are four
+// covers, which are jobs too.
+#[test]
+fn jobs_are_answered_by_the_pool(rt: HostRuntime) -> Result<(), Fail> {
+    assert!(rt; jobs_of(&rt, rt.alloc(), "interp anf", ADDER)? >= 4 + 2);
+    assert!(rt; jobs_of(&rt, rt.alloc(), "interp basis", PAIR)? >= 2 * (4 + 2 + 2) + 2);
+    Ok(())
+}
