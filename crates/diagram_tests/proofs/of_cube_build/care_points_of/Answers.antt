@@ -33,5 +33,5 @@ walk_upto-requires-2 c =
 
 pub walk_upto-requires-3 : goal.walk_upto-requires-3
 walk_upto-requires-3 c =
-    Grows-knows (state_of c.care_points.new.store) (state_of c.walk_upto-one_points.new.store) c.in_ok-all.all
+    Grows-knows (state_of c.care_points.new.store) (state_of c.walk_upto-2.new.store) c.in_ok-all.all
     (Grows-trans _ _ _ c.in_ok-zero_points.ensures.reads.grows c.in_ok-one_points.ensures.reads.grows) (ap is_some c.in_ok-all.ensures.ok)
