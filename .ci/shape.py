@@ -24,7 +24,6 @@ EXCEPTIONS = {
     "cli_words": (2.6, "what clap finds for each of six arguments is proved argument by argument"),
     "cube_sets": (2.4, "the search by buckets is shown to find what comparing all pairs finds"),
     "interp_lex": (4.1, "that what the recursion needs is planned and then held is said call by call"),
-    "std_monomials": (4.7, "two recursions of five and of four calls, each call with what it asks for, what it gives and its error"),
 }
 # A line that is one text, or an attribute, which the toolchain's formatter sets in one line.
 UNBROKEN = re.compile(r'\s*(b?"([^"\\]|\\.)*"[,;]?|#\[.*\])$')

@@ -1,13 +1,13 @@
 -- The care points of an output by the type of the description, what is planned beside its covers, and what is found from them.
-use Rattle.std.proofs.Common.{◌≡◌, ℕ, List, [], ◌∷◌, ◌++◌, refl, ◌∙◌, arith, ap, ap₂, append-nil, append_assoc, zero, suc, ◌+◌, ◌<◌, Result}
-use Rattle.std.proofs.Common.{Ok, Err, get_or, length, slice_set, sym, rules, ◌≤◌, take, subst}
+use Rattle.std.proofs.Common.{◌≡◌, ℕ, List, [], ◌∷◌, ◌++◌, refl, ◌∙◌, arith, ap, ap₂, append-nil, append_assoc, ◌+◌, ◌<◌, Result}
+use Rattle.std.proofs.Common.{Ok, get_or, length, slice_set, sym, ◌≤◌, take, subst}
 use Rattle.lattice.specs.Words.{Family, IsFamily, combine, power, union_of, minus_of, cover, in_cube, on_rows, off_rows, dc_rows, on_set}
 use Rattle.lattice.specs.Words.{off_set, dc_set, points_where, care_zeros, care_ones, cover_list, care_list, Covers, working_set}
 use Rattle.std.specs.List.{flat_map, list_any, AllZip}
 use Rattle.lattice.specs.declared.row.Row.{Row}
 use Rattle.lattice.specs.declared.kind.Kind.{Kind}
 use Rattle.lattice.specs.declared.kind.Kind.TheVariants.{F, Fd, Fr, Fdr}
-use Rattle.lattice.proofs.Diagrams.{has-power, covers_append, covers_nil, covers_part, covers_right, Has-append_left, Has-append_right}
+use Rattle.lattice.proofs.Diagrams.{has-power, covers_append, covers_nil, covers_part, covers_right, Has-append_left, part_at}
 use Rattle.lattice.proofs.Polynomials.{IsFamily-family_where, has-family_where_below, family_where_has, family_where-agree, zip_at}
 use Rattle.cube_build.specs.PointSets.{set_rows, sets_of}
 use Rattle.cube_build.specs.GivenCareSets.{fd_list, fdr_list, outside_list, AreCovers, care_needs, GivesCareSets, IsCover}
@@ -16,10 +16,10 @@ use Rattle.std.proofs.lemmas.List.{get_or-set_other, get_or-set_same, get_or_def
 use Rattle.node_store.specs.Stores.{State, Gives, Grows, Reads, family}
 use Rattle.node_store.specs.declared.store.Full.{Full}
 use Rattle.node_store.specs.declared.store.Handle.{Handle}
-use Rattle.node_store.proofs.StoreLaws.{Denotes-family, Grows-trans, Grows-refl}
+use Rattle.node_store.proofs.StoreLaws.{Denotes-family, Grows-refl}
 use Rattle.set_algebra.specs.GivenPoints.{GivesPoints}
 use Rattle.set_algebra.specs.declared.points.ValuedPoints.{ValuedPoints}
-use Rattle.set_algebra.proofs.Calls.{points_failed}
+use Rattle.set_algebra.proofs.Calls.{points_as}
 use Rattle.cube_build.specs.declared.covers.PointSet.{PointSet}
 use Rattle.cube_build.specs.declared.covers.PointSet.TheVariants.{On}
 
@@ -97,26 +97,6 @@ module _ (n : ℕ) (rows : List Row) (output : ℕ) where
 abbrev pub none : Handle
 none = record { 0 = 0 }
 
--- ---- two lists, place by place
-
--- what holds at each place of two lists of one length holds of both
-pub zip_from : {X Y : Type 0} (R : X → Y → Type 0) (xs : List X) (ys : List Y) (d : X) (e : Y) → length xs ≡ length ys
-    → ((k : ℕ) → k < length xs → R (get_or xs k d) (get_or ys k e)) → AllZip R xs ys
-zip_from R [] [] d e long each = tt
-zip_from R (x ∷ xs) [] d e long each = absurd (omega (arith, long))
-zip_from R [] (y ∷ ys) d e long each = absurd (omega (arith, long))
-zip_from R (x ∷ xs) (y ∷ ys) d e long each = (
-  each 0 (omega arith),
-  zip_from R xs ys d e (omega (arith, long)) (λ k less. each (suc k) (omega arith)),
-)
-
--- the list of an element is a part of the whole
-pub part_at : {X : Type 0} (list : X → List Family) (xs : List X) (i : ℕ) (d : X) → i < length xs
-    → Covers (flat_map list xs) (list (get_or xs i d))
-part_at list [] i d less f h = absurd (omega arith)
-part_at list (x ∷ xs) zero d less f h = Has-append_left (list x) (flat_map list xs) f h
-part_at list (x ∷ xs) (suc i) d less f h = Has-append_right (list x) (flat_map list xs) f (part_at list xs i d (omega (arith, less)) f h)
-
 -- ---- what is planned
 
 -- each cover is, where the care sets are
@@ -151,13 +131,6 @@ all_held : (s : State) (rows : List Row) (output : ℕ) (sets : List PointSet) (
 all_held s rows output [] covers are = covers_nil s.vars s.held
 all_held s rows output (set ∷ sets) [] are = absurd are
 all_held s rows output (set ∷ sets) (h ∷ covers) are = grind (arith, covers_append, all_held s rows output sets covers are.1)
-
--- points that are given under other names, with more that is held
-points_as : {s t : State} {r : Result ValuedPoints Full} {zeros ones zeros' ones' : Family} {needed more : List Family} → zeros ≡ zeros'
-    → ones ≡ ones' → (Grows s t → Covers t.held needed → Covers t.held more) → GivesPoints s t r zeros ones needed
-    → GivesPoints s t r zeros' ones' more
-points_as {r = Ok p} z o held is = grind arith
-points_as {r = Err e} z o held is = record { grows = is.grows; zeros = tt; ones = tt; held = tt; quiet = tt; full = is.full }
 
 module _ (s : State) (kind : Kind) (rows : List Row) (output : ℕ) (covers : List Handle) (are : AreCovers s kind rows output covers) where
   pub cover_at : (k : ℕ) (e : Handle) → k < length (sets_of kind) → IsCover s rows output (get_or (sets_of kind) k On) (get_or covers k e)
@@ -207,14 +180,6 @@ pub all_covers : (s : State) (kind : Kind) (rows : List Row) (output : ℕ) (set
     → sets ≡ sets_of kind → count ≡ length sets → length covers ≡ 3 → FirstCovers s kind rows output count covers
     → AreCovers s kind rows output (take (length sets) covers)
 all_covers s kind rows output sets count covers all end room first = grind (arith, sets_few kind)
-
--- points that are given after reads
-pub points_after : {s t u : State} {r : Result ValuedPoints Full} {zeros ones : Family} {needed : List Family} → Reads s t
-    → GivesPoints t u r zeros ones needed → GivesPoints s u r zeros ones needed
-points_after {s = s} {t = t} {u = u} {r = Ok p} reads is = search (rules, arith, Grows-trans)
-points_after {s = s} {t = t} {u = u} {r = Err e} reads is =
-    let failed : Gives t u (Err e) [] [] = record { grows = is.grows; ok = tt; held = tt; quiet = tt; full = is.full } in
-    points_failed refl reads failed
 
 module _ (s : State) (covers : List Handle) where
   pub f_planned : MayGiveCareSets s F covers → Covers s.plan (working_set s.vars (outside_list s.vars (family s (get_or covers 0 none))))

@@ -1,5 +1,4 @@
--- What callers use of covers, of the care sets and of the care points: what is planned, later states, and lists that are made place by
--- place.
+-- What callers use of covers, of the care sets and of the care points: what is planned, and later states.
 use Rattle.std.proofs.Common.{◌≡◌, ℕ, ◌+◌, ◌-◌, ◌≤◌, List, subst, arith}
 use Rattle.std.specs.List.{flat_map}
 use Rattle.lattice.specs.Words.{Family, Covers, working_set, care_list, output_numbers}
@@ -12,8 +11,8 @@ use Rattle.pla_reader.specs.Reading.{Description}
 use Rattle.cube_build.specs.CarePoints.{HoldsPoints}
 use Rattle.cube_build.specs.GivenCareSets.{care_needs}
 use Rattle.cube_build.proofs.CoverLemmas.{output_part}
--- covers: that they are planned, later states, and what holds of each of a list
-pub use Rattle.cube_build.proofs.CareLemmas.{cover_planned, cover_later, part_at, zip_from}
+-- covers: that they are planned, and later states
+pub use Rattle.cube_build.proofs.CareLemmas.{cover_planned, cover_later}
 
 -- the plan of the care sets of all outputs has those of each
 pub all_cares_have : (n outputs : ℕ) (kind : Kind) (rows : List Row) (output : ℕ) → 1 ≤ output → output ≤ outputs

@@ -1,7 +1,7 @@
 mod CubeLemmas
 mod CoverLemmas
 mod BuiltCovers
-mod CallsUnderway
+mod BuiltSets
 mod CareLemmas
 mod UnitedCares
 pub mod CareNeeds

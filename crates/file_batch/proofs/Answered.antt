@@ -7,7 +7,7 @@ use Rattle.outside.specs.Causes.{GainsFront}
 use Rattle.file_relay.specs.Messages.{HaveFiles}
 use Rattle.file_relay.specs.declared.message.Message.{Message}
 use Rattle.file_relay.specs.declared.message.Message.TheVariants.{End}
-use Rattle.file_relay.proofs.Files.{on_err}
+use Rattle.lattice.proofs.Polynomials.{on_err}
 use Rattle.file_stream.specs.Files.{files_of}
 use Rattle.file_relay.specs.declared.reader.StreamStop.{StreamStop}
 use Rattle.file_relay.specs.declared.reader.TheConstants.{MOST_STREAM}

@@ -4,6 +4,7 @@ use Rattle.std.proofs.Common.{inl, inr, true≢false, arith}
 use Rattle.std.specs.Prelude.{◌≤◌, Option, Some, None, Result, Ok, Err, OnOk, OnErr, IsOk}
 use Rattle.std.specs.Io.KnownBytes.{Appends, Consumes, IsAtEnd}
 use Rattle.std.proofs.lemmas.List.{take_all}
+use Rattle.lattice.proofs.Polynomials.{left_nil}
 use Rattle.outside.specs.Causes.{GainsFront}
 use Rattle.file_stream.specs.Files.{files_of}
 use Rattle.file_relay.specs.Messages.{HasFile, HaveFiles}
@@ -16,10 +17,6 @@ use Rattle.file_batch.specs.Blocks.{AreBlocks, IsBlock}
 use Rattle.file_batch.specs.Progress.{AreTold, IsToldOf, Progress, going, stopped}
 use Rattle.file_batch.specs.declared.progress.Halt.{Halt}
 use Rattle.file_batch.proofs.Gains.{all_front}
-
-nil_left : (xs ys : List Message) → xs ++ ys ≡ [] → xs ≡ []
-nil_left [] ys e = refl
-nil_left (x ∷ xs) ys e = let n : suc (length (xs ++ ys)) ≡ 0 = ap length e in absurd (omega (arith, n))
 
 module _ (answers : List ℕ → ℕ → List (List ℕ) → Type 0) where
   is_block : (n : ℕ) (m : Message) (file text : List ℕ) → IsToldOf answers m text → HasFile n m file → IsBlock answers n file text
@@ -39,7 +36,7 @@ module _ (answers : List ℕ → ℕ → List (List ℕ) → Type 0) where
   told_front n [] later ms files text e t h = (0, t)
   told_front n (x ∷ told) later [] [] text e t h =
       let head : x ≡ End = ap (λ l. get_or l 0 x) e in
-      let none : told ≡ [] = nil_left told later (ap (drop 1) e) in
+      let none : told ≡ [] = left_nil told later (ap (drop 1) e) in
       let block : t.0 ≡ [] = subst (λ y. IsToldOf answers y t.0) head t.2 in
       let more : t.1 ≡ [] = subst (λ l. AreTold answers l t.1) none t.3 in
       (0, t.4 ∙ (ap (λ b. b ++ t.1) block ∙ more))

@@ -1,7 +1,6 @@
 -- The files that were sent, when one more is.
 use Rattle.std.proofs.Common.{◌≡◌, ℕ, suc, ◌+◌, true, List, [], ◌∷◌, ◌++◌, length, refl, sym, ap, ◌∙◌, subst, append_assoc, append-nil}
 use Rattle.std.proofs.Common.{take, drop, take-append-drop, arith}
-use Rattle.std.specs.Prelude.{Result, Ok, Err, OnErr}
 use Rattle.file_stream.specs.Files.{files_of, IsFirstFile}
 use Rattle.file_relay.specs.Messages.{HasFile, HaveFiles, IsCut, has_no_end}
 use Rattle.file_relay.specs.Reading.{ArePartly}
@@ -39,8 +38,3 @@ cut_file read done rest x h first more =
 -- at the end of the stream
 pub cut_end : (read : List ℕ) (done : List (List ℕ)) (rest : List ℕ) → IsCut read done rest → files_of read ≡ done ++ files_of rest
 cut_end read done rest h = ap files_of (sym (append-nil read)) ∙ (h [] ∙ ap (λ t. done ++ files_of t) (append-nil rest))
-
--- a fact of every error, at one result
-pub on_err : {X E : Type 0} {P : Type 0} (r : Result X E) → P → OnErr r P
-on_err (Ok x) p = tt
-on_err (Err e) p = p

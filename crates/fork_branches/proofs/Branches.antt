@@ -1,5 +1,5 @@
 -- Two branches on one table: each goes on from a twin of the state, which then takes in what both know.
-use Rattle.std.proofs.Common.{◌≡◌, ◌∙◌, ◌++◌, ◌<◌, ◌≤◌, ℕ, ap, arith, Result, Ok, Err, OnErr, List, rules}
+use Rattle.std.proofs.Common.{◌≡◌, ◌∙◌, ◌++◌, ◌<◌, ◌≤◌, ℕ, ap, arith, Result, Ok, Err, List, rules}
 use Rattle.lattice.specs.Words.{Family, Rose}
 use Rattle.node_store.specs.Stores.{State, Grows, IsFull, IsSound, Gives, Reads}
 use Rattle.node_store.specs.declared.store.Handle.{Handle}
@@ -78,11 +78,6 @@ forked_finding {here = here} {joined = joined} {c = c} {r = r} same reads are fo
   forks = forks;
   later = later;
 }
-
--- a fact that holds anyway
-pub on_err : {A P : Type 0} (r : Result A Full) → P → OnErr r P
-on_err (Ok a) is = tt
-on_err (Err e) is = is
 
 -- ---- two calls one after the other
 

@@ -45,7 +45,7 @@ use Rattle.program.specs.Runs.{read_fault}
 use Rattle.program.specs.declared.outcome.Outcome.{Outcome}
 use Rattle.program.specs.declared.outcome.Outcome.TheVariants as ends
 use Rattle.program.proofs.Endings.{clash_ends, ends_as}
-use Rattle.run_parts.proofs.Runs.{err_is, ok_is}
+use Rattle.lattice.proofs.Polynomials.{err_is, ok_is}
 use Rattle.interp_run.specs.Answers.{AreAnswers, IsAnswerOf, notes_from}
 use Rattle.interp_run.specs.Due.{InterpDue, IsDue, IsDueChecking, IsDueSolving, IsSolving, checking, contradicted, contradiction}
 use Rattle.interp_run.specs.Due.{contradiction_behind, file_of, first_passed, given_of, has_answers, in_order, is_gen, judged, least_jobs}

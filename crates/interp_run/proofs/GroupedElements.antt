@@ -17,7 +17,7 @@ use Rattle.node_store.specs.Stores.{State, Grows, Knows, family}
 use Rattle.node_store.specs.declared.store.Handle.{Handle}
 use Rattle.pla_reader.specs.Reading.{Description}
 use Rattle.anf_printer.specs.Text.{Answer}
-use Rattle.run_parts.proofs.FoundTerms.{terms_of-later}
+use Rattle.set_algebra.proofs.Calls.{terms_of-later}
 use Rattle.interp_run.specs.Phases.{AreHandles, AreLeads, AreOf, KnowsOutput, OutputHandles, answer_for, answer_in, by_output, element_task}
 use Rattle.interp_run.specs.Phases.{first_tasks, leads_in, points_in, second_tasks, task, task_family, terms_of}
 use Rattle.interp_run.specs.declared.tasks.Task.{Task}

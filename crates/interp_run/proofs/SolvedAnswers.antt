@@ -12,7 +12,7 @@ use Rattle.std.proofs.lemmas.Option.{get_or_from_slice_get, slice_get_within}
 use Rattle.lattice.specs.Words.{Family, Covers, reduced_basis_of, IsConsistent, points_where, is_basis, first_phase, second_phase}
 use Rattle.lattice.specs.Words.{output_numbers, working_set}
 use Rattle.lattice.specs.declared.kind.Mode.{Mode}
-use Rattle.lattice.proofs.Diagrams.{covered_length, covers_left}
+use Rattle.lattice.proofs.Diagrams.{covered_length, covers_left, working_set_is_distinct}
 use Rattle.lattice.proofs.Polynomials.{IsFamily-care_set, IsFamily-family_where, IsLeast-interpolate, reduced_basis_exists}
 use Rattle.lattice.proofs.Polynomials.{care_points_disjoint}
 use Rattle.node_store.specs.Stores.{State, family}
@@ -20,7 +20,6 @@ use Rattle.node_store.specs.declared.store.Handle.{Handle}
 use Rattle.cli_words.specs.declared.job.Job.{Job}
 use Rattle.pla_reader.specs.Reading.{Description}
 use Rattle.anf_printer.specs.Text.{Answer}
-use Rattle.run_parts.proofs.FoundTerms.{working_set_is_distinct}
 use Rattle.interp_run.specs.Answers.{IsAnswerOf, AreAnswers, first_count, second_count, first_nodes, last_nodes}
 use Rattle.program.specs.Duties.{silent}
 use Rattle.program.specs.Outcomes.{HasText}

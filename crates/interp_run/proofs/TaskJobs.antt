@@ -9,8 +9,8 @@ use Rattle.std.proofs.lemmas.Nat.{div-mul-add, mod-mul-add, mod_below, mul-add-l
 use Rattle.lattice.specs.Words.{Family, AreDisjoint, Covers, union_of, IsLead, IsConsistent, output_numbers, working_set}
 use Rattle.lattice.specs.declared.kind.Kind.{Kind}
 use Rattle.lattice.specs.declared.row.Row.{Row}
-use Rattle.lattice.proofs.Diagrams.{covers_append, covers_nil, covers_part, covers_tail}
-use Rattle.lattice.proofs.Polynomials.{care_points_disjoint}
+use Rattle.lattice.proofs.Diagrams.{covers_append, covers_nil, covers_part, covers_tail, part_at}
+use Rattle.lattice.proofs.Polynomials.{care_points_disjoint, zip_from}
 use Rattle.node_store.specs.Stores.{State, Builds, Denotes, Gives, Grows, Knows, family}
 use Rattle.node_store.specs.declared.store.Full.{Full}
 use Rattle.node_store.specs.declared.store.Handle.{Handle}
@@ -22,7 +22,7 @@ use Rattle.cube_build.specs.PointSets.{sets_of}
 use Rattle.cube_build.specs.UsedCubes.{AreCubes, used_cube}
 use Rattle.cube_build.specs.declared.covers.PointSet.{PointSet}
 use Rattle.cube_build.specs.declared.covers.PointSet.TheVariants.{On}
-use Rattle.cube_build.proofs.CareNeeds.{cover_later, cover_planned, part_at, zip_from}
+use Rattle.cube_build.proofs.CareNeeds.{cover_later, cover_planned}
 use Rattle.fork_branches.specs.Jobs.{KnowsUses}
 use Rattle.fork_branches.specs.Solves.{AreSolved}
 use Rattle.fork_branches.specs.Work.{MayWork}

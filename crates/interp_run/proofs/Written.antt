@@ -28,7 +28,8 @@ use Rattle.pla_reader.proofs.ArrangedInputs.{count_printed}
 use Rattle.anf_printer.specs.Text.{Answer, IsAnswerOver as IsAnswer, shown_answer, texts_of}
 use Rattle.anf_printer.specs.declared.answer.Shown.{Shown}
 use Rattle.watch.specs.declared.note.Note.{Note}
-use Rattle.run_parts.proofs.FoundTerms.{All_known-later, families_later, length-later, terms_of-later}
+use Rattle.node_store.proofs.StoreLaws.{All_known-later, families_later, length-later}
+use Rattle.set_algebra.proofs.Calls.{terms_of-later}
 use Rattle.interp_run.specs.Answers.{AreAnswers, IsAnswerOf, notes_from, summary_line, texts}
 use Rattle.interp_run.specs.Phases.{AreHandles, KnowsOutput, OutputHandles, answer_in, second_terms, terms_of}
 

@@ -18,7 +18,7 @@ use Rattle.fork_branches.specs.declared.solve.SolveRefusal.{SolveRefusal}
 use Rattle.anf_printer.specs.Text.{Answer}
 use Rattle.node_store.specs.declared.store.Handle.{Handle}
 use Rattle.set_algebra.specs.declared.points.ValuedPoints.{ValuedPoints}
-pub use Rattle.run_parts.specs.Found.{terms_of}
+pub use Rattle.set_algebra.specs.Terms.{terms_of}
 use Rattle.interp_run.specs.declared.tasks.Task.{Task}
 use Rattle.interp_run.specs.declared.tasks.Part.{Part}
 use Rattle.interp_run.specs.declared.tasks.Part.TheVariants.{Polynomial, Leads, Element}

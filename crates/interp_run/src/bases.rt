@@ -20,7 +20,7 @@ use fork_branches::Pool;
 use lattice::{Memory, Mode, MonoLists, Monos};
 use node_store::{Handle, Store};
 use pla_reader::Pla;
-use run_parts::{count_terms, lists_of};
+use set_algebra::{count_terms, lists_of};
 use std::alloc::Global;
 use std::thread::Threads;
 

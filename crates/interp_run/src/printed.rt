@@ -8,8 +8,7 @@ use crate::phases::Unsolved;
 use anf_printer::Shown;
 use lattice::Monos;
 use node_store::{Handle, Store};
-use run_parts::{lists_of, terms_of};
-use set_algebra::WalkRefusal;
+use set_algebra::{WalkRefusal, lists_of, terms_of};
 use std::alloc::Global;
 
 impl From<WalkRefusal> for Unsolved {

@@ -21,9 +21,9 @@ use interp_lex::least;
 use lattice::Mono;
 use node_store::{Full, Handle, Store};
 use pla_reader::Pla;
-use run_parts::leads_of_points;
 use set_algebra::ValuedPoints;
 use std::thread::Threads;
+use std_monomials::leads_of_points;
 use vanish_basis::basis_element;
 
 /// A part of the answer of an output.

@@ -41,9 +41,9 @@ pub use Rattle.lattice.proofs.WorkingSets.{Has-all_of, covers_sub, covers_each, 
 -- What families cover of the parts of a list.
 pub use Rattle.lattice.proofs.WorkingSets.{covers_nil, covers_one, covers_head, covers_tail, covers_left, covers_right}
 -- Lists that cover others.
-pub use Rattle.lattice.proofs.WorkingSets.{covers_nothing, covers_more, covers_lists}
+pub use Rattle.lattice.proofs.WorkingSets.{covers_nothing, covers_more, covers_lists, part_at}
 -- What working sets are.
-pub use Rattle.lattice.proofs.WorkingSets.{working_set_members, working_set_is_node_list}
+pub use Rattle.lattice.proofs.WorkingSets.{working_set_members, working_set_is_node_list, working_set_is_distinct}
 -- The number of slots.
 pub use Rattle.lattice.proofs.Tables.{shifted_one, slots_most}
 -- Filled slots, and filling one.

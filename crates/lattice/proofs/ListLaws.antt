@@ -1,13 +1,14 @@
--- Laws of lists and options, in std's words alone.
+-- Laws of lists, options and results, in std's words alone.
 use Rattle.std.proofs.Common.{◌≡◌, ◌≢◌, ℕ, zero, suc, ◌+◌, ◌-◌, ◌<◌, ◌≤◌, ◌⊎◌, inl, inr, Bool, true, false, not, ◌&&◌, ◌||◌, ◌==◌, cond}
 use Rattle.std.proofs.Common.{List, [], ◌∷◌, ◌++◌, length, map, filter, reverse, take, drop, get_or, replicate, slice_get, slice_index}
 use Rattle.std.proofs.Common.{All, Contains, count_by, ltb, lt-ltb, eqb, refl, sym, ap, ◌∙◌, subst, ⊎_elim, arith, true≢false, append-nil}
-use Rattle.std.proofs.Common.{Option, Some, None, is_some}
+use Rattle.std.proofs.Common.{Option, Some, None, is_some, Result, Ok, Err}
 use Rattle.std.specs.Prelude.{unwrap_or}
 use Rattle.std.specs.List.{AllZip, IsAnyAnswer, concat, enumerate_from, list_any, position_or_len}
 use Rattle.std.specs.List.Sorted.{IsStrictlyIncreasing}
 use Rattle.std.specs.Io.BufRead.{strip_last}
 use Rattle.std.specs.Option.{option_and_then, option_map, option_or}
+use Rattle.std.specs.Result.{IsErrAnd, IsErrOf, OnErr}
 use Rattle.std.proofs.Math.Bool.{or-false}
 use Rattle.std.proofs.lemmas.Bool.{cases_lt, false≢true, le-ltb}
 use Rattle.std.proofs.lemmas.Bool.Decides.{Decides-eqb, nat_tests}
@@ -183,6 +184,17 @@ module _ {X Y : Type 0} (R : X → Y → Type 0) where
   zip_at (x ∷ xs) (y ∷ ys) zero d e z less = z.0
   zip_at (x ∷ xs) (y ∷ ys) (suc k) d e z less = zip_at xs ys k d e z.1 (omega arith)
 
+-- What holds at each place of two lists of one length holds of all pairs.
+pub zip_from : {X Y : Type 0} (R : X → Y → Type 0) (xs : List X) (ys : List Y) (d : X) (e : Y) → length xs ≡ length ys
+    → ((k : ℕ) → k < length xs → R (get_or xs k d) (get_or ys k e)) → AllZip R xs ys
+zip_from R [] [] d e long each = tt
+zip_from R (x ∷ xs) [] d e long each = absurd (omega (arith, long))
+zip_from R [] (y ∷ ys) d e long each = absurd (omega (arith, long))
+zip_from R (x ∷ xs) (y ∷ ys) d e long each = (
+  each 0 (omega arith),
+  zip_from R xs ys d e (omega (arith, long)) (λ k less. each (suc k) (omega arith)),
+)
+
 -- ---- a last element that is taken off
 
 branch : (t : Bool) (x : ℕ) (a l : List ℕ) → cond t (x ∷ a) (x ∷ l) ≡ x ∷ cond t a l
@@ -232,3 +244,23 @@ or_none o = grind arith
 -- A function of the first of two options.
 pub map_or : {A B : Type 0} (f : A → B) (a b : Option A) → option_map f (option_or a b) ≡ option_or (option_map f a) (option_map f b)
 map_or f a b = grind arith
+
+-- ---- results
+
+-- A result has one value.
+pub ok_is : {T E : Type 0} {x y : T} (r : Result T E) → r ≡ Ok x → r ≡ Ok y → x ≡ y
+ok_is r a b = cc
+
+-- Or one error.
+pub err_is : {T E : Type 0} {x y : E} (r : Result T E) → r ≡ Err x → r ≡ Err y → x ≡ y
+err_is r a b = cc
+
+-- An error that is passed on is the same.
+pub same_error : {T E : Type 0} (r : Result T E) (x y : E) → IsErrAnd r (λ e. e ≡ x) → IsErrOf r y → x ≡ y
+same_error (Ok t) x y passed is = cc
+same_error (Err e) x y passed is = cc
+
+-- What is so in any case is so where there is an error.
+pub on_err : {T E P : Type 0} (r : Result T E) → P → OnErr r P
+on_err (Ok t) is = tt
+on_err (Err e) is = is

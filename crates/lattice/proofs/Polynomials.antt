@@ -86,8 +86,10 @@ pub use Rattle.lattice.proofs.ListLaws.{empty_from_test, nonempty_from_test}
 -- How many elements pass a test, whether one does, and which is the first.
 pub use Rattle.lattice.proofs.ListLaws.{any_either, any_kept, any_push, counts_none, first_or_len, place_within}
 -- Two lists, place by place.
-pub use Rattle.lattice.proofs.ListLaws.{zip_at, zip_fold, zip_weaker}
+pub use Rattle.lattice.proofs.ListLaws.{zip_at, zip_fold, zip_from, zip_weaker}
 -- A last element that is taken off.
 pub use Rattle.lattice.proofs.ListLaws.{strip_last-append, strip_last-cons, strip_last-cons₂, strip_one}
 -- Options.
 pub use Rattle.lattice.proofs.ListLaws.{is_some_given, map_or, or_none, value_given}
+-- Results.
+pub use Rattle.lattice.proofs.ListLaws.{ok_is, err_is, same_error, on_err}

@@ -1,5 +1,6 @@
 -- Laws of working sets: what they have, and which lists cover them.
 use Rattle.std.proofs.Common.{flat_map, ◌≡◌, ℕ, true, List, [], ◌∷◌, ◌++◌, refl, sym, ◌∙◌, subst, ⊎_elim, arith, zero, suc}
+use Rattle.std.proofs.Common.{◌<◌, length, get_or}
 use Rattle.lattice.specs.Words.{Family, includes, IsFamily, Has, Covers, is_distinct, is_node_list, sub, low_cofactor, high_cofactor}
 use Rattle.lattice.specs.Words.{distinct, working_set}
 use Rattle.lattice.proofs.Families.{IsFamily-nil, Has-nil, Has-head, Has-tail, Has-cases, Has-append_left, Has-append_right}
@@ -35,6 +36,11 @@ unfolding working_set
 working_set_is_node_list n list =
     let empty = all_not [] (IsFamily-nil 0) n list in let unit = all_not (0 ∷ []) (IsFamily-unit 0) n list in
     grind (arith, is_distinct-distinct (flat_map (sub n) list), includes-distinct, empty, unit)
+
+-- No family stands in a working set twice.
+pub working_set_is_distinct : (n : ℕ) (list : List Family) → is_distinct (working_set n list) ≡ true
+unfolding working_set
+working_set_is_distinct n list = is_distinct-distinct (flat_map (sub n) list)
 
 -- What the list of one family has, the lists of all families have together.
 pub Has-all_of : (list : Family → List Family) (fs : List Family) (f g : Family) → Has fs f → Has (list f) g → Has (flat_map list fs) g
@@ -97,6 +103,13 @@ covers_left n fs xs ys all = covers_part n fs (xs ++ ys) xs all (λ f h. Has-app
 -- Families with the working set of two lists, one after the other, have that of the second.
 pub covers_right : (n : ℕ) (fs xs ys : List Family) → Covers fs (working_set n (xs ++ ys)) → Covers fs (working_set n ys)
 covers_right n fs xs ys all = covers_part n fs (xs ++ ys) ys all (λ f h. Has-append_right xs ys f h)
+
+-- What the list of an element has, the lists of all elements have together.
+pub part_at : {X : Type 0} (list : X → List Family) (xs : List X) (i : ℕ) (d : X) → i < length xs
+    → Covers (flat_map list xs) (list (get_or xs i d))
+part_at list [] i d less f h = absurd (omega arith)
+part_at list (x ∷ xs) zero d less f h = Has-append_left (list x) (flat_map list xs) f h
+part_at list (x ∷ xs) (suc i) d less f h = Has-append_right (list x) (flat_map list xs) f (part_at list xs i d (omega (arith, less)) f h)
 
 -- Any families have all of no families.
 pub covers_nothing : (fs : List Family) → Covers fs []

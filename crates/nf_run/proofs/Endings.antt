@@ -48,7 +48,7 @@ use Rattle.nf_run.specs.declared.queries.QueryRefusal.TheVariants as unread
 use Rattle.nf_run.specs.declared.queries.QueryWhy.{QueryWhy}
 use Rattle.nf_run.specs.declared.solving.ReduceRefusal.{ReduceRefusal}
 use Rattle.nf_run.specs.declared.solving.ReduceRefusal.TheVariants as unreduced
-use Rattle.run_parts.proofs.Runs.{err_is, ok_is}
+use Rattle.lattice.proofs.Polynomials.{err_is, ok_is}
 use Rattle.nf_run.proofs.QueryAnswers.{all_answered, answers_are, answers_count, answers_over, zip_all}
 
 -- ---- one mode, and one end of a description

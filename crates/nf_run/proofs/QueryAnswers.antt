@@ -12,16 +12,16 @@ use borrow.Author.Count.{below_more}
 use Rattle.lattice.specs.Words.{Covers, Family, IsFamily, working_set, care_ones, care_zeros}
 use Rattle.lattice.proofs.Diagrams.{Has-append_left, Has-append_right, covers_append, covers_left, covers_nil, covers_part, covers_right}
 use Rattle.lattice.proofs.Polynomials.{IsFamily-combine, terms_below, zip_fold, zip_weaker}
-use Rattle.run_parts.specs.Found.{terms_of}
-use Rattle.run_parts.proofs.FoundTerms.{fits}
+use Rattle.set_algebra.specs.Terms.{terms_of}
+use Rattle.node_store.proofs.StoreLaws.{fits}
 use Rattle.nf_run.proofs.LeastValues.{reduced_is, reduced_once}
-use Rattle.node_store.specs.Stores.{Denotes, Gives, Grows, IsSound, Knows, State, family}
+use Rattle.node_store.specs.Stores.{Denotes, Gives, Grows, IsSound, Knows, State, family, no_handle}
 use Rattle.node_store.specs.declared.store.Handle.{Handle}
 use Rattle.node_store.proofs.StoreLaws.{Denotes-family, Denotes-knows, Grows-refl, Grows-trans}
 use Rattle.pla_reader.specs.Reading.{Description}
 use Rattle.cube_build.specs.CarePoints.{HoldsPoints, points_list}
 use Rattle.cube_build.proofs.CareNeeds.{points_later}
-use Rattle.nf_run.specs.Answers.{AreAnswered, HoldsAll, IsAnswerTo, answer_terms, answer_to, no_handle, points_of, queries_list}
+use Rattle.nf_run.specs.Answers.{AreAnswered, HoldsAll, IsAnswerTo, answer_terms, answer_to, points_of, queries_list}
 use Rattle.nf_run.specs.Answers.{query_list, query_nodes}
 use Rattle.nf_run.specs.Queries.{IsQueryOver}
 use Rattle.nf_run.specs.Reduced.{reduced, reduced_list, sum_of_terms}

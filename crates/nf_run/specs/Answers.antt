@@ -3,7 +3,7 @@ use Rattle.std.specs.Prelude.{ℕ, ◌-◌, List, ◌++◌, length, sum_by, slic
 use Rattle.std.specs.List.{All, AllZip, flat_map}
 use Rattle.lattice.specs.Family.{Covers, Family}
 use Rattle.lattice.specs.WorkingLists.{care_set, working_set}
-use Rattle.node_store.specs.Stores.{Denotes, State}
+use Rattle.node_store.specs.Stores.{Denotes, State, no_handle}
 use Rattle.node_store.specs.declared.store.Handle.{Handle}
 use Rattle.pla_reader.specs.Reading.{Description}
 use Rattle.cube_build.specs.CarePoints.{HoldsPoints, points_list}
@@ -42,10 +42,6 @@ abbrev pub answer_terms : Description → List Query → ℕ
 answer_terms d queries = sum_by (λ q. length (answer_to d q)) queries
 
 -- ---- what was found
-
--- what stands past the end of a list of handles
-abbrev pub no_handle : Handle
-no_handle = record { 0 = 0 }
 
 -- the care points of the output of each query, by the output's number
 abbrev pub HoldsAll : State → Description → List Query → List Handle → Type 0

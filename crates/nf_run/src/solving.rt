@@ -11,12 +11,11 @@ ghost use Rattle.nf_run.specs.Queries.{IsQueryOver};
 use crate::answering::answer_queries;
 use crate::queries::Query;
 use computed_cache::CachedPass;
-use cube_build::CubesRefusal;
+use cube_build::{CubesRefusal, SMALL_BITS, first_bits, next_bits};
 use lattice::{Memory, MonoLists, Plan, Planned, plan_of};
 use node_store::Store;
 use pla_reader::Pla;
-use run_parts::{SMALL_BITS, first_bits, lists_of, next_bits};
-use set_algebra::WalkRefusal;
+use set_algebra::{WalkRefusal, lists_of};
 use std::alloc::Global;
 use unique_table::Shared;
 

@@ -1,8 +1,10 @@
 -- What callers use of the laws of stores: known handles and their families, calls one after the other, grown nodes, and plans that
 -- have every family.
 use Rattle.std.proofs.Common.{◌≡◌, ◌≢◌, ℕ, zero, suc, ◌-◌, ◌<◌, ◌≤◌, ◌^◌, inl, inr, Bool, is_some, true, false, map, Result, Ok, Err, IsErr}
-use Rattle.std.proofs.Common.{List, [], ◌∷◌, ◌++◌, unwrap_or, refl, sym, ◌∙◌, ap, arith, append_assoc, rules}
+use Rattle.std.proofs.Common.{List, [], ◌∷◌, ◌++◌, length, unwrap_or, refl, sym, ◌∙◌, ap, ap₂, arith, append_assoc, rules}
+use Rattle.std.specs.List.{All}
 use Rattle.std.proofs.lemmas.List.{append-nil}
+use Rattle.std.proofs.lemmas.List.Elements.{All-head, All-tail, All-weaker}
 use Rattle.std.proofs.lemmas.Bool.{cases_Bool}
 use Rattle.std.proofs.lemmas.Result.{on_ok_weaker, on_err_weaker}
 use Rattle.std.proofs.Props.{props}
@@ -13,6 +15,7 @@ use Rattle.lattice.specs.declared.op.Op.TheVariants.{Least, Leads, TimesVar}
 use Rattle.lattice.proofs.Diagrams.{IsFamily-nil, IsFamily-unit, level-below, level-join, sub-join_self, covers_append}
 use Rattle.lattice.proofs.Diagrams.{covers_nil, covers_sub, covers_one, IsLegal-prop, Has-nil, Has-cases, Has-head, Has-tail}
 use Rattle.lattice.proofs.Diagrams.{IsFamily-single, power_whole, join_cofactors_suc, IsFamily-power, Has-all_of, working_set_members}
+use Rattle.lattice.proofs.Diagrams.{covered_length, working_set_is_distinct}
 use Rattle.lattice.proofs.Polynomials.{family_where_has, IsFamily-combine, IsFamily-low_cofactor, IsFamily-high_cofactor}
 use Rattle.node_store.specs.Stores.{State, Knows, family, Denotes, node_family, IsNode, IsSound, Adds, Grows, IsFull, Reads, Gives, Builds}
 use Rattle.node_store.specs.Stores.{AreParts, second, AreOperands, IsResult, needs_of, IsPlanned}
@@ -71,6 +74,11 @@ level_constant s h ok small = omega (arith, level-below 0 s.vars (family s h) (c
 pub known_after : (s : State) (h : Handle) → IsSound s → Knows s h → IsFamily s.vars (family s h)
 known_after s h ok k = ok.families h.0 (family s h) (Knows-denotes s h k)
 
+-- a working set that is held fits into the slots
+pub fits : (s : State) (n : ℕ) (list : List Family) → IsSound s → Covers s.held (working_set n list)
+    → length (working_set n list) ≤ s.capacity
+fits s n list ok held = omega (arith, covered_length (working_set n list) s.held (working_set_is_distinct n list) held, ok.room)
+
 -- ---- later states
 
 -- a known handle denotes its family later too
@@ -81,9 +89,23 @@ Grows-denotes s t h grows k = grows.known h.0 (family s h) (Knows-denotes s h k)
 pub Grows-family : (s t : State) (h : Handle) → Grows s t → Knows s h → family t h ≡ family s h
 Grows-family s t h grows k = Denotes-family t h (family s h) (Grows-denotes s t h grows k)
 
+-- which has as many members
+pub length-later : (s t : State) (h : Handle) → Grows s t → Knows s h → length (family t h) ≡ length (family s h)
+length-later s t h grows known = ap length (Grows-family s t h grows known)
+
 -- what is known stays known
 pub Grows-knows : (s t : State) (h : Handle) → Grows s t → Knows s h → Knows t h
 Grows-knows s t h grows k = ap is_some (Grows-denotes s t h grows k)
+
+-- what is known of handles stays known
+pub All_known-later : (s t : State) (hs : List Handle) → Grows s t → All (Knows s) hs → All (Knows t) hs
+All_known-later s t hs grows known = All-weaker (Knows s) (Knows t) (λ h. Grows-knows s t h grows) hs known
+
+-- and they keep their families
+pub families_later : (s t : State) (hs : List Handle) → Grows s t → All (Knows s) hs → map (family t) hs ≡ map (family s) hs
+families_later s t [] grows known = refl
+families_later s t (h ∷ hs) grows known = ap₂ (λ (x : Family) (xs : List Family). x ∷ xs)
+    (Grows-family s t h grows (All-head (Knows s) h hs known)) (families_later s t hs grows (All-tail (Knows s) h hs known))
 
 -- each state comes after itself
 pub Grows-refl : (s : State) → Grows s s
@@ -231,12 +253,6 @@ found_gives s t u (Err e) f xs ys one two = failed refl one.reads two
 -- calls that need nothing
 pub found_read : {s t : State} → Reads s t → Found s t []
 found_read {s} {t} reads = grind (arith, covers_nil)
-
--- one more call
-pub found_call : {s t u : State} {h : Handle} {f : Family} {needed xs : List Family} (ys : List Family) → Found s t xs
-    → needed ≡ working_set s.vars ys → Gives t u (Ok h) f needed → Found s u (xs ++ ys)
-found_call {s} {t} {u} {h} {f} {xs = xs} ys one e two =
-    found_after s t u xs ys one (found_one t u h f ys (rw (e, ← one.reads.grows.vars) at two))
 
 -- one more call that needs its result's diagram alone, after others
 pub found_built : {s t u : State} {h : Handle} {f : Family} {xs : List Family} (g : Family) → Found s t xs → f ≡ g

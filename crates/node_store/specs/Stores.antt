@@ -31,6 +31,10 @@ pub record State : Type 0 where
 abbrev pub Knows : State → Handle → Type 0
 Knows s h = is_some (s.known h.0) ≡ true
 
+-- what stands past the end of a list of handles
+abbrev pub no_handle : Handle
+no_handle = record { 0 = 0 }
+
 -- the family of a known handle
 abbrev pub family : State → Handle → Family
 family s h = unwrap_or (s.known h.0) []

@@ -7,9 +7,10 @@ use Rattle.node_store.specs.Stores.{Builds, Gives, Grows, IsPlanned, State, fami
 use Rattle.node_store.specs.declared.store.Full.{Full}
 use Rattle.node_store.specs.declared.store.Handle.{Handle}
 use Rattle.node_store.proofs.StoreLaws.{Denotes-family, Denotes-knows, Grows-family, Grows-knows, Grows-refl, Grows-trans}
-use Rattle.node_store.proofs.StoreLaws.{builds_gives, found_gives, reads_one}
+use Rattle.node_store.proofs.StoreLaws.{All_known-later, builds_gives, families_later, found_gives, reads_one}
 use Rattle.pla_reader.specs.Reading.{Description}
-use Rattle.run_parts.specs.Found.{point_leads_list, terms_of}
+use Rattle.set_algebra.specs.Terms.{terms_of}
+use Rattle.std_monomials.specs.PointLeads.{point_leads_list}
 use Rattle.cube_build.specs.CarePoints.{points_list}
 use Rattle.point_ideals.specs.Joined.{HoldsJoint, first_phase_list, joined, joint_points, joint_points_list, HoldsBasis}
 use Rattle.point_ideals.specs.Joined.{HoldsElements, elements_list, joint_leads, second_phase_list, FindsBasis, FindsLeads, IsJointBasis}
@@ -20,7 +21,6 @@ use Rattle.std.proofs.lemmas.Grind.{flat_map-append}
 use Rattle.std.proofs.lemmas.List.{flat_map_more, map_push, nil_from_length, reverse-append, length-map}
 use Rattle.std.proofs.lemmas.List.Elements.{All-nil, All-push}
 use Rattle.lattice.proofs.Polynomials.{All-from_has, All-has, has-append, has_head, leads_are_minimal}
-use Rattle.run_parts.proofs.FoundTerms.{All_known-later, families_later}
 use Rattle.point_ideals.specs.declared.phases.Joint.{Joint}
 use Rattle.point_ideals.proofs.JointBases.{basis_listed, joint_fits, joint_exists, joint_unique}
 use Rattle.std.specs.Prelude.{IfErr, IfOk, IsErrAnd}

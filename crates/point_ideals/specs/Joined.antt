@@ -9,7 +9,7 @@ use Rattle.lattice.specs.WorkingLists.{basis_element_list, care_set, working_set
 use Rattle.node_store.specs.Stores.{Denotes, Knows, State, family}
 use Rattle.node_store.specs.declared.store.Handle.{Handle}
 use Rattle.pla_reader.specs.Reading.{Description}
-use Rattle.run_parts.specs.Found.{point_leads_list}
+use Rattle.std_monomials.specs.PointLeads.{point_leads_list}
 use Rattle.cube_build.specs.CarePoints.{points_list}
 use Rattle.cube_build.specs.declared.rows.CubesRefusal.{CubesRefusal}
 use Rattle.cube_build.specs.declared.rows.CubesRefusal.TheVariants as unbuilt

@@ -15,12 +15,11 @@ ghost use Rattle.point_ideals.specs.declared.joined.BasisRefusal.TheVariants as 
 
 use crate::phases::{first_phase, second_phase};
 use computed_cache::CachedPass;
-use cube_build::CubesRefusal;
+use cube_build::{CubesRefusal, first_bits, next_bits};
 use lattice::{Memory, Mono, MonoLists, Monos, Plan, Planned, plan_of};
 use node_store::{Full, Store};
 use pla_reader::Pla;
-use run_parts::{first_bits, lists_upto, next_bits};
-use set_algebra::{WalkRefusal, walk_upto};
+use set_algebra::{WalkRefusal, lists_upto, walk_upto};
 use std::alloc::Global;
 use unique_table::Shared;
 

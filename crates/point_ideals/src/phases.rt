@@ -18,9 +18,9 @@ use cube_build::{CubesRefusal, care_points};
 use lattice::Mono;
 use node_store::{Full, Handle, Store};
 use pla_reader::Pla;
-use run_parts::leads_of_points;
 use set_algebra::{inter, union};
 use std::alloc::Global;
+use std_monomials::leads_of_points;
 use vanish_basis::basis_element;
 
 /// The points of two outputs put together, and their leads.

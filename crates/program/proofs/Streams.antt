@@ -1,6 +1,6 @@
 -- What a run writes to its sinks, and what it reads of its source.
 use Rattle.std.proofs.Common.{◌≡◌, ◌∙◌, ℕ, ◌+◌, ◌<◌, ◌≤◌, List, [], length, length-take, min, take, take_all, append-nil, ap, refl}
-use Rattle.std.proofs.Common.{sym, arith, Option, Some, None}
+use Rattle.std.proofs.Common.{sym, arith, unwrap_or, Option, Some, None}
 use Rattle.std.specs.Io.KnownBytes.{Appends, Keeps}
 
 -- ---- what was written
@@ -23,30 +23,21 @@ keeps_nothing (Some xs) (Some ys) a = a ∙ append-nil xs
 
 -- ---- what was read
 
--- the bytes that a source told, or else those that were read
-told_or : Option (List ℕ) → List ℕ → List ℕ
-told_or None read = read
-told_or (Some all) read = all
-
-told_is : (left : Option (List ℕ)) (read all : List ℕ) → left ≡ Some all → told_or left read ≡ all
-unfolding told_or
-told_is None read all e = cc
-told_is (Some xs) read all e = cc
-
+-- the bytes that were read begin those that the source told, or else themselves
 read_is : (left : Option (List ℕ)) (read : List ℕ) (most : ℕ) → ((xs : List ℕ) → left ≡ Some xs → read ≡ take most xs)
-    → length read ≤ most → read ≡ take most (told_or left read)
-unfolding told_or
+    → length read ≤ most → read ≡ take most (unwrap_or left read)
 read_is None read most told few = sym (take_all most read few)
 read_is (Some xs) read most told few = told xs refl
 
 -- There are bytes that a source has: those that it told, where it told them.
 pub bytes_of_source : (left : Option (List ℕ)) → (bytes : List ℕ) × ((all : List ℕ) → left ≡ Some all → bytes ≡ all)
-bytes_of_source left = (told_or left [], told_is left [])
+bytes_of_source left = (unwrap_or left [], λ all e. ap (λ told. unwrap_or told []) e)
 
 -- And such bytes that begin with those that were read.
 pub bytes_behind : (left : Option (List ℕ)) (read : List ℕ) (most : ℕ) → ((xs : List ℕ) → left ≡ Some xs → read ≡ take most xs)
     → length read ≤ most → (bytes : List ℕ) × ((all : List ℕ) → left ≡ Some all → bytes ≡ all) × (read ≡ take most bytes)
-bytes_behind left read most told few = (told_or left read, told_is left read, read_is left read most told few)
+bytes_behind left read most told few =
+    (unwrap_or left read, λ all e. ap (λ told. unwrap_or told read) e, read_is left read most told few)
 
 -- What was read up to one byte more than a limit is within it only where it is all bytes,
 pub read_all : (limit : ℕ) (bytes read : List ℕ) → read ≡ take (limit + 1) bytes → length read ≤ limit → read ≡ bytes

@@ -2,7 +2,6 @@
 use Rattle.std.proofs.Common.{◌≡◌, ◌∙◌, ◌+◌, ◌++◌, ◌<◌, ◌≤◌, List, Option, Some, [], ap, arith, drop, get_or}
 use Rattle.std.proofs.Common.{length, length-append, length-drop, length-take}
 use Rattle.std.proofs.Common.{append-nil, append_assoc, rules, sym, take, ⊎_elim, ℕ}
-use Rattle.std.specs.Prelude.{IsErr, OnErr, Result}
 use Rattle.std.specs.Io.{StartsWith}
 use Rattle.std.specs.Io.KnownBytes.{Appends}
 use Rattle.std.specs.List.{All, concat}
@@ -106,7 +105,3 @@ pub stopped_at : (old middle new : Option (List ℕ)) (pages : List (List ℕ)) 
     → Appends old middle (concat (take i pages)) → GainsLess middle new page → after ≡ left_after_all (take i notes) before
     → TellsFirst old new pages notes before after
 stopped_at old middle new pages notes i page before after within is sofar here left = search (rules, arith, holds_first, gained_is)
-
--- What holds after an error.
-pub on_err : {T E : Type 0} (r : Result T E) (P : Type 0) → IsErr r → P → OnErr r P
-on_err r P is p = grind arith

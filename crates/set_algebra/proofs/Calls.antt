@@ -8,14 +8,16 @@ use Rattle.lattice.proofs.Polynomials.{IsFamily-combine, IsFamily-low_cofactor, 
 use Rattle.node_store.specs.Stores.{State, Knows, Denotes, family, IsSound, IsPlanned, Grows, Reads, Gives, Builds, AreParts}
 use Rattle.node_store.specs.declared.store.Handle.{Handle}
 use Rattle.node_store.specs.declared.store.Full.{Full}
-use Rattle.node_store.proofs.StoreLaws.{MayGrow, node_parts, node_planned, node_builds, builds_gives, failed, then_call, then_reads}
-use Rattle.node_store.proofs.StoreLaws.{Grows-family, Grows-refl, Grows-trans, Knows-denotes, known_after}
+use Rattle.node_store.proofs.StoreLaws.{MayGrow, node_parts, node_planned, node_builds, builds_gives, failed, gives_fewer, then_call}
+use Rattle.node_store.proofs.StoreLaws.{then_reads, Grows-family, Grows-refl, Grows-trans, Knows-denotes, Reads-refl, known_after}
 use Rattle.set_algebra.specs.Pairs.{AreCofactors}
 use Rattle.set_algebra.specs.declared.pairs.Cofactors.{Cofactors}
 use Rattle.set_algebra.specs.GivenPoints.{GivesPoints}
 use Rattle.set_algebra.specs.declared.points.ValuedPoints.{ValuedPoints}
--- errors where points are given
-pub use Rattle.set_algebra.proofs.GivenPoints.{points_failed, failed_points}
+-- errors where points are given, and points that are given after reads or as others
+pub use Rattle.set_algebra.proofs.GivenPoints.{points_failed, failed_points, points_after, points_as}
+-- terms later, and walks that were over their limit
+pub use Rattle.set_algebra.proofs.TermLemmas.{terms_of-later, walk_was_over}
 
 -- the handle has this family, which is one over d variables
 abbrev pub IsAtHand : State → ℕ → Handle → Family → Type 0
@@ -47,6 +49,11 @@ pub calls_start : {s t : State} {d : ℕ} {all rest : List Family} {hs : List (H
     → Covers s.plan (working_set s.vars all) → all ≡ rest → AreAtHand t d hs → Calls s t d all rest hs
 calls_start reads le planned e hand =
     record { reads = reads; le = le; planned = rw e at planned; whole = λ u later held. rw e held; here = hand }
+
+-- no call was made yet
+pub calls_begin : {s : State} {all : List Family} {hs : List (Handle × Family)} → Covers s.plan (working_set s.vars all)
+    → AreAtHand s s.vars hs → Calls s s s.vars all all hs
+calls_begin {s} planned hand = calls_start (Reads-refl s) (omega arith) planned refl hand
 
 -- the parts of a family at a variable are at hand, where r is the state before they were asked for
 pub parts_start : {s r t : State} {lh hh : Handle} {all rest : List Family} (a : Handle) (var : ℕ) → Knows s a → Reads s r → Reads r t
@@ -115,6 +122,13 @@ module _ {s t : State} {d : ℕ} {all : List Family} {hs : List (Handle × Famil
         here = (k.here.0, ((rw os at given.ones, of), k.here.1));
       }
 
+-- after a call whose families are no part of the list
+pub after_other : {s t u : State} {d : ℕ} {all rest : List Family} {hs : List (Handle × Family)} {h : Handle} {f F : Family}
+    {needed : List Family} → Calls s t d all rest hs → f ≡ F → IsFamily d F → Gives t u (Ok h) f needed
+    → Calls s u d all rest ((h, F) ∷ hs)
+after_other {s} {rest = rest} {needed = needed} k same fits given =
+    after_call [] rest k refl same fits (gives_fewer (covers_nil s.vars needed) given)
+
 -- a family is found with its diagram, where its handle is at hand
 pub found_at_hand : {s t : State} {d : ℕ} {all rest : List Family} {hs : List (Handle × Family)} {h : Handle} {F : Family} → IsSound t
     → Calls s t d all (F ∷ rest) hs → IsAtHand t d h F → Calls s t d all rest hs
@@ -162,6 +176,17 @@ module _ (test : Bool → Bool → Bool) (none : test false false ≡ false) {s 
 
 -- ---- at the end
 
+-- the family was found
+pub handle_end : {s t : State} {d : ℕ} {all : List Family} {hs : List (Handle × Family)} {h : Handle} {F : Family} → Calls s t d all [] hs
+    → IsAtHand t d h F → Gives s t (Ok h) F (working_set s.vars all)
+handle_end {s} {t} k x = record {
+  grows = k.reads.grows;
+  ok = x.0;
+  held = k.whole t (Grows-refl t) (covers_nil s.vars t.held);
+  quiet = k.reads.quiet;
+  full = tt;
+}
+
 -- both families were found
 pub points_end : {s t : State} {d : ℕ} {all : List Family} {hs : List (Handle × Family)} {z o : Handle} {Z O : Family}
     → Calls s t d all [] hs → IsAtHand t d z Z → IsAtHand t d o O
@@ -181,6 +206,10 @@ module _ {s t : State} {d : ℕ} {all rest : List Family} {hs : List (Handle × 
       → Gives t u (Err e) f needed → Gives s u r g more
   call_failed err given = failed err k.reads given
 
+  -- what is left is planned
+  pub last_planned : {needed : List Family} → needed ≡ working_set s.vars rest → Covers t.plan needed
+  last_planned e = rw (e, k.reads.grows.plan) k.planned
+
   -- the last call needs all of what is left
   pub last_call : {u : State} (r : Result Handle Full) {f F : Family} {needed : List Family} → needed ≡ working_set s.vars rest → f ≡ F
       → Gives t u r f needed → Gives s u r F (working_set s.vars all)
@@ -192,6 +221,14 @@ module _ {s t : State} {d : ℕ} {all rest : List Family} {hs : List (Handle × 
     full = tt;
   }
   last_call (Err x) e same given = failed refl k.reads given
+
+-- the last call gives the last family, and needs those before it
+pub last_result : {s t u : State} {d : ℕ} {all : List Family} {hs : List (Handle × Family)} (list : List Family) {f F : Family}
+    {needed : List Family} → Calls s t d all (list ++ F ∷ []) hs → IsSound u → IsFamily d F → needed ≡ working_set s.vars list → f ≡ F
+    → (r : Result Handle Full) → Gives t u r f needed → Gives s u r F (working_set s.vars all)
+last_result list {F = F} k sound fits e same (Ok h) given =
+    let found = after_call list (F ∷ []) k e same fits given in handle_end (found_at_hand sound found found.here.0) found.here.0
+last_result list k sound fits e same (Err x) given = failed refl k.reads given
 
 -- a last call that combines two families at hand
 pub last_combined : (test : Bool → Bool → Bool) → test false false ≡ false → {s t u : State} {d : ℕ} {all : List Family}

@@ -3,3 +3,4 @@ pub mod Calls
 mod GivenPoints
 mod HalvesLemmas
 mod PairLemmas
+mod TermLemmas

@@ -3,3 +3,4 @@ pub mod Pairs
 pub mod GivenPoints
 pub mod ReadyStores
 pub mod Begins
+pub mod Terms

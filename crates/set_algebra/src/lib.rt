@@ -8,6 +8,7 @@ mod pairs;
 mod points;
 mod pointwise;
 mod single;
+mod terms;
 
 pub use crate::counted::{WalkRefusal, count_upto, walk_upto};
 pub use crate::listed::family_of;
@@ -15,3 +16,4 @@ pub use crate::pairs::{Cofactors, cut};
 pub use crate::points::ValuedPoints;
 pub use crate::pointwise::{Begun, Halved, begin, combine, finish, inter, minus, union, xor};
 pub use crate::single::{contains, one, power};
+pub use crate::terms::{count_terms, lists_of, lists_upto, terms_of};

@@ -1,2 +1,3 @@
 mod Steps
+mod PointLeads
 pub mod MonomialNeeds

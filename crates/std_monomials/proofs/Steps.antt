@@ -53,7 +53,7 @@ module _ {s t : State} {d : ℕ} {all : List Family} {hs : List (Handle × Famil
   pub standard_asked : StandardAsked t h
   standard_asked = record { known = Denotes-knows t h C x.0; planned = call_planned (standard_list d C) rest k standard_needs }
 
-  standard_found : {u : State} {r : Handle} → DoesStandard t h u (Ok r) → Calls s u d all rest ((r, standard_of d C) ∷ hs)
+  pub standard_found : {u : State} {r : Handle} → DoesStandard t h u (Ok r) → Calls s u d all rest ((r, standard_of d C) ∷ hs)
   standard_found does = after_call (standard_list d C) rest k standard_needs
       (rw (k.reads.grows.vars, x.0, standard_of-narrow d s.vars C x.1 k.le) refl) (standard_of_family d C x.1) does
 
@@ -145,7 +145,7 @@ module _ {s : State} (a : Handle) (x : ℕ) (sound : IsSound s) (call : LeadsAsk
 -- a call at the variable x for monomials C at hand, whose list comes next
 module _ {s t : State} {d : ℕ} {all : List Family} {hs : List (Handle × Family)} {h : Handle} {C : Family} (x : ℕ) (rest : List Family)
     (k : Calls s t d all (leads_list d C ++ rest) hs) (y : IsAtHand t d h C) (left : s.vars + 1 - x ≡ d) where
-  leads_needs : needs_of t Leads h x ≡ working_set s.vars (leads_list d C)
+  pub leads_needs : needs_of t Leads h x ≡ working_set s.vars (leads_list d C)
   unfolding needs operation_list
   leads_needs = rw (k.reads.grows.vars, y.0, left) refl
 

@@ -1,1 +1,2 @@
 pub mod Monomials
+pub mod PointLeads

@@ -2,5 +2,7 @@
 #![tactic(auto)]
 
 mod monomials;
+mod points;
 
 pub use crate::monomials::{leads, standard};
+pub use crate::points::leads_of_points;

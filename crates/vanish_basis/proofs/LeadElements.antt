@@ -1,216 +1,209 @@
 -- The normal form of a monomial: the points where it is 1, and the least polynomial that is 1 at these points alone. The element with
 -- a given lead: the lead, the points where it is 1, its normal form, and their sum.
-use Rattle.std.proofs.Common.{◌≡◌, ℕ, ◌^◌, ◌<◌, Result, Ok, Err, IfOk, List, [], ◌∷◌, ◌++◌, refl, ◌∙◌, ap, arith}
-use Rattle.lattice.specs.Words.{IsStandard, IsBasisElement, ones_at, zeros_at, normal_form_of, basis_element_of, AreDisjoint, Family}
-use Rattle.lattice.specs.Words.{Covers, combine, first_only, has, minus_of, sum_of, IsLeast, interpolate, ones_of, working_set, ones_list}
+use Rattle.std.proofs.Common.{◌≡◌, ◌∙◌, ℕ, ◌^◌, ◌<◌, Result, Ok, Err, IfOk, List, [], ◌∷◌, ◌++◌, refl, arith}
+use Rattle.lattice.specs.Words.{IsBasisElement, IsLead, ones_at, zeros_at, normal_form_of, basis_element_of, AreDisjoint, Family}
+use Rattle.lattice.specs.Words.{Covers, combine, first_only, has, minus_of, sum_of, IsLeast, interpolate, ones_of, working_set}
 use Rattle.lattice.specs.Words.{interpolation_list, normal_form_list, basis_element_list}
 use Rattle.lattice.specs.declared.op.Op.TheVariants.{Least, Ones}
-use Rattle.lattice.proofs.Diagrams.{Has-head, Has-tail, Has-append_left, Has-append_right, covers_family, covers_head, covers_left}
-use Rattle.lattice.proofs.Diagrams.{covers_lists, covers_more, covers_nothing, covers_part, covers_tail}
-use Rattle.lattice.proofs.Polynomials.{IsBasisElement-basis_element_of, IsLeast-normal_form_of, has-family_where}
-use Rattle.node_store.specs.Stores.{State, Knows, Denotes, family, IsSound, IsPlanned, Gives, Builds, needs_of}
+use Rattle.lattice.proofs.Diagrams.{Has-head, Has-tail, Has-append_left, Has-append_right, IsFamily-single, covers_head}
+use Rattle.lattice.proofs.Diagrams.{covers_lists, covers_more, covers_nothing}
+use Rattle.lattice.proofs.Polynomials.{IsBasisElement-basis_element_of, IsFamily-family_where, IsFamily-interpolate}
+use Rattle.lattice.proofs.Polynomials.{IsLeast-normal_form_of, has-family_where}
+use Rattle.node_store.specs.Stores.{State, Knows, family, IsSound, Gives, Builds, needs_of}
 use Rattle.node_store.specs.declared.store.Full.{Full}
 use Rattle.node_store.specs.declared.store.Handle.{Handle}
-use Rattle.node_store.proofs.StoreLaws.{Found, builds_gives, found_after, found_built, found_call, found_gives, found_result, found_start}
-use Rattle.node_store.proofs.StoreLaws.{gives_as, gives_fewer, known_after, Denotes-family, Grows-family}
+use Rattle.node_store.proofs.StoreLaws.{Denotes-family, Reads-refl, known_after}
+use Rattle.set_algebra.proofs.Calls.{Calls, IsAtHand, after_built, after_call, after_combined, after_other, built_planned, call_planned}
+use Rattle.set_algebra.proofs.Calls.{calls_begin, calls_in_order, calls_start, found_at_hand, known_at_hand, last_call, last_planned}
+use Rattle.set_algebra.proofs.Calls.{last_result}
 use Rattle.interp_lex.proofs.InterpolationNeeds.{needs_least}
 use Rattle.bool_poly.proofs.OnesLemmas.{covers_single, needs_ones, ones_of-single}
 
--- ---- the least polynomial that is 1 at some points and 0 at the others: s is the state at the call, t the one after the points of value 0
+-- ---- the least polynomial that is 1 at some points and 0 at the others
 
--- the polynomial, and what it needs
-abbrev zeros_of : State → Handle → Handle → Family
-zeros_of s points ones = minus_of s.vars (family s points) (family s ones)
-
-abbrev least_of : State → Handle → Handle → Family
-least_of s points ones = interpolate s.vars (zeros_of s points ones) (family s ones)
-
-abbrev least_list : State → Handle → Handle → List Family
-least_list s points ones = zeros_of s points ones ∷ interpolation_list s.vars (zeros_of s points ones) (family s ones)
+-- what it needs
+abbrev least_list : ℕ → Family → Family → List Family
+least_list n points ones = minus_of n points ones ∷ interpolation_list n (minus_of n points ones) ones
 
 minus_apart : (n : ℕ) (f g : Family) → AreDisjoint (minus_of n f g) g
 unfolding combine
 minus_apart n f g x i j = grind (arith, has-family_where n (λ a. first_only (has f a) (has g a)) x)
 
-module _ {s t : State} (points ones : Handle) {zeros : Handle} (known : Knows s ones)
-    (one : Builds s t (Ok zeros) (zeros_of s points ones)) where
-  zeros_are : family t zeros ≡ zeros_of s points ones
-  zeros_are = Denotes-family t zeros _ one.ok
+-- what a call asks for; s is the state before it, and R says that the operations are ready
+abbrev LeastAsked : State → Handle → Handle → Type 0 → Type 0
+LeastAsked s p o R = record {
+  points : Knows s p;
+  ones : Knows s o;
+  planned : Covers s.plan (working_set s.vars (least_list s.vars (family s p) (family s o)));
+  ready : R;
+}
 
-  ones_are : family t ones ≡ family s ones
-  ones_are = Grows-family s t ones one.grows known
-
-  pub apart : AreDisjoint (family t zeros) (family t ones)
-  apart = rw (zeros_are, ones_are) (minus_apart s.vars (family s points) (family s ones))
-
-  needs_are : needs_of t Least zeros ones.0 ≡ working_set t.vars (interpolation_list s.vars (zeros_of s points ones) (family s ones))
-  needs_are = needs_least t zeros ones ∙ rw (one.grows.vars, zeros_are, ones_are) refl
-
-  pub least_planned : Covers s.plan (working_set s.vars (least_list s points ones)) → Covers t.plan (needs_of t Least zeros ones.0)
-  least_planned planned = rw (needs_are, one.grows.plan, one.grows.vars) (covers_tail s.vars s.plan _ _ planned)
-
-  pub least_given : {u : State} {r : Result Handle Full}
-      → Gives t u r (interpolate t.vars (family t zeros) (family t ones)) (needs_of t Least zeros ones.0)
-      → Gives s u r (least_of s points ones) (working_set s.vars (least_list s points ones))
-  least_given {u} {r} two = found_gives s t u r _ (zeros_of s points ones ∷ []) _
-      (found_built _ (found_start s) refl one) (gives_as (rw (one.grows.vars, zeros_are, ones_are) refl) needs_are two)
-
--- ---- the normal form
-
--- what it needs beside the points where m is 1
-abbrev needed : ℕ → ℕ → Family → List Family
-needed n m points =
-    (zeros_at n m points ∷ interpolation_list n (zeros_at n m points) (ones_at n m points)) ++ normal_form_of n m points ∷ []
-
-list_is : (n m : ℕ) (points : Family) → normal_form_list n m points ≡ ones_at n m points ∷ needed n m points
-unfolding normal_form_list
-list_is n m points = refl
-
--- a result that is held beside the families that it needed
-gives_result : {s t : State} {r : Result Handle Full} {f : Family} (list : List Family) → IsSound t
-    → Gives s t r f (working_set s.vars list) → Gives s t r f (working_set s.vars (list ++ f ∷ []))
-gives_result {s} {t} {r = Ok h} {f} list sound is = grind (arith, found_result s t h f list sound is)
-gives_result {r = Err e} list sound is = grind arith
-
-pub ones_planned : (s : State) (m : ℕ) (points : Handle) → Covers s.plan (working_set s.vars (normal_form_list s.vars m (family s points)))
-    → IsPlanned s (ones_at s.vars m (family s points))
-unfolding normal_form_list
-ones_planned s m points planned = covers_head _ _ _ _ planned
-
--- what it denotes is the least polynomial with these values
-pub normal_least : {s t : State} (m : ℕ) (points : Handle) {needs : List Family} (r : Result Handle Full) → IsSound s → Knows s points
-    → Gives s t r (normal_form_of s.vars m (family s points)) needs
-    → IfOk r (λ h. IsLeast s.vars (zeros_at s.vars m (family s points)) (ones_at s.vars m (family s points)) (family t h))
-normal_least {s} {t} m points (Ok h) sound known does =
-    rw (Denotes-family t h _ does.ok) (IsLeast-normal_form_of s.vars m (family s points) (known_after s points sound known))
-normal_least m points (Err e) sound known does = tt
-
--- t is the state after the calls that found the points o where m is 1 and needed the families xs
-module _ {s t : State} (m : ℕ) (points : Handle) {o : Handle} {xs : List Family} (known : Knows s points) (found : Found s t xs)
-    (one : Denotes t o (ones_at s.vars m (family s points))) where
-  asked_are : least_list t points o
-      ≡ zeros_at s.vars m (family s points)
-      ∷ interpolation_list s.vars (zeros_at s.vars m (family s points)) (ones_at s.vars m (family s points))
-  asked_are = rw (found.reads.grows.vars, Grows-family s t points found.reads.grows known, Denotes-family t o _ one) refl
-
-  pub values_planned : Covers s.plan (working_set s.vars (normal_form_list s.vars m (family s points)))
-      → Covers t.plan (working_set t.vars (least_list t points o))
-  values_planned planned = rw (found.reads.grows.plan, asked_are, found.reads.grows.vars)
-      (covers_left s.vars s.plan _ _ (covers_tail s.vars s.plan _ _ (rw list_is at planned)))
-
-  -- u is the state at the end
-  pub normal_found : {u : State} (r : Result Handle Full) → IsSound u
-      → Gives t u r (least_of t points o) (working_set t.vars (least_list t points o))
-      → Gives s u r (normal_form_of s.vars m (family s points)) (working_set s.vars (xs ++ needed s.vars m (family s points)))
-  unfolding normal_form_of
-  normal_found {u} r sound two = found_gives s t u r _ xs (needed s.vars m (family s points)) found (gives_result _ sound (gives_as
-      (rw (found.reads.grows.vars, Grows-family s t points found.reads.grows known, Denotes-family t o _ one) refl)
-      (ap (working_set t.vars) asked_are) two))
-
--- t is the state after the points where m is 1, by one call
-pub normal_gives : {s t u : State} (m : ℕ) (points : Handle) {o : Handle} → Knows s points
-    → Builds s t (Ok o) (ones_at s.vars m (family s points))
-    → (r : Result Handle Full) → IsSound u → Gives t u r (least_of t points o) (working_set t.vars (least_list t points o))
-    → Gives s u r (normal_form_of s.vars m (family s points)) (working_set s.vars (normal_form_list s.vars m (family s points)))
-normal_gives {s} m points known one r sound two =
-    rw (list_is s.vars m (family s points)) (normal_found m points known (found_built _ (found_start s) refl one) one.ok r sound two)
-
--- ---- the element with a given lead
-
--- a call: s is the state before it
-pub record Call (s : State) (m : ℕ) (points : Handle) : Type 0 where
-  sound : IsSound s
-  below : m < 2 ^ s.vars
-  known : Knows s points
-  planned : Covers s.plan (working_set s.vars (basis_element_list s.vars m (family s points)))
-
-pub call_of : {s : State} {m : ℕ} {points : Handle} → IsSound s → m < 2 ^ s.vars → Knows s points
-    → Covers s.plan (working_set s.vars (basis_element_list s.vars m (family s points))) → Call s m points
-call_of sound below known planned = grind arith
-
--- what the calls need, in their order, has what the element needs
-in_order : (lead ones element : Family) (list rest : List Family)
-    → Covers (((lead ∷ (list ++ ones ∷ [])) ++ rest) ++ element ∷ []) ((ones ∷ rest) ++ (lead ∷ element ∷ []))
-in_order lead ones element list rest =
-    search (covers_lists, covers_more, covers_nothing, Has-head, Has-tail, Has-append_left, Has-append_right) depth 9 fits 3000
-
-module _ {s : State} {m : ℕ} {points : Handle} (call : Call s m points) where
-  abbrev n : ℕ
-  n = s.vars
-
+module _ {s : State} (points ones : Handle) (R : Type 0) (sound : IsSound s) (call : LeastAsked s points ones R) where
   abbrev P : Family
   P = family s points
 
-  abbrev element : Family
-  element = basis_element_of n m P
+  abbrev O : Family
+  O = family s ones
 
-  element_list_is : basis_element_list n m P ≡ normal_form_list n m P ++ ((m ∷ []) ∷ element ∷ [])
-  unfolding basis_element_list
-  element_list_is = refl
+  abbrev Z : Family
+  Z = minus_of s.vars P O
 
-  planned : Covers s.plan (working_set n (normal_form_list n m P ++ ((m ∷ []) ∷ element ∷ [])))
-  planned = rw (← element_list_is) call.planned
+  pub least_start : Calls s s s.vars (least_list s.vars P O) (least_list s.vars P O) ((points, P) ∷ (ones, O) ∷ [])
+  least_start = calls_begin call.planned (known_at_hand sound call.points, (known_at_hand sound call.ones, tt))
 
-  normal_planned : Covers s.plan (working_set n (normal_form_list n m P))
-  normal_planned = covers_left n s.plan _ _ planned
+  -- t is the state after the points of value 0
+  module _ {t : State} {zeros : Handle} (one : Builds s t (Ok zeros) Z) where
+    after_zeros : Calls s t s.vars (least_list s.vars P O) (interpolation_list s.vars Z O) ((zeros, Z) ∷ (points, P) ∷ (ones, O) ∷ [])
+    after_zeros = after_combined first_only refl least_start least_start.here.0 least_start.here.1.0 one
+
+    pub apart : AreDisjoint (family t zeros) (family t ones)
+    apart = rw (after_zeros.here.0.0, after_zeros.here.1.1.0.0) (minus_apart s.vars P O)
+
+    needs_are : needs_of t Least zeros ones.0 ≡ working_set s.vars (interpolation_list s.vars Z O)
+    needs_are = let k = after_zeros in needs_least t zeros ones ∙ rw (k.reads.grows.vars, k.here.0.0, k.here.1.1.0.0) refl
+
+    pub least_planned : Covers t.plan (needs_of t Least zeros ones.0)
+    least_planned = last_planned after_zeros needs_are
+
+    pub least_given : {u : State} (r : Result Handle Full)
+        → Gives t u r (interpolate t.vars (family t zeros) (family t ones)) (needs_of t Least zeros ones.0)
+        → Gives s u r (interpolate s.vars Z O) (working_set s.vars (least_list s.vars P O))
+    least_given r two = let k = after_zeros in last_call k r needs_are (rw (k.reads.grows.vars, k.here.0.0, k.here.1.1.0.0) refl) two
+
+-- ---- the normal form, of points and the points where m is 1, both at hand
+
+module _ {s t : State} {all : List Family} {hs : List (Handle × Family)} (m : ℕ) (P : Family) (rest : List Family) {points o : Handle}
+    (k : Calls s t s.vars all (least_list s.vars P (ones_at s.vars m P) ++ rest) hs) (x : IsAtHand t s.vars points P)
+    (y : IsAtHand t s.vars o (ones_at s.vars m P)) where
+  pub values_needs : working_set t.vars (least_list t.vars (family t points) (family t o))
+      ≡ working_set s.vars (least_list s.vars P (ones_at s.vars m P))
+  values_needs = rw (k.reads.grows.vars, x.0, y.0) refl
+
+  pub values_planned : Covers t.plan (working_set t.vars (least_list t.vars (family t points) (family t o)))
+  values_planned = call_planned _ rest k values_needs
+
+  pub normal_is : interpolate t.vars (minus_of t.vars (family t points) (family t o)) (family t o) ≡ normal_form_of s.vars m P
+  unfolding normal_form_of
+  normal_is = rw (k.reads.grows.vars, x.0, y.0) refl
+
+-- what it needs, in the order in which it is found
+abbrev normal_parts : ℕ → ℕ → Family → List Family
+normal_parts n m points = ones_at n m points ∷ (least_list n points (ones_at n m points) ++ normal_form_of n m points ∷ [])
+
+abbrev NormalAsked : State → ℕ → Handle → Type 0 → Type 0
+NormalAsked s m points R = record {
+  below : m < 2 ^ s.vars;
+  known : Knows s points;
+  planned : Covers s.plan (working_set s.vars (normal_form_list s.vars m (family s points)));
+  ready : R;
+}
+
+module _ {s : State} (m : ℕ) (points : Handle) (R : Type 0) (sound : IsSound s) (call : NormalAsked s m points R) where
+  abbrev N : Family
+  N = family s points
+
+  pub normal_start : Calls s s s.vars (normal_form_list s.vars m N) (normal_parts s.vars m N) ((points, N) ∷ [])
+  unfolding normal_form_list
+  normal_start = calls_start (Reads-refl s) (omega arith) call.planned refl (known_at_hand sound call.known, tt)
+
+  -- t is the state after the points where m is 1
+  module _ {t : State} {o : Handle} (one : Builds s t (Ok o) (ones_at s.vars m N)) where
+    pub after_ones : Calls s t s.vars (normal_form_list s.vars m N)
+        (least_list s.vars N (ones_at s.vars m N) ++ normal_form_of s.vars m N ∷ []) ((o, ones_at s.vars m N) ∷ (points, N) ∷ [])
+    after_ones = after_built normal_start refl (IsFamily-family_where s.vars _) one
+
+    pub normal_gives : {u : State} (r : Result Handle Full) → IsSound u
+        → Gives t u r (interpolate t.vars (minus_of t.vars (family t points) (family t o)) (family t o))
+        (working_set t.vars (least_list t.vars (family t points) (family t o)))
+        → Gives s u r (normal_form_of s.vars m N) (working_set s.vars (normal_form_list s.vars m N))
+    unfolding normal_form_of
+    normal_gives r okay two = let k = after_ones in last_result _ k okay (IsFamily-interpolate s.vars _ _)
+        (values_needs m N _ k k.here.1.0 k.here.0) (normal_is m N _ k k.here.1.0 k.here.0) r two
+
+  -- what it denotes is the least polynomial with these values
+  pub normal_least : {t : State} {needs : List Family} (r : Result Handle Full) → Gives s t r (normal_form_of s.vars m N) needs
+      → IfOk r (λ h. IsLeast s.vars (zeros_at s.vars m N) (ones_at s.vars m N) (family t h))
+  normal_least {t} (Ok h) does =
+      rw (Denotes-family t h _ does.ok) (IsLeast-normal_form_of s.vars m N (known_after s points sound call.known))
+  normal_least (Err e) does = tt
+
+-- ---- the element with a given lead
+
+-- what it needs, in the order in which it is found
+abbrev element_parts : ℕ → ℕ → Family → List Family
+element_parts n m points = (m ∷ []) ∷ ones_at n m points ∷ (least_list n points (ones_at n m points)
+    ++ normal_form_of n m points ∷ sum_of n (m ∷ []) (normal_form_of n m points) ∷ [])
+
+ruleset parts = (covers_lists, covers_more, covers_nothing, Has-head, Has-tail, Has-append_left, Has-append_right)
+
+in_order : (lead ones normal element : Family) (list : List Family)
+    → let all = (ones ∷ (list ++ normal ∷ [])) ++ lead ∷ element ∷ [] in let found = lead ∷ ones ∷ (list ++ normal ∷ element ∷ []) in
+    Covers all found × Covers found all
+in_order lead ones normal element list = (search parts depth 9 fits 3000, search parts depth 9 fits 3000)
+
+abbrev ElementAsked : State → ℕ → Handle → Type 0 → Type 0
+ElementAsked s m points R = record {
+  below : m < 2 ^ s.vars;
+  known : Knows s points;
+  lead : IsLead s.vars (family s points) m;
+  planned : Covers s.plan (working_set s.vars (basis_element_list s.vars m (family s points)));
+  ready : R;
+}
+
+module _ {s : State} (m : ℕ) (points : Handle) (R : Type 0) (sound : IsSound s) (call : ElementAsked s m points R) where
+  abbrev Q : Family
+  Q = family s points
+
+  -- in t these families are still to be found, and these handles were
+  abbrev In : State → List Family → List (Handle × Family) → Type 0
+  In t rest hs = Calls s t s.vars (basis_element_list s.vars m Q) rest (hs ++ (points, Q) ∷ [])
+
+  pub element_start : In s (element_parts s.vars m Q) []
+  unfolding basis_element_list normal_form_list basis_element_of
+  element_start = let order = in_order (m ∷ []) (ones_at s.vars m Q) (normal_form_of s.vars m Q)
+      (sum_of s.vars (m ∷ []) (normal_form_of s.vars m Q)) (least_list s.vars Q (ones_at s.vars m Q)) in
+      calls_in_order (calls_start (Reads-refl s) (omega arith) call.planned refl (known_at_hand sound call.known, tt)) order.0 order.1
 
   -- what it denotes is the element with the lead
-  pub element_right : {t : State} (r : Result Handle Full) → (¬ IsStandard n P m)
-      → Gives s t r element (working_set n (basis_element_list n m P)) → IfOk r (λ h. IsBasisElement n P m (family t h))
-  element_right {t} (Ok h) lead does = rw (Denotes-family t h element does.ok)
-      (IsBasisElement-basis_element_of n m P (known_after s points call.sound call.known) call.below lead)
-  element_right (Err e) lead does = tt
-
-  pub lead_planned : IsPlanned s (m ∷ [])
-  lead_planned = covers_family n s.plan _ (m ∷ []) planned (search (Has-head, Has-append_right))
+  pub element_right : {t : State} (r : Result Handle Full)
+      → Gives s t r (basis_element_of s.vars m Q) (working_set s.vars (basis_element_list s.vars m Q))
+      → IfOk r (λ h. IsBasisElement s.vars Q m (family t h))
+  element_right {t} (Ok h) does = rw (Denotes-family t h _ does.ok)
+      (IsBasisElement-basis_element_of s.vars m Q (known_after s points sound call.known) call.below call.lead.not_standard)
+  element_right (Err e) does = tt
 
   -- t is the state after the lead
   module _ {t : State} {lead : Handle} (one : Builds s t (Ok lead) (m ∷ [])) where
-    abbrev list : List Family
-    list = ones_list n (m ∷ []) P
+    abbrev left : List Family
+    left = least_list s.vars Q (ones_at s.vars m Q) ++ normal_form_of s.vars m Q ∷ sum_of s.vars (m ∷ []) (normal_form_of s.vars m Q) ∷ []
 
-    lead_needs_are : needs_of t Ones lead points.0 ≡ working_set t.vars list
-    lead_needs_are = needs_ones t.vars (family t lead) (family t points) points.0
-        ∙ rw (Denotes-family t lead (m ∷ []) one.ok, Grows-family s t points one.grows call.known, one.grows.vars) refl
+    pub after_lead : In t (ones_at s.vars m Q ∷ left) ((lead, m ∷ []) ∷ [])
+    after_lead = after_built element_start refl (IsFamily-single s.vars m call.below) one
 
     pub lead_ones_planned : Covers t.plan (needs_of t Ones lead points.0)
-    lead_ones_planned = rw (lead_needs_are, one.grows.plan, one.grows.vars)
-        (covers_single s.plan n n (omega arith) m call.below P (known_after s points call.sound call.known) lead_planned
-        (ones_planned s m points normal_planned))
+    lead_ones_planned = let k = after_lead in
+        rw (needs_ones t.vars (family t lead) (family t points) points.0, k.reads.grows.plan, k.reads.grows.vars, k.here.0.0, k.here.1.0.0)
+        (covers_single s.plan s.vars s.vars (omega arith) m call.below Q k.here.1.0.1 (built_planned element_start refl)
+        (covers_head s.vars s.plan left (ones_at s.vars m Q) k.planned))
 
     -- u is the state after the points where it is 1
-    module _ {u : State} {o : Handle} (sound : IsSound u)
+    module _ {u : State} {o : Handle} (okay : IsSound u)
         (two : Gives t u (Ok o) (ones_of t.vars (family t lead) (family t points)) (needs_of t Ones lead points.0)) where
-      at_ones : Gives t u (Ok o) (ones_at n m P) (working_set t.vars list)
-      at_ones = gives_as (rw (Denotes-family t lead (m ∷ []) one.ok, Grows-family s t points one.grows call.known, one.grows.vars)
-          (ones_of-single n m P)) lead_needs_are two
+      pub after_points : In u left ((o, ones_at s.vars m Q) ∷ (lead, m ∷ []) ∷ [])
+      after_points = let k = after_lead in
+          let found = after_other k (rw (k.reads.grows.vars, k.here.0.0, k.here.1.0.0) (ones_of-single s.vars m Q))
+          (IsFamily-family_where s.vars _) two in found_at_hand okay found found.here.0
 
-      to_u : Found s u ((m ∷ []) ∷ (list ++ ones_at n m P ∷ []))
-      to_u = found_after s t u ((m ∷ []) ∷ []) _ (found_built (m ∷ []) (found_start s) refl one) (found_result t u o _ list sound at_ones)
-
-      pub tail_planned : Covers u.plan (working_set u.vars (least_list u points o))
-      tail_planned = values_planned m points call.known to_u at_ones.ok normal_planned
+      pub tail_planned : Covers u.plan (working_set u.vars (least_list u.vars (family u points) (family u o)))
+      tail_planned = let k = after_points in values_planned m Q _ k k.here.1.1.0 k.here.0
 
       -- v is the state after the normal form
-      module _ {v : State} {x : Handle} (sound_v : IsSound v)
-          (three : Gives u v (Ok x) (least_of u points o) (working_set u.vars (least_list u points o))) where
-        abbrev calls : List Family
-        calls = ((m ∷ []) ∷ (list ++ ones_at n m P ∷ [])) ++ needed n m P
-
-        at_tail : Gives s v (Ok x) (normal_form_of n m P) (working_set n calls)
-        at_tail = normal_found m points call.known to_u at_ones.ok (Ok x) sound_v three
-
-        element_is : sum_of v.vars (family v lead) (family v x) ≡ element
-        unfolding basis_element_of
-        element_is = grind (arith, at_tail, Denotes-family)
-
-        pub element_planned : IsPlanned v (sum_of v.vars (family v lead) (family v x))
-        element_planned = rw (at_tail.grows.plan, element_is, at_tail.grows.vars)
-            (covers_family n s.plan _ element planned (search (Has-head, Has-tail, Has-append_right)))
-
-        -- w is the state at the end
-        pub element_gives : {w : State} (r : Result Handle Full) → Builds v w r (sum_of v.vars (family v lead) (family v x))
-            → Gives s w r element (working_set n (basis_element_list n m P))
-        element_gives {w} r four = rw (element_list_is, list_is n m P) (gives_fewer (covers_part n _ (calls ++ element ∷ []) _ (λ f i. i)
-            (in_order (m ∷ []) (ones_at n m P) element list (needed n m P))) (found_gives s v w r element calls (element ∷ [])
-            (found_call calls (found_start s) refl at_tail) (builds_gives v w r element (rw (← element_is) four))))
+      pub after_tail : {v : State} {x : Handle} → IsSound v
+          → Gives u v (Ok x) (interpolate u.vars (minus_of u.vars (family u points) (family u o)) (family u o))
+          (working_set u.vars (least_list u.vars (family u points) (family u o)))
+          → In v (sum_of s.vars (m ∷ []) (normal_form_of s.vars m Q) ∷ [])
+          ((x, normal_form_of s.vars m Q) ∷ (o, ones_at s.vars m Q) ∷ (lead, m ∷ []) ∷ [])
+      unfolding normal_form_of
+      after_tail fine three = let k = after_points in
+          let found = after_call _ _ k (values_needs m Q _ k k.here.1.1.0 k.here.0) (normal_is m Q _ k k.here.1.1.0 k.here.0)
+          (IsFamily-interpolate s.vars _ _) three in found_at_hand fine found found.here.0

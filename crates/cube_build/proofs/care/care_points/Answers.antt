@@ -3,8 +3,8 @@ use Rattle.cube_build.proofs.UnitedCares.{sets_planned, united_given, united_pla
 use Rattle.cube_build.proofs.care.care_points.Goals as goal
 
 pub care_sets-requires-clause-planned : goal.care_sets-requires-clause-planned
-care_sets-requires-clause-planned g c =
-    sets_planned (g.S.Store.state c.args.store.now) (description c.args.p.now) c.args.output c.requires.vars c.requires.planned
+care_sets-requires-clause-planned g c = sets_planned (g.S.Store.state c.args.store.now) (description c.args.p.now) c.args.output
+    c.requires.vars c.requires.planned
 
 pub union-requires-clause-planned : goal.union-requires-clause-planned
 union-requires-clause-planned g c =
@@ -14,4 +14,4 @@ union-requires-clause-planned g c =
 pub returns : goal.returns
 returns g c =
     united_given (g.S.Store.state c.args.store.now) (description c.args.p.now) c.args.output c.requires.vars c.requires.planned
-    c.in_ok-cares.ensures c.union.ensures
+    c.in_ok-cares.ensures _ c.union.ensures

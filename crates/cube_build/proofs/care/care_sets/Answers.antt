@@ -1,8 +1,8 @@
 use Rattle.std.proofs.Common.{arith, length-set, refl, ◌∙◌}
 use Rattle.node_store.proofs.StoreLaws.{Reads-refl, then_call}
-use Rattle.set_algebra.proofs.Calls.{points_failed}
+use Rattle.set_algebra.proofs.Calls.{points_after, points_failed}
 use Rattle.cube_build.specs.declared.covers.PointSet.TheVariants.{On}
-use Rattle.cube_build.proofs.CareLemmas.{all_covers, covers_more, later_planned, points_after}
+use Rattle.cube_build.proofs.CareLemmas.{all_covers, covers_more, later_planned}
 use Rattle.cube_build.proofs.care.care_sets.Goals as goal
 
 pub build_cover-requires-clause-planned : goal.build_cover-requires-clause-planned

@@ -1,7 +1,7 @@
 use Rattle.std.proofs.Common.{◌≡◌, true, false, [], refl, rules}
 use Rattle.std.specs.Prelude.{is_err}
 use Rattle.std.proofs.KnownBytes.{Appends-nil}
-use Rattle.file_relay.proofs.Files.{on_err}
+use Rattle.lattice.proofs.Polynomials.{on_err}
 use Rattle.file_batch.specs.Progress.{whole}
 use Rattle.file_batch.proofs.Told.{no_err, no_ok, on_ok, one_more}
 use Rattle.file_batch.proofs.progress.write_next.Goals as goal

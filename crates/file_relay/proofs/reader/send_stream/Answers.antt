@@ -5,7 +5,8 @@ use Rattle.outside.proofs.Known.{consumes_both}
 use Rattle.file_stream.specs.Files.{files_of}
 use Rattle.file_relay.specs.Messages.{HaveFiles}
 use Rattle.file_relay.specs.Reading.{ArePartly, IsSent}
-use Rattle.file_relay.proofs.Files.{no_end_of, on_err}
+use Rattle.lattice.proofs.Polynomials.{on_err}
+use Rattle.file_relay.proofs.Files.{no_end_of}
 use Rattle.file_relay.proofs.reader.send_stream.Goals as goal
 
 pub returns-in-Err-clause-unended : goal.returns-in-Err-clause-unended

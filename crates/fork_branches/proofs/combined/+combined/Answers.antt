@@ -1,9 +1,10 @@
 use Rattle.std.proofs.Common.{◌∙◌, ℕ, ap}
+use Rattle.lattice.proofs.Polynomials.{on_err}
 use Rattle.node_store.proofs.StoreLaws.{Grows-refl}
 use Rattle.set_algebra.proofs.Levels.{Finishes, finishes}
 use Rattle.unique_table.specs.Passes.{twin_of}
 use Rattle.computed_cache.specs.Cached.{cached_sound, cached_state}
-use Rattle.fork_branches.proofs.Branches.{both_gives, both_reads, takes_both, forked_combining, on_err}
+use Rattle.fork_branches.proofs.Branches.{both_gives, both_reads, takes_both, forked_combining}
 use Rattle.fork_branches.proofs.combined.+combined.Goals as goal
 use Rattle.fork_branches.proofs.combined.+combined.Goals.{combine_in-In_ok-lo-in-Halves}
 use Rattle.fork_branches.proofs.combined.+combined.Given.{Over}

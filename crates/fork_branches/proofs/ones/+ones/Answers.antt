@@ -1,9 +1,10 @@
 use Rattle.std.proofs.Common.{◌∙◌, ap}
+use Rattle.lattice.proofs.Polynomials.{on_err}
 use Rattle.node_store.proofs.StoreLaws.{Grows-refl}
 use Rattle.bool_poly.proofs.OnesLemmas.{ones_finish, sum_asks, with_after}
 use Rattle.unique_table.specs.Passes.{twin_of}
 use Rattle.computed_cache.specs.Cached.{cached_sound, cached_state}
-use Rattle.fork_branches.proofs.Branches.{both_gives, both_reads, takes_both, forked_finding, on_err}
+use Rattle.fork_branches.proofs.Branches.{both_gives, both_reads, takes_both, forked_finding}
 use Rattle.fork_branches.proofs.ones.+ones.Goals as goal
 
 pub ones_both-returns-clause-gives : goal.ones_both-returns-clause-gives

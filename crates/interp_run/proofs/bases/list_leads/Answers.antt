@@ -3,7 +3,8 @@ use Rattle.std.proofs.lemmas.List.Elements.{All-drop}
 use Rattle.lattice.specs.Words.{output_numbers}
 use Rattle.node_store.specs.Stores.{Knows, family}
 use Rattle.pla_reader.specs.Reading.{description}
-use Rattle.run_parts.proofs.FoundTerms.{families_later, walk_was_over}
+use Rattle.node_store.proofs.StoreLaws.{families_later}
+use Rattle.set_algebra.proofs.Calls.{walk_was_over}
 use Rattle.interp_run.specs.Phases.{task}
 use Rattle.interp_run.specs.declared.phases.Unsolved.TheVariants.{Terms, Memory}
 use Rattle.interp_run.specs.declared.tasks.Part.TheVariants.{Leads}

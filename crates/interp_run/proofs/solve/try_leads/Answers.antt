@@ -4,7 +4,7 @@ use Rattle.std.proofs.Math.Pow.{pow_mono}
 use Rattle.lattice.specs.Words.{first_phase}
 use Rattle.computed_cache.specs.Cached.{cached_sound, cached_state}
 use Rattle.pla_reader.specs.Reading.{description}
-use Rattle.run_parts.proofs.FoundTerms.{fits}
+use Rattle.node_store.proofs.StoreLaws.{fits}
 use Rattle.interp_run.proofs.SolvedAnswers.{first_counted, first_terms_over}
 use Rattle.interp_run.proofs.solve.try_leads.Goals as goal
 

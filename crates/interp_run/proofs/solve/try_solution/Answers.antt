@@ -5,7 +5,8 @@ use Rattle.lattice.specs.Words.{is_basis, second_phase}
 use Rattle.computed_cache.specs.Cached.{cached_sound, cached_state}
 use Rattle.pla_reader.specs.Reading.{description}
 use Rattle.anf_printer.specs.Text.{shown_answer}
-use Rattle.run_parts.proofs.FoundTerms.{fits, same_error}
+use Rattle.lattice.proofs.Polynomials.{same_error}
+use Rattle.node_store.proofs.StoreLaws.{fits}
 use Rattle.interp_run.specs.Parts.{jobs_for}
 use Rattle.interp_run.specs.Phases.{answer_in, answers_for}
 use Rattle.interp_run.proofs.PhaseLists.{first_later}

@@ -1,6 +1,6 @@
 use Rattle.lattice.specs.Words.{leads_of, standard_of}
 use Rattle.lattice.proofs.Diagrams.{covers_head}
-use Rattle.run_parts.specs.Found.{point_leads_list}
+use Rattle.std_monomials.specs.PointLeads.{point_leads_list}
 use Rattle.interp_run.proofs.TaskJobs.{more_given, more_planned}
 use Rattle.interp_run.proofs.tasks.find_leads.Goals as goal
 

@@ -1,5 +1,5 @@
 use Rattle.std.proofs.Common.{Err, ap, arith}
-use Rattle.run_parts.proofs.FoundTerms.{walk_was_over}
+use Rattle.set_algebra.proofs.Calls.{walk_was_over}
 use Rattle.nf_run.specs.declared.solving.ReduceRefusal.TheVariants.{Memory, Terms}
 use Rattle.nf_run.proofs.QueryAnswers.{handles_known, lists_right, nodes_fit, terms_are}
 use Rattle.nf_run.proofs.solving.reduce_in.Goals as goal

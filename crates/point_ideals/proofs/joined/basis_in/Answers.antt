@@ -1,8 +1,8 @@
 use Rattle.std.proofs.Common.{◌∙◌, Err, ap, arith, map, refl}
 use Rattle.node_store.specs.Stores.{family}
 use Rattle.pla_reader.specs.Reading.{description}
-use Rattle.run_parts.specs.Found.{terms_of}
-use Rattle.run_parts.proofs.FoundTerms.{fits}
+use Rattle.set_algebra.specs.Terms.{terms_of}
+use Rattle.node_store.proofs.StoreLaws.{fits}
 use Rattle.point_ideals.specs.Joined.{second_phase_list}
 use Rattle.point_ideals.proofs.JointSteps.{elements_counted, phase_listed, phase_unlisted}
 use Rattle.point_ideals.proofs.joined.basis_in.Goals as goal

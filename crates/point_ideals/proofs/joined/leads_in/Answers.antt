@@ -1,8 +1,7 @@
 use Rattle.std.proofs.Common.{◌∙◌, Err, ap, arith, length, refl, reverse}
 use Rattle.std.proofs.lemmas.List.{reverse-reverse}
-use Rattle.node_store.proofs.StoreLaws.{Denotes-family, Grows-trans}
+use Rattle.node_store.proofs.StoreLaws.{Denotes-family, Grows-trans, fits}
 use Rattle.pla_reader.specs.Reading.{description}
-use Rattle.run_parts.proofs.FoundTerms.{fits}
 use Rattle.point_ideals.specs.Joined.{first_phase_list, joint_leads}
 use Rattle.point_ideals.proofs.JointSteps.{phase_listed, phase_unlisted}
 use Rattle.point_ideals.proofs.joined.leads_in.Goals as goal

@@ -1,8 +1,9 @@
 use Rattle.std.proofs.Common.{◌∷◌, ◌∙◌, [], length, length-append, arith, rules, sym, refl}
 use Rattle.std.proofs.lemmas.Slice.Zip.{zip_turn}
+use Rattle.lattice.proofs.Polynomials.{on_err}
 use Rattle.watch.proofs.LeftAfter.{left_after_all-nil}
 use Rattle.program.proofs.Streams.{appends_nothing}
-use Rattle.program.proofs.Written.{on_err, page_begun, page_written, room_for_more, stopped_at, told_more}
+use Rattle.program.proofs.Written.{page_begun, page_written, room_for_more, stopped_at, told_more}
 use Rattle.program.proofs.pages.write_pages.Goals as goal
 
 pub loop-page-init : goal.loop-page-init
@@ -13,7 +14,7 @@ returns-in_err-write_whole-clause-less g c =
     let turn = zip_turn c.args.pages.now c.args.notes.now c.loop-page.yielded c.into_iter-page-iterator.result c.loop-page.page-iterator
     c.next.new.self c.next.result (search rules) (search rules) c.loop-page.yielded_by (c.in-Some.page, c.in-Some.note) c.in-Some.is
     c.next.ensures.steps in
-    on_err c.from_residual.result _ c.from_residual.ensures.0 (page_begun c.args.pages.now (length c.loop-page.yielded)
+    on_err c.from_residual.result (page_begun c.args.pages.now (length c.loop-page.yielded)
     c.as_slice.result.now turn.0 (g.K.Sink.held c.args.out.now)
     (g.K.Sink.held c.loop-page.out) (g.K.Sink.held c.write_whole.new.out) c.as_slice.result.now
     (c.as_slice.ensures ∙ turn.2 c.as_slice.result.now) c.loop-page.invariant.gained c.in_err-write_whole.ensures.less)
@@ -23,7 +24,7 @@ returns-in_err-write_whole-clause-stopped g c =
     let turn = zip_turn c.args.pages.now c.args.notes.now c.loop-page.yielded c.into_iter-page-iterator.result c.loop-page.page-iterator
     c.next.new.self c.next.result (search rules) (search rules) c.loop-page.yielded_by (c.in-Some.page, c.in-Some.note) c.in-Some.is
     c.next.ensures.steps in
-    on_err c.from_residual.result _ c.from_residual.ensures.0
+    on_err c.from_residual.result
     (stopped_at (g.K.Sink.held c.args.out.now) (g.K.Sink.held c.loop-page.out) (g.K.Sink.held c.write_whole.new.out)
     c.args.pages.now c.args.notes.now
     (length c.loop-page.yielded) c.as_slice.result.now _ _ turn.0 (c.as_slice.ensures ∙ turn.2 c.as_slice.result.now)

@@ -1,7 +1,7 @@
 use Rattle.std.proofs.Common.{◌≡◌, ◌+◌, map, reverse, take}
 use Rattle.node_store.specs.Stores.{Reads, family}
-use Rattle.run_parts.specs.Found.{terms_of}
-use Rattle.run_parts.proofs.listed.lists_of.Given as goal
+use Rattle.set_algebra.specs.Terms.{terms_of}
+use Rattle.set_algebra.proofs.terms.lists_of.Given as goal
 
 -- the terms of the polynomials so far, and how many more may be listed
 abbrev pub invariant-loop-polynomial : goal.invariant-loop-polynomial

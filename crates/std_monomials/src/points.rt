@@ -3,10 +3,10 @@ ghost use Rattle.lattice.specs.Family.{Covers};
 ghost use Rattle.lattice.specs.Basis.{leads_of, standard_of};
 ghost use Rattle.lattice.specs.WorkingLists.{working_set};
 ghost use Rattle.node_store.specs.Stores.{Gives, Knows, family};
-ghost use Rattle.run_parts.specs.Found.{point_leads_list};
+ghost use Rattle.std_monomials.specs.PointLeads.{point_leads_list};
 
+use crate::monomials::{leads, standard};
 use node_store::{Full, Handle, Store};
-use std_monomials::{leads, standard};
 
 /// The leads of the points. The error comes only where the store had no slot left for a family that
 /// was needed.

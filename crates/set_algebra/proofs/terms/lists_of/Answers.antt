@@ -1,8 +1,9 @@
 use Rattle.std.proofs.Common.{Err, ap, arith}
+use Rattle.lattice.proofs.Polynomials.{same_error}
 use Rattle.node_store.proofs.StoreLaws.{Reads-trans}
 use Rattle.set_algebra.specs.declared.counted.WalkRefusal.TheVariants.{Over}
-use Rattle.run_parts.proofs.FoundTerms.{lists_more, same_error, terms_more}
-use Rattle.run_parts.proofs.listed.lists_of.Goals as goal
+use Rattle.set_algebra.proofs.TermLemmas.{lists_more, terms_more}
+use Rattle.set_algebra.proofs.terms.lists_of.Goals as goal
 
 pub returns-in_err-terms_of-clause-reads : goal.returns-in_err-terms_of-clause-reads
 returns-in_err-terms_of-clause-reads g c = Reads-trans _ _ _ c.loop-polynomial.invariant.reads c.terms_of.ensures.reads

@@ -1,7 +1,7 @@
 use Rattle.std.proofs.Common.{arith}
 use Rattle.node_store.proofs.StoreLaws.{Reads-trans}
-use Rattle.run_parts.proofs.FoundTerms.{terms_more}
-use Rattle.run_parts.proofs.counts.count_terms.Goals as goal
+use Rattle.set_algebra.proofs.TermLemmas.{terms_more}
+use Rattle.set_algebra.proofs.terms.count_terms.Goals as goal
 
 pub returns-in_err-count : goal.returns-in_err-count
 returns-in_err-count g c =

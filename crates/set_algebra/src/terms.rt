@@ -1,13 +1,29 @@
-//! The terms of polynomials, from their diagrams, as long as they are within a limit.
-ghost use Rattle.std.specs.Prelude.{◌≡◌, ◌<◌, ◌≤◌, ◌+◌, IfOk, IsErrOf, OnOk, length, map, reverse};
+//! The terms of polynomials, counted and listed up to a limit.
+ghost use Rattle.std.specs.Prelude.{◌≡◌, ◌<◌, ◌≤◌, ◌+◌, IfNone, IfSome, IfOk, IsErrOf, OnOk};
+ghost use Rattle.std.specs.Prelude.{length, map, reverse};
 ghost use Rattle.std.specs.List.{All};
 ghost use Rattle.node_store.specs.Stores.{Knows, Reads, family};
-ghost use Rattle.run_parts.specs.Found.{terms_of};
+ghost use Rattle.set_algebra.specs.Terms.{terms_of};
 
+use crate::counted::{WalkRefusal, count_upto, walk_upto};
 use lattice::{MonoLists, Monos};
 use node_store::{Handle, Store};
-use set_algebra::{WalkRefusal, walk_upto};
 use std::alloc::Global;
+
+/// The number of terms of the polynomials; None exactly where it passes `limit`.
+pub fn count_terms<S: Store>(store: &mut S, polynomials: &[Handle], limit: u64) -> Option<u64>
+    requires { All (Knows (S.state store.old)) polynomials.now }
+    ensures reads { Reads (S.state store.old) (S.state store.new) }
+    ensures count { IfSome result (λ n. n ≡ terms_of (S.state store.old) polynomials.now) }
+    ensures within { IfSome result (λ n. n ≤ limit) }
+    ensures over { IfNone result (limit < terms_of (S.state store.old) polynomials.now) }
+{
+    let mut count = 0;
+    for polynomial in polynomials {
+        count += count_upto(store, *polynomial, limit - count)?;
+    }
+    Some(count)
+}
 
 /// The terms of a polynomial, from the greatest to the least. `left` is how many terms may be
 /// listed, which it lessens by those that it lists; `Over` exactly where there are more.

@@ -1,7 +1,7 @@
 use Rattle.std.proofs.Common.{◌≡◌, ◌≤◌, take}
 use Rattle.node_store.specs.Stores.{Reads}
-use Rattle.run_parts.specs.Found.{terms_of}
-use Rattle.run_parts.proofs.counts.count_terms.Given as goal
+use Rattle.set_algebra.specs.Terms.{terms_of}
+use Rattle.set_algebra.proofs.terms.count_terms.Given as goal
 
 -- the terms so far are counted, and within the limit
 abbrev pub invariant-loop-polynomial : goal.invariant-loop-polynomial

@@ -1,3 +1,0 @@
-pub mod FoundTerms
-mod PointLeads
-pub mod Runs
