@@ -7,7 +7,7 @@ use Rattle.file_batch.specs.declared.answerer.FileAnswer.{FileAnswer}
 use Rattle.program.specs.Duties.{IsDueFor, silent, too_long}
 use Rattle.program.specs.Outcomes.{status_of}
 use Rattle.program.specs.Runs.{EndsWithout, due_without, no_memory}
-use Rattle.program.specs.declared.descriptions.TheConstants.{MOST_BYTES}
+use Rattle.pla_reader.specs.declared.reading.TheConstants.{MOST_BYTES}
 use Rattle.program.specs.declared.outcome.Outcome.{Outcome}
 use Rattle.program.specs.declared.outcome.Outcome.TheVariants as ends
 use Rattle.interp_run.specs.Due.{is_gen}

@@ -14,7 +14,8 @@ use fork_branches::Drawn;
 use interp_run::{OwnEnd, answer_of};
 use lattice::{Memory, Pages};
 use outside::Rendezvous;
-use program::{MOST_BYTES, Outcome};
+use pla_reader::MOST_BYTES;
+use program::Outcome;
 use std::alloc::Global;
 use std::thread::Threads;
 

@@ -1,4 +1,5 @@
-use file_stream::{Cutter, MOST_BYTES, Piece, files_are_the_stream, worked_streams};
+use file_stream::{Cutter, Piece, files_are_the_stream, worked_streams};
+use pla_reader::MOST_BYTES;
 use std::alloc::{AllocError, Global};
 use std::test::Fail;
 

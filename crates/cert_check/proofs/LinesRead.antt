@@ -22,16 +22,15 @@ use Rattle.std.proofs.lemmas.Slice.Eq.{bytes_eq-Decides}
 use Rattle.std.proofs.lemmas.List.Elements.{All-nil, All-cons, All-push, All-head, All-tail}
 use Rattle.lattice.proofs.Polynomials.{has_none, has_cases, ascends-nil, is_family, place_within}
 use Rattle.pla_reader.specs.declared.refusal.LineRefusal.{LineRefusal}
-use Rattle.pla_reader.specs.Parts.{Stops}
+use Rattle.pla_reader.specs.Parts.{Stops, text_refusal}
 use Rattle.pla_reader.specs.Lines.{lines_of}
 use Rattle.pla_reader.specs.Reading.{Description}
 use Rattle.cert_check.specs.declared.answer.Given.{Given}
 use Rattle.cert_check.specs.declared.answer.GivenOutput.{GivenOutput}
 use Rattle.cert_check.specs.declared.refusal.AnswerWhy.{AnswerWhy}
 use Rattle.cert_check.specs.declared.refusal.AnswerWhy.TheVariants.{BadLine, MissingOutput}
-use Rattle.cert_check.specs.Parts.{answer_refusal}
 use Rattle.cert_check.specs.Right.{polynomial, IsOutputOver, IsAnswerFor}
-use Rattle.cert_check.specs.declared.refusal.AnswerRefusal.{AnswerRefusal}
+use Rattle.pla_reader.specs.declared.refusal.TextRefusal.{TextRefusal}
 use Rattle.cert_check.proofs.Points.{has-reverse, ascends_below}
 use Rattle.pla_reader.specs.declared.refusal.LineRefusal.TheVariants as line_refusal
 
@@ -284,7 +283,7 @@ module _ (ins outs : List (List ℕ)) (text rest : List ℕ) (count : ℕ) (read
     }
 
     pub line_refused : (e : LineRefusal AnswerWhy) → is_empty (bare line) ≡ false → Stops e
-        (line_fault ins outs (length read) (words (bare line))) → GivesAnswer (Err (answer_refusal e (count + 1)))
+        (line_fault ins outs (length read) (words (bare line))) → GivesAnswer (Err (text_refusal e (count + 1)))
         (read_on ins outs 0 [] (lines_of text))
     line_refused (line_refusal.Memory) filled stops = tt
     line_refused (line_refusal.Bad why) filled stops = rw (next_line false filled, stops) refl
@@ -406,7 +405,7 @@ module _ (ins outs : List (List ℕ)) where
 
 -- what is answered fits the description
 pub answer_fits : (ins outs : List (List ℕ)) (p : Description) (text : List ℕ)
-    (result : Result (List GivenOutput) AnswerRefusal) → length ins ≡ p.inputs → length outs ≡ p.outputs → GivesAnswer
+    (result : Result (List GivenOutput) (TextRefusal AnswerWhy)) → length ins ≡ p.inputs → length outs ≡ p.outputs → GivesAnswer
     result (read_on ins outs 0 [] (lines_of text)) → IfOk result (IsAnswerFor p)
 answer_fits ins outs p text (Ok answer) in_count out_count is =
     let fits = read_fits ins outs 0 [] (lines_of text) answer

@@ -1,21 +1,11 @@
 -- What the parts of the reader and of the checker answer to each other. No public clause has these words.
 use Rattle.std.specs.Prelude.{◌≡◌, ℕ, List, [], Option, None, Some, Result, Ok, Err}
 use Rattle.std.specs.Borrow.{Bor}
-use Rattle.cert_check.specs.declared.refusal.AnswerWhy.{AnswerWhy}
-use Rattle.cert_check.specs.declared.refusal.AnswerRefusal.{AnswerRefusal}
-use Rattle.cert_check.specs.declared.refusal.AnswerRefusal.TheVariants as whole
-use Rattle.pla_reader.specs.declared.refusal.LineRefusal.{LineRefusal}
-use Rattle.pla_reader.specs.declared.refusal.LineRefusal.TheVariants.{Bad, Memory}
 use Rattle.cert_check.specs.Reading.{parts}
 use Rattle.cert_check.specs.declared.refusal.Verdict.{Verdict}
 use Rattle.cert_check.specs.declared.refusal.Verdict.TheVariants.{Yes, No}
 use Rattle.cert_check.specs.declared.refusal.Stop.{Stop}
 use Rattle.cert_check.specs.declared.refusal.Stop.TheVariants as stop
-
--- the refusal of the line of this number
-abbrev pub answer_refusal : LineRefusal AnswerWhy → ℕ → AnswerRefusal
-answer_refusal (Bad why) line = whole.Bad line why
-answer_refusal Memory line = whole.Memory
 
 -- this is the first fault of an answer, or memory ran out
 abbrev pub Fails : Stop → Verdict → Type 0

@@ -18,8 +18,8 @@ use Rattle.cert_check.specs.declared.answer.Given.{Given}
 use Rattle.cert_check.specs.declared.answer.GivenOutput.{GivenOutput}
 use Rattle.cert_check.specs.declared.refusal.AnswerWhy.{AnswerWhy}
 use Rattle.cert_check.specs.declared.refusal.AnswerWhy.TheVariants.{BadLine, UnknownName, TermOrder, MissingOutput}
-use Rattle.cert_check.specs.declared.refusal.AnswerRefusal.{AnswerRefusal}
-use Rattle.cert_check.specs.declared.refusal.AnswerRefusal.TheVariants.{Bad, Memory}
+use Rattle.pla_reader.specs.declared.refusal.TextRefusal.{TextRefusal}
+use Rattle.pla_reader.specs.declared.refusal.TextRefusal.TheVariants.{Bad, Memory}
 
 -- ---- the form of a line
 
@@ -160,7 +160,7 @@ answer_reading d text =
     read_on (printed_names (codes "x") d.inputs d.in_names) (printed_names (codes "f") d.outputs d.out_names) 0 [] (lines_of text)
 
 -- the result gives what was read, unless memory ran out
-abbrev pub GivesAnswer : Result (List GivenOutput) AnswerRefusal → Reading → Type 0
+abbrev pub GivesAnswer : Result (List GivenOutput) (TextRefusal AnswerWhy) → Reading → Type 0
 GivesAnswer (Ok answer) reading = reading ≡ Ok answer
 GivesAnswer (Err (Bad line why)) reading = reading ≡ Err (line, why)
 GivesAnswer (Err Memory) reading = Unit {0}

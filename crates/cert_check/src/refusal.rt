@@ -1,9 +1,8 @@
 //! Why an answer was not read or not judged, and what is wrong with one.
 ghost use Rattle.std.specs.Prelude.{◌≡◌};
 ghost use Rattle.cert_check.specs.Causes.{answer_why_name, fault_name};
-ghost use Rattle.cert_check.specs.Parts.{answer_refusal};
 
-use pla_reader::LineRefusal;
+use pla_reader::{LineRefusal, TextRefusal};
 use std::alloc::{AllocError, AllocFailed};
 use thiserror::Error;
 
@@ -36,27 +35,9 @@ impl AnswerWhy {
     }
 }
 
-/// Why an answer was not read: its first bad line, counted from 1, and the first check that it
-/// fails; or there was no memory.
-///
-/// For an answer that ends before the last output it is the number of lines.
-#[derive(Clone, Copy, Debug, PartialEq, Eq)]
-pub enum AnswerRefusal {
-    Bad { line: u32, why: AnswerWhy },
-    Memory,
-}
-
-impl AnswerRefusal {
-    /// The refusal of the line of this number.
-    pub(crate) fn of_line(refusal: LineRefusal<AnswerWhy>, line: u32) -> AnswerRefusal
-        ensures { result ≡ answer_refusal refusal line }
-    {
-        match refusal {
-            LineRefusal::Bad(why) => AnswerRefusal::Bad { line, why },
-            LineRefusal::Memory => AnswerRefusal::Memory,
-        }
-    }
-}
+/// Why an answer was not read. For one that ends before the last output the line is the number of
+/// lines.
+pub type AnswerRefusal = TextRefusal<AnswerWhy>;
 
 impl From<AnswerWhy> for LineRefusal<AnswerWhy> {
     ghost use Rattle.std.specs.Prelude.{◌≡◌};
@@ -66,17 +47,6 @@ impl From<AnswerWhy> for LineRefusal<AnswerWhy> {
 
     fn from(why: AnswerWhy) -> LineRefusal<AnswerWhy> {
         LineRefusal::Bad(why)
-    }
-}
-
-impl From<lattice::Memory> for AnswerRefusal {
-    ghost use Rattle.std.specs.Prelude.{◌≡◌};
-    ghost use Rattle.cert_check.specs.declared.refusal.AnswerRefusal.TheVariants.{Memory};
-
-    ghost from_gives = { λ _ e. e ≡ Memory };
-
-    fn from(_e: lattice::Memory) -> AnswerRefusal {
-        AnswerRefusal::Memory
     }
 }
 

@@ -10,5 +10,5 @@ mod tables;
 pub use crate::care::{care_points, care_sets, care_sets_from, ones, zeros};
 pub use crate::covers::{PointSet, cover, sets_of};
 pub use crate::cubes::cube;
-pub use crate::rows::{CubesRefusal, row_cubes};
+pub use crate::rows::row_cubes;
 pub use crate::tables::{SMALL_BITS, first_bits, next_bits};

@@ -8,38 +8,9 @@ ghost use Rattle.cube_build.specs.UsedCubes.{names_output, used_cube, AreCubes};
 
 use crate::cubes::cube;
 use lattice::Row;
-use node_store::{Full, Handle, Store};
+use node_store::{Full, Handle, SolveRefusal, Store};
 use pla_reader::Pla;
-use std::alloc::{AllocFailed, Global};
-
-/// Why the cubes were not built.
-#[derive(Clone, Copy, PartialEq, Eq, Debug)]
-pub enum CubesRefusal {
-    /// The store had no slot left.
-    Full,
-    /// Memory ran out.
-    Memory,
-}
-
-impl From<Full> for CubesRefusal {
-    ghost use Rattle.cube_build.specs.declared.rows.CubesRefusal.TheVariants.{Full as NoSlot};
-
-    ghost from_gives = { λ _ e. e ≡ NoSlot };
-
-    fn from(_: Full) -> Self {
-        CubesRefusal::Full
-    }
-}
-
-impl<T: Drop> From<AllocFailed<T>> for CubesRefusal {
-    ghost use Rattle.cube_build.specs.declared.rows.CubesRefusal.TheVariants as refusals;
-
-    ghost from_gives = { λ _ e. e ≡ refusals.Memory };
-
-    fn from(_: AllocFailed<T>) -> Self {
-        CubesRefusal::Memory
-    }
-}
+use std::alloc::Global;
 
 /// Whether the row says something of an output.
 fn names_output(row: &Row) -> bool
@@ -64,13 +35,13 @@ fn used_cube<S: Store>(store: &mut S, row: &Row) -> Result<Handle, Full>
 }
 
 /// The handle of each row's cube, in the order of the rows, in a store with a variable for each
-/// input; Handle(0) for a row that says nothing of any output. It is Full only where the plan has
-/// more families than the store has slots.
+/// input; Handle(0) for a row that says nothing of any output. `Full` comes only where the plan has
+/// more families than the store has slots, and `Memory` where the list of handles found none.
 pub fn row_cubes<S: Store>(
     alloc: Global,
     store: &mut S,
     p: &Pla,
-) -> Result<Vec<Handle>, CubesRefusal>
+) -> Result<Vec<Handle>, SolveRefusal>
     requires vars { (S.state store.old).vars ≡ p.now.inputs }
     requires planned { let d = p.now in
         Covers (S.state store.old).plan
@@ -79,7 +50,7 @@ pub fn row_cubes<S: Store>(
     ensures grows { Grows (S.state store.old) (S.state store.new) }
     ensures cubes { IfOk result (λ cubes. AreCubes (S.state store.new) p.now.rows cubes.items) }
     ensures quiet { OnOk result ((S.state store.new).refusals ≡ (S.state store.old).refusals) }
-    ensures full { IsErrOf result CubesRefusal.Full
+    ensures full { IsErrOf result SolveRefusal.Full
         → IsFull (S.state store.old) (S.state store.new) }
 {
     let mut cubes = Vec::new(alloc);

@@ -9,9 +9,9 @@ ghost use Rattle.pla_reader.specs.Reading.{description};
 ghost use Rattle.cube_build.specs.CarePoints.{points_list};
 ghost use Rattle.cube_build.specs.PointSets.{sets_of};
 
-use cube_build::{CubesRefusal, care_points, cover, cube, ones, row_cubes, sets_of, zeros};
+use cube_build::{care_points, cover, cube, ones, row_cubes, sets_of, zeros};
 use lattice::{Memory, Mono, Monos, Planned, Row, plan_of};
-use node_store::{Full, Handle, PlainStore};
+use node_store::{Full, Handle, PlainStore, SolveRefusal};
 use pla_reader::{Pla, read};
 use set_algebra::walk_upto;
 use std::alloc::Global;
@@ -223,7 +223,7 @@ fn points_of_sets(rt: HostRuntime) -> Result<(), Fail> {
 }
 
 // Why the cubes of the file's rows were not built, if they were not.
-fn refused(alloc: Global, bytes: &[u8]) -> Result<Option<CubesRefusal>, Fail>
+fn refused(alloc: Global, bytes: &[u8]) -> Result<Option<SolveRefusal>, Fail>
     requires { length bytes.now < 100 }
 {
     let (p, _) = read(alloc, bytes)?;
@@ -239,7 +239,7 @@ fn cubes_one_slot_short(rt: HostRuntime) -> Result<(), Fail> {
     let unused = refused(rt.alloc(), b".i 17\n.o 1\n.type f\n11111111111111111 0\n")?;
     assert_eq!(rt; unused, None);
     let short = refused(rt.alloc(), b".i 17\n.o 1\n.type fr\n11111111111111111 1\n")?;
-    assert_eq!(rt; short, Some(CubesRefusal::Full));
+    assert_eq!(rt; short, Some(SolveRefusal::Full));
     Ok(())
 }
 

@@ -2,7 +2,7 @@
 use Rattle.std.proofs.Common.{◌≡◌, ℕ, ◌<◌, Bool, true, false, List, [], ◌∷◌, ◌++◌, length, length-append, sym, ap, ◌∙◌, arith}
 use Rattle.std.proofs.Common.{true≢false}
 use Rattle.file_stream.specs.Cutters.{Keeps}
-use Rattle.file_stream.specs.declared.cutter.TheConstants.{MOST_BYTES}
+use Rattle.pla_reader.specs.declared.reading.TheConstants.{MOST_BYTES}
 
 pub long_more : (long : Bool) (kept text more : List ℕ) (b : ℕ) → long ≡ true → Keeps long kept text → Keeps long more (text ++ b ∷ [])
 long_more true kept text more b e k = omega (arith, length-append text (b ∷ []))

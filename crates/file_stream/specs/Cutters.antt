@@ -4,7 +4,7 @@ use Rattle.std.specs.List.{concat, list_any}
 use Rattle.pla_reader.specs.Lines.{lines_of}
 use Rattle.file_stream.specs.Files.{files_from, files_of, says}
 use Rattle.file_stream.specs.Digests.{IsShort, Stands}
-use Rattle.file_stream.specs.declared.cutter.TheConstants.{MOST_BYTES}
+use Rattle.pla_reader.specs.declared.reading.TheConstants.{MOST_BYTES}
 use Rattle.file_stream.specs.declared.cutter.Cutter.{Cutter}
 
 -- no line feed is among the bytes

@@ -4,7 +4,7 @@ use Rattle.std.specs.Prelude.{◌≡◌, ℕ, Bool, ◌≤◌, ◌<◌, nat_lt, 
 use Rattle.std.specs.List.{concat, list_any}
 use Rattle.pla_reader.specs.Lines.{lines_of, content, words_of}
 use Rattle.pla_reader.specs.Grammar.{is_end}
-use Rattle.file_stream.specs.declared.cutter.TheConstants.{MOST_BYTES}
+use Rattle.pla_reader.specs.declared.reading.TheConstants.{MOST_BYTES}
 use Rattle.file_stream.specs.declared.cutter.Piece.{Piece}
 use Rattle.file_stream.specs.declared.cutter.Piece.TheVariants.{Kept, Long}
 

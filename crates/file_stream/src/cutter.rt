@@ -11,10 +11,8 @@ ghost use Rattle.file_stream.specs.Cutters.{IsAt, Keeps};
 
 use crate::digest::Digest;
 use lattice::Text;
+use pla_reader::MOST_BYTES;
 use std::alloc::{AllocError, Global};
-
-/// The most bytes of a file that is kept.
-pub const MOST_BYTES: usize = 4_194_304;
 
 /// A file of a stream.
 #[derive(Drop)]

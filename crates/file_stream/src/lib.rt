@@ -5,5 +5,5 @@ mod cutter;
 mod digest;
 mod laws;
 
-pub use crate::cutter::{Cutter, MOST_BYTES, Piece};
+pub use crate::cutter::{Cutter, Piece};
 pub use crate::laws::{files_are_the_stream, worked_streams};

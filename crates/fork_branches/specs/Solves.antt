@@ -5,8 +5,8 @@ use Rattle.node_store.specs.Stores.{State, Denotes, IsFull}
 use Rattle.node_store.specs.declared.store.Handle.{Handle}
 use Rattle.fork_branches.specs.Jobs.{Tasks, needed_by}
 use Rattle.fork_branches.specs.declared.crew.Answer.{Answer}
-use Rattle.fork_branches.specs.declared.solve.SolveRefusal.{SolveRefusal}
-use Rattle.fork_branches.specs.declared.solve.SolveRefusal.TheVariants.{Full, Memory}
+use Rattle.node_store.specs.declared.refusal.SolveRefusal.{SolveRefusal}
+use Rattle.node_store.specs.declared.refusal.SolveRefusal.TheVariants.{Full, Memory}
 
 -- from s to t each job was run: one handle for each, of the job's family, each job's working set is held, and no intern was refused
 pub record AreSolved (tasks : Tasks) (s t : State) (handles : List Handle) : Type 0 where

@@ -15,4 +15,5 @@ mod work;
 pub use crate::forked::Forked;
 pub use crate::jobs::Jobs;
 pub use crate::pool::{Drawn, Pool, Solved};
-pub use crate::solve::{SolveRefusal, solve_all};
+pub use crate::solve::solve_all;
+pub use node_store::SolveRefusal;

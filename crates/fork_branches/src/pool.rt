@@ -1,8 +1,8 @@
 //! What runs lists of jobs and counts the jobs that it answered.
 use crate::jobs::Jobs;
-use crate::solve::{SolveRefusal, solve_all};
+use crate::solve::solve_all;
 use computed_cache::CachedPass;
-use node_store::Handle;
+use node_store::{Handle, SolveRefusal};
 use outside::Rendezvous;
 use std::alloc::Global;
 use std::thread::Threads;

@@ -14,41 +14,10 @@ use crate::jobs::Jobs;
 use computed_cache::CachedPass;
 use job_counter::{Counter, Drawer};
 use lattice::Memory;
-use node_store::Handle;
+use node_store::{Handle, SolveRefusal};
 use outside::Rendezvous;
 use std::alloc::Global;
 use std::thread::Threads;
-
-/// Why the jobs were not all run.
-#[derive(Clone, Copy, Debug, PartialEq, Eq)]
-pub enum SolveRefusal {
-    /// The table had no slot for a family that a job needed.
-    Full,
-    /// There was no memory for the workers and the answer. No job was run.
-    Memory,
-}
-
-impl From<node_store::Full> for SolveRefusal {
-    ghost use Rattle.std.specs.Prelude.{◌≡◌};
-    ghost use Rattle.fork_branches.specs.declared.solve.SolveRefusal.TheVariants.{Full};
-
-    ghost from_gives = { λ _ e. e ≡ Full };
-
-    fn from(_e: node_store::Full) -> SolveRefusal {
-        SolveRefusal::Full
-    }
-}
-
-impl From<Memory> for SolveRefusal {
-    ghost use Rattle.std.specs.Prelude.{◌≡◌};
-    ghost use Rattle.fork_branches.specs.declared.solve.SolveRefusal.TheVariants.{Memory};
-
-    ghost from_gives = { λ _ e. e ≡ Memory };
-
-    fn from(_e: Memory) -> SolveRefusal {
-        SolveRefusal::Memory
-    }
-}
 
 // What all memory of a call is taken for: the answer, and the workers with their counter.
 struct Prepared {
@@ -113,8 +82,9 @@ fn put_all(crew: &Crew, handles: &mut [Handle])
 /// numbers one by one. They are started by halves, each of which enters the gate first: place 0 in
 /// the first half, and place 1 in the second. The workers are shared out among them evenly, the
 /// first ones getting one more, and a job worker's operations run in as many branches as it has
-/// workers. All memory is taken before the first number is drawn. Full where a worker found the
-/// table full, once all have ended: the pass knows, holds and did what all workers did then too.
+/// workers. All memory is taken before the first number is drawn: after `Memory` no job was run.
+/// `Full` where a worker found no slot for a family that its job needed, once all have ended: the
+/// pass knows, holds and did what all workers did then too.
 pub fn solve_all<R: Threads + Sync, J: Jobs>(
     rt: &R,
     alloc: Global,

@@ -27,8 +27,8 @@ use Rattle.cert_check.specs.Faults.{verdict_on}
 use Rattle.cert_check.specs.Reading.{answer_reading, GivesAnswer}
 use Rattle.cert_check.specs.Right.{IsRight}
 use Rattle.cert_check.specs.declared.answer.GivenOutput.{GivenOutput}
-use Rattle.cert_check.specs.declared.refusal.AnswerRefusal.{AnswerRefusal}
-use Rattle.cert_check.specs.declared.refusal.AnswerRefusal.TheVariants.{Bad, Memory}
+use Rattle.pla_reader.specs.declared.refusal.TextRefusal.{TextRefusal}
+use Rattle.cert_check.specs.declared.refusal.AnswerWhy.{AnswerWhy}
 use Rattle.cert_check.specs.declared.refusal.Verdict.{Verdict}
 use Rattle.cert_check.specs.declared.refusal.Verdict.TheVariants.{Yes}
 use Rattle.cert_check.proofs.Verdicts.{answer_fits, yes_where_right}
@@ -263,7 +263,7 @@ module _ {job : Job} {bytes : List ℕ} {d : Description} (file : file_of job by
     pub wide_ends : MOST_INPUTS < d.inputs → EndsWithout (IsDue job bytes) (ends.Own owns.TooWide)
     wide_ends wide = due_without _ (behind (no_answer (ends.Own owns.TooWide) (rw (lt-ltb MOST_INPUTS d.inputs wide))))
 
-    pub refused_ends : d.inputs ≤ MOST_INPUTS → (refusal : AnswerRefusal) → GivesAnswer (Err refusal) (answer_reading d text)
+    pub refused_ends : d.inputs ≤ MOST_INPUTS → (refusal : TextRefusal AnswerWhy) → GivesAnswer (Err refusal) (answer_reading d text)
         → EndsWithout (IsDue job bytes) (refused_outcome refusal)
     refused_ends few refusal e = grind (arith, nat_tests, due_without, behind, no_answer, no_memory)
 

@@ -37,7 +37,7 @@ use Rattle.gen_pla.specs.Generated.{generated, generated_rows}
 use Rattle.interp_run.specs.Answers.{first_count, second_count, last_nodes, texts, notes_from}
 use Rattle.program.specs.Duties.{IsDueFor, unread, within}
 use Rattle.program.specs.Examples.{two_points}
-use Rattle.program.specs.declared.descriptions.TheConstants.{MOST_BYTES}
+use Rattle.pla_reader.specs.declared.reading.TheConstants.{MOST_BYTES}
 use Rattle.program.specs.declared.outcome.Outcome.TheVariants as ends
 use Rattle.interp_run.specs.Due.{InterpDue, IsDue, IsDueChecking, checking, given_of, has_answers, in_order, is_gen, judged, no_file}
 use Rattle.interp_run.specs.Due.{solving, verdict}

@@ -31,8 +31,8 @@ use Rattle.interp_run.specs.Parts.{FirstFits, jobs_for, unsolved_outcome}
 use Rattle.interp_run.specs.Phases.{AreOf, IsSecond, OutputHandles, answer_for, answer_in, answers_for, element_task, first_tasks}
 use Rattle.interp_run.specs.Phases.{leads_in, ones_in, points_in, second_tasks, second_terms, task, task_family, terms_of, zeros_in}
 use Rattle.interp_run.specs.declared.tasks.Part.TheVariants.{Leads, Polynomial}
-use Rattle.interp_run.specs.declared.phases.Unsolved.{Unsolved}
-use Rattle.interp_run.specs.declared.phases.Unsolved.TheVariants as unsolved
+use Rattle.set_algebra.specs.declared.refusal.TermsRefusal.{TermsRefusal}
+use Rattle.set_algebra.specs.declared.refusal.TermsRefusal.TheVariants as unsolved
 use Rattle.interp_run.proofs.OutputLists.{length-output_numbers, output_at}
 
 -- ---- the answers
@@ -197,11 +197,11 @@ module _ (job : Job) (d : Description) (ok : IsConsistent d.inputs d.outputs d.r
           simp (le-ltb, lt-ltb) at due
 
 -- how a run ends that was not solved
-pub unsolved_ends : (job : Job) (d : Description) (cause : Unsolved)
+pub unsolved_ends : (job : Job) (d : Description) (cause : TermsRefusal)
     → (cause ≡ unsolved.Full → IsDueSolving job d (silent (ends.Exhausted (2 ^ job.nodes))))
-    → (cause ≡ unsolved.Terms → IsDueSolving job d (silent (ends.Terms job.terms)))
+    → (cause ≡ unsolved.Over → IsDueSolving job d (silent (ends.Terms job.terms)))
     → EndsWithout (IsDueSolving job d) (unsolved_outcome job cause)
 unsolved_ends job d cause full terms = grind (arith, due_without, no_memory)
 
-pub unsolved_unfinished : (job : Job) (cause : Unsolved) → ¬ HasText end_way (unsolved_outcome job cause)
+pub unsolved_unfinished : (job : Job) (cause : TermsRefusal) → ¬ HasText end_way (unsolved_outcome job cause)
 unsolved_unfinished job cause has = grind arith

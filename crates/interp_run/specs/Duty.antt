@@ -5,7 +5,7 @@ use Rattle.clap.specs.Words.{fault_of, matches_of}
 use Rattle.cli_words.specs.CommandLine.{IsJob, interp_command}
 use Rattle.cli_words.specs.declared.job.Job.{Job}
 use Rattle.program.specs.Duties.{Duty}
-use Rattle.program.specs.declared.descriptions.TheConstants.{MOST_BYTES}
+use Rattle.pla_reader.specs.declared.reading.TheConstants.{MOST_BYTES}
 use Rattle.interp_run.specs.Due.{InterpDue, IsDue, is_gen, least_jobs}
 use Rattle.interp_run.specs.Ends.{end_way}
 use Rattle.interp_run.specs.declared.ends.OwnEnd.{OwnEnd}

@@ -11,10 +11,7 @@ use Rattle.lattice.specs.WorkingLists.{output_numbers, second_phase, staircase_l
 use Rattle.lattice.specs.declared.kind.Mode.{Mode}
 use Rattle.node_store.specs.Stores.{Denotes, Knows, State, family}
 use Rattle.pla_reader.specs.Reading.{Description}
-use Rattle.cube_build.specs.declared.rows.CubesRefusal.{CubesRefusal}
-use Rattle.cube_build.specs.declared.rows.CubesRefusal.TheVariants as unbuilt
 use Rattle.fork_branches.specs.Jobs.{Tasks}
-use Rattle.fork_branches.specs.declared.solve.SolveRefusal.{SolveRefusal}
 use Rattle.anf_printer.specs.Text.{Answer}
 use Rattle.node_store.specs.declared.store.Handle.{Handle}
 use Rattle.set_algebra.specs.declared.points.ValuedPoints.{ValuedPoints}
@@ -23,9 +20,6 @@ use Rattle.interp_run.specs.declared.tasks.Task.{Task}
 use Rattle.interp_run.specs.declared.tasks.Part.{Part}
 use Rattle.interp_run.specs.declared.tasks.Part.TheVariants.{Polynomial, Leads, Element}
 use Rattle.interp_run.specs.declared.phases.First.{First}
-use Rattle.interp_run.specs.declared.phases.Unsolved.{Unsolved}
-use Rattle.interp_run.specs.declared.phases.Unsolved.TheVariants as unsolved
-use Rattle.fork_branches.specs.declared.solve.SolveRefusal.TheVariants as refusals
 
 -- ---- an output
 
@@ -118,15 +112,6 @@ first_tasks d mode = map (task Polynomial) (output_numbers d.outputs)
 -- the tasks of phase 2: the elements of each output, by ascending lead
 abbrev pub second_tasks : Description → Mode → List Task
 second_tasks d mode = flat_map (λ output. map (element_task output) (leads_in d mode output)) (output_numbers d.outputs)
-
--- why a description was not solved whose jobs were not all run
-abbrev pub unsolved_of : SolveRefusal → Unsolved
-unsolved_of refusals.Full = unsolved.Full
-unsolved_of refusals.Memory = unsolved.Memory
-
-abbrev pub unsolved_without_cubes : CubesRefusal → Unsolved
-unsolved_without_cubes unbuilt.Full = unsolved.Full
-unsolved_without_cubes unbuilt.Memory = unsolved.Memory
 
 -- ---- what was found
 

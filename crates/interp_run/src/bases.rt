@@ -13,14 +13,14 @@ ghost use Rattle.interp_run.specs.Phases.{AreLeads, AreOf, IsFirst, IsSecond, by
 ghost use Rattle.interp_run.specs.Phases.{element_task, first_tasks, second_tasks, terms_of};
 
 use crate::means::Interp;
-use crate::phases::{First, Unsolved};
+use crate::phases::First;
 use crate::tasks::{Part, Task, Tasks, run_tasks};
 use computed_cache::CachedPass;
-use fork_branches::Pool;
+use fork_branches::{Pool, SolveRefusal};
 use lattice::{Memory, Mode, MonoLists, Monos};
 use node_store::{Handle, Store};
 use pla_reader::Pla;
-use set_algebra::{count_terms, lists_of};
+use set_algebra::{WalkRefusal, count_terms, lists_of};
 use std::alloc::Global;
 use std::thread::Threads;
 
@@ -43,20 +43,20 @@ pub(crate) fn list_leads<S: Store>(
     pla: &Pla,
     found: &[Handle],
     limit: u64,
-) -> Result<MonoLists, Unsolved>
+) -> Result<MonoLists, WalkRefusal>
     requires { AreOf (S.state store.old) (description pla.now) found.now
         (first_tasks (description pla.now) Basis) }
     ensures leads { IfOk result (AreLeads (description pla.now) Basis) }
     ensures within { OnOk result (terms_of (S.state store.old) found.now ≤ limit) }
-    ensures terms { IsErrOf result Unsolved.Terms → limit < terms_of (S.state store.old) found.now }
-    ensures full { ¬ IsErrOf result Unsolved.Full }
+    ensures terms { IsErrOf result WalkRefusal.Over
+        → limit < terms_of (S.state store.old) found.now }
 {
     let (polynomials, leads) = found.split_at(pla.outputs as usize);
     let Some(count) = count_terms(store, polynomials, limit) else {
-        return Err(Unsolved::Terms);
+        return Err(WalkRefusal::Over);
     };
     let mut left = limit - count;
-    Ok(lists_of(alloc, store, leads, &mut left)?)
+    lists_of(alloc, store, leads, &mut left)
 }
 
 // The tasks with those for the elements of an output behind them, by ascending lead.
@@ -95,7 +95,7 @@ pub(crate) fn run_second_phase<R: Threads + Sync, P: Pool>(
     mode: Mode,
     first: &First,
     leads: &[Monos],
-) -> Result<Vec<Handle>, Unsolved>
+) -> Result<Vec<Handle>, SolveRefusal>
     requires workers { (1 ≤ workers) × (workers ≤ 16) }
     requires room { P.done interp.old.pool.now < 2 ^ 30 }
     requires vars { (cached_state store.old).vars ≡ pla.now.inputs }
@@ -117,9 +117,8 @@ pub(crate) fn run_second_phase<R: Threads + Sync, P: Pool>(
         + length (second_tasks (description pla.now) mode) ≤ P.done interp.new.pool.now) }
     ensures least { P.done interp.old.pool.now ≤ P.done interp.new.pool.now }
     ensures most { P.done interp.new.pool.now ≤ P.done interp.old.pool.now + 2 ^ 24 }
-    ensures full { IsErrOf result Unsolved.Full
+    ensures full { IsErrOf result SolveRefusal.Full
         → IsFull (cached_state store.old) (cached_state store.new) }
-    ensures counted { ¬ IsErrOf result Unsolved.Terms }
 {
     let list = list_second_tasks(interp.alloc, pla, leads)?;
     let tasks = Tasks {

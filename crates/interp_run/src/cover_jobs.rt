@@ -11,11 +11,10 @@ ghost use Rattle.interp_run.specs.CoverJobs.{AreAllCovers, cover_count, cover_jo
 ghost use Rattle.interp_run.specs.Phases.{CaresDone};
 
 use crate::means::Interp;
-use crate::phases::Unsolved;
 use bool_poly::SetOps;
 use computed_cache::CachedPass;
 use cube_build::{care_sets_from, cover, row_cubes, sets_of};
-use fork_branches::{Jobs, Pool};
+use fork_branches::{Jobs, Pool, SolveRefusal};
 use node_store::{Full, Handle, Store};
 use pla_reader::Pla;
 use set_algebra::ValuedPoints;
@@ -58,7 +57,7 @@ fn build_cares<S: Store>(
     store: &mut S,
     pla: &Pla,
     covers: &[Handle],
-) -> Result<Vec<ValuedPoints>, Unsolved>
+) -> Result<Vec<ValuedPoints>, SolveRefusal>
     requires vars { (S.state store.old).vars ≡ pla.now.inputs }
     requires covers { AreAllCovers (S.state store.old) (description pla.now) covers.now }
     requires planned { let p = pla.now in
@@ -68,8 +67,8 @@ fn build_cares<S: Store>(
     ensures grows { Grows (S.state store.old) (S.state store.new) }
     ensures cares { IfOk result (λ cares. CaresDone (S.state store.new)
         (description pla.now) pla.now.outputs cares.items) }
-    ensures full { IsErrOf result Unsolved.Full → IsFull (S.state store.old) (S.state store.new) }
-    ensures counted { ¬ IsErrOf result Unsolved.Terms }
+    ensures full { IsErrOf result SolveRefusal.Full
+        → IsFull (S.state store.old) (S.state store.new) }
 {
     let each = sets_of(pla.kind).len();
     let mut cares = Vec::new(alloc);
@@ -87,7 +86,7 @@ pub(crate) fn find_cares<R: Threads + Sync, P: Pool>(
     store: &mut CachedPass,
     workers: u32,
     pla: &Pla,
-) -> Result<Vec<ValuedPoints>, Unsolved>
+) -> Result<Vec<ValuedPoints>, SolveRefusal>
     requires workers { (1 ≤ workers) × (workers ≤ 16) }
     requires room { P.done interp.old.pool.now < 2 ^ 30 }
     requires vars { (cached_state store.old).vars ≡ pla.now.inputs }
@@ -102,9 +101,8 @@ pub(crate) fn find_cares<R: Threads + Sync, P: Pool>(
     ensures least { P.done interp.old.pool.now ≤ P.done interp.new.pool.now }
     ensures most { P.done interp.new.pool.now
         ≤ P.done interp.old.pool.now + cover_count (description pla.now) }
-    ensures full { IsErrOf result Unsolved.Full
+    ensures full { IsErrOf result SolveRefusal.Full
         → IsFull (cached_state store.old) (cached_state store.new) }
-    ensures counted { ¬ IsErrOf result Unsolved.Terms }
 {
     let cubes = row_cubes(interp.alloc, store, pla)?;
     let jobs = CoverJobs { pla, cubes: &cubes };

@@ -2,7 +2,7 @@
 ghost use Rattle.std.specs.Prelude.{◌≡◌, ◌≤◌, ◌⊎◌, false, Err, IfOk, IfErr, Ok, length};
 ghost use Rattle.pla_reader.specs.Reading.{bytes_taken, description};
 ghost use Rattle.program.specs.Runs.{EndsWithout};
-ghost use Rattle.program.specs.declared.descriptions.TheConstants.{MOST_BYTES};
+ghost use Rattle.pla_reader.specs.declared.reading.TheConstants.{MOST_BYTES};
 ghost use Rattle.program.specs.declared.outcome.Outcome.TheVariants as outcomes;
 ghost use Rattle.interp_run.specs.Due.{IsDue, file_of, in_order, is_gen};
 ghost use Rattle.interp_run.specs.Parts.{disordered_outcome};

@@ -2,7 +2,7 @@
 ghost use Rattle.std.specs.Prelude.{◌≡◌, ◌≤◌, ◌∷◌, [], IfErr, IfOk, length};
 ghost use Rattle.lattice.specs.declared.kind.Mode.TheVariants.{Check};
 ghost use Rattle.program.specs.Runs.{EndsWithout};
-ghost use Rattle.program.specs.declared.descriptions.TheConstants.{MOST_BYTES};
+ghost use Rattle.pla_reader.specs.declared.reading.TheConstants.{MOST_BYTES};
 ghost use Rattle.interp_run.specs.Due.{IsDue, judged};
 ghost use Rattle.interp_run.specs.Parts.{refused_outcome};
 

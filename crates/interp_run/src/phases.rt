@@ -14,81 +14,13 @@ use crate::cover_jobs::find_cares;
 use crate::means::Interp;
 use crate::tasks::{Part, Task, Tasks, run_tasks};
 use computed_cache::CachedPass;
-use cube_build::CubesRefusal;
 use fork_branches::{Pool, SolveRefusal};
 use lattice::{Memory, Mode};
-use node_store::{Full, Handle};
+use node_store::Handle;
 use pla_reader::Pla;
 use set_algebra::ValuedPoints;
-use std::alloc::{AllocFailed, Global};
+use std::alloc::Global;
 use std::thread::Threads;
-
-/// Why a description was not solved.
-#[derive(Clone, Copy, PartialEq, Eq, Debug)]
-pub(crate) enum Unsolved {
-    /// The store had no slot left.
-    Full,
-    /// There are more terms than the limit.
-    Terms,
-    /// Memory ran out.
-    Memory,
-}
-
-impl From<Full> for Unsolved {
-    ghost use Rattle.interp_run.specs.declared.phases.Unsolved.TheVariants.{Full as NoSlot};
-
-    ghost from_gives = { λ _ e. e ≡ NoSlot };
-
-    fn from(_: Full) -> Self {
-        Unsolved::Full
-    }
-}
-
-impl From<Memory> for Unsolved {
-    ghost use Rattle.interp_run.specs.declared.phases.Unsolved.TheVariants.{Memory as OutOfMemory};
-
-    ghost from_gives = { λ _ e. e ≡ OutOfMemory };
-
-    fn from(_: Memory) -> Self {
-        Unsolved::Memory
-    }
-}
-
-impl From<CubesRefusal> for Unsolved {
-    ghost use Rattle.interp_run.specs.Phases.{unsolved_without_cubes};
-
-    ghost from_gives = { λ refusal e. e ≡ unsolved_without_cubes refusal };
-
-    fn from(refusal: CubesRefusal) -> Self {
-        match refusal {
-            CubesRefusal::Full => Unsolved::Full,
-            CubesRefusal::Memory => Unsolved::Memory,
-        }
-    }
-}
-
-impl From<SolveRefusal> for Unsolved {
-    ghost use Rattle.interp_run.specs.Phases.{unsolved_of};
-
-    ghost from_gives = { λ refusal e. e ≡ unsolved_of refusal };
-
-    fn from(refusal: SolveRefusal) -> Self {
-        match refusal {
-            SolveRefusal::Full => Unsolved::Full,
-            SolveRefusal::Memory => Unsolved::Memory,
-        }
-    }
-}
-
-impl<T: Drop> From<AllocFailed<T>> for Unsolved {
-    ghost use Rattle.interp_run.specs.declared.phases.Unsolved.TheVariants.{Memory as OutOfMemory};
-
-    ghost from_gives = { λ _ e. e ≡ OutOfMemory };
-
-    fn from(_: AllocFailed<T>) -> Self {
-        Unsolved::Memory
-    }
-}
 
 /// What phase 1 finds: the care sets of all outputs, and what each of its tasks finds.
 #[derive(Drop)]
@@ -129,7 +61,7 @@ pub(crate) fn run_first_phase<R: Threads + Sync, P: Pool>(
     workers: u32,
     pla: &Pla,
     mode: Mode,
-) -> Result<First, Unsolved>
+) -> Result<First, SolveRefusal>
     requires workers { (1 ≤ workers) × (workers ≤ 16) }
     requires room { P.done interp.old.pool.now < 2 ^ 29 }
     requires vars { (cached_state store.old).vars ≡ pla.now.inputs }
@@ -144,9 +76,8 @@ pub(crate) fn run_first_phase<R: Threads + Sync, P: Pool>(
         + length (first_tasks (description pla.now) mode) ≤ P.done interp.new.pool.now) }
     ensures least { P.done interp.old.pool.now ≤ P.done interp.new.pool.now }
     ensures most { P.done interp.new.pool.now ≤ P.done interp.old.pool.now + 2 ^ 24 }
-    ensures full { IsErrOf result Unsolved.Full
+    ensures full { IsErrOf result SolveRefusal.Full
         → IsFull (cached_state store.old) (cached_state store.new) }
-    ensures counted { ¬ IsErrOf result Unsolved.Terms }
 {
     let cares = find_cares(interp, store, workers, pla)?;
     let list = list_first_tasks(interp.alloc, pla, mode)?;

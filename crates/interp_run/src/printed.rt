@@ -4,27 +4,11 @@ ghost use Rattle.std.specs.List.{All};
 ghost use Rattle.anf_printer.specs.Text.{shown_answer};
 ghost use Rattle.interp_run.specs.Phases.{KnowsOutput, answer_in, by_output, second_terms};
 
-use crate::phases::Unsolved;
 use anf_printer::Shown;
 use lattice::Monos;
 use node_store::{Handle, Store};
 use set_algebra::{WalkRefusal, lists_of, terms_of};
 use std::alloc::Global;
-
-impl From<WalkRefusal> for Unsolved {
-    ghost use Rattle.set_algebra.specs.declared.counted.WalkRefusal.TheVariants as unlisted;
-    ghost use Rattle.interp_run.specs.declared.phases.Unsolved.TheVariants as stops;
-
-    ghost from_gives = { λ refusal e. (refusal ≡ unlisted.Over → e ≡ stops.Terms)
-        × (refusal ≡ unlisted.Memory → e ≡ stops.Memory) };
-
-    fn from(refusal: WalkRefusal) -> Self {
-        match refusal {
-            WalkRefusal::Over => Unsolved::Terms,
-            WalkRefusal::Memory => Unsolved::Memory,
-        }
-    }
-}
 
 /// What is printed of each output, where no more than `limit` terms are printed: its polynomial,
 /// and of the elements as many as it has leads.
@@ -35,7 +19,7 @@ pub(crate) fn list_shown<S: Store>(
     leads: &[Monos],
     elements: &[Handle],
     limit: u64,
-) -> Result<Vec<Shown>, Unsolved>
+) -> Result<Vec<Shown>, WalkRefusal>
     requires polynomials { length leads.now ≤ length polynomials.now }
     requires elements { length elements.now ≡ sum_by length leads.now }
     requires known { All (KnowsOutput (S.state store.old))
@@ -45,9 +29,8 @@ pub(crate) fn list_shown<S: Store>(
         (by_output leads.now polynomials.now elements.now)) }
     ensures within { OnOk result (second_terms (S.state store.old)
         (by_output leads.now polynomials.now elements.now) ≤ limit) }
-    ensures terms { IsErrOf result Unsolved.Terms → limit < second_terms (S.state store.old)
+    ensures terms { IsErrOf result WalkRefusal.Over → limit < second_terms (S.state store.old)
         (by_output leads.now polynomials.now elements.now) }
-    ensures full { ¬ IsErrOf result Unsolved.Full }
 {
     let mut left = limit;
     let mut rest = elements;

@@ -22,7 +22,7 @@ ghost use Rattle.interp_run.specs.Phases.{AreCares, AreLeads, ones_in, zeros_in}
 use crate::bases::{list_leads, list_no_leads, run_second_phase};
 use crate::ends::OwnEnd;
 use crate::means::Interp;
-use crate::phases::{Unsolved, run_first_phase};
+use crate::phases::run_first_phase;
 use crate::plan::{first_plan, run_plan};
 use crate::printed::list_shown;
 use anf_printer::Shown;
@@ -34,7 +34,7 @@ use lattice::{MAX_VARS, Mode, MonoLists, Monos};
 use node_store::Store;
 use pla_reader::Pla;
 use program::Outcome;
-use set_algebra::{ValuedPoints, count_upto};
+use set_algebra::{TermsRefusal, ValuedPoints, count_upto};
 use std::thread::Threads;
 use unique_table::Shared;
 
@@ -67,7 +67,7 @@ fn try_leads<R: Threads + Sync, P: Pool>(
     pla: &Pla,
     job: &Job,
     bits: u32,
-) -> Result<MonoLists, Unsolved>
+) -> Result<MonoLists, TermsRefusal>
     requires basis { job.now.mode ≡ Basis }
     requires within { IsWithin job.now }
     requires bits { (MIN_BITS ≤ bits) × (bits ≤ job.now.nodes) }
@@ -76,9 +76,9 @@ fn try_leads<R: Threads + Sync, P: Pool>(
     ensures same_pool { interp.new.pool.ghost_name ≡ interp.old.pool.ghost_name }
     ensures leads { IfOk result (AreLeads (description pla.now) job.now.mode) }
     ensures fits { OnOk result (FirstFits job.now (description pla.now)) }
-    ensures full { IsErrOf result Unsolved.Full
+    ensures full { IsErrOf result TermsRefusal.Full
         → 2 ^ bits < first_nodes (description pla.now) job.now.mode }
-    ensures terms { IsErrOf result Unsolved.Terms
+    ensures terms { IsErrOf result TermsRefusal.Over
         → IsDueSolving job.now (description pla.now) (silent (outcomes.Terms job.now.terms)) }
     ensures most { P.done interp.new.pool.now ≤ P.done interp.old.pool.now + 2 ^ 24 }
 {
@@ -86,7 +86,7 @@ fn try_leads<R: Threads + Sync, P: Pool>(
     let mut pass = CachedPass::new(table.pass(token));
     let workers = workers_on(job, bits, false);
     let first = run_first_phase(interp, &mut pass, workers, pla, job.mode)?;
-    list_leads(interp.alloc, &mut pass, pla, &first.found, job.terms)
+    Ok(list_leads(interp.alloc, &mut pass, pla, &first.found, job.terms)?)
 }
 
 // The same from a table of 2^bits slots on, and the size of the table that sufficed.
@@ -95,7 +95,7 @@ fn seek_leads<R: Threads + Sync, P: Pool>(
     pla: &Pla,
     job: &Job,
     bits: u32,
-) -> Result<(MonoLists, u32), Unsolved>
+) -> Result<(MonoLists, u32), TermsRefusal>
     requires basis { job.now.mode ≡ Basis }
     requires within { IsWithin job.now }
     requires bits { (MIN_BITS ≤ bits) × (bits ≤ job.now.nodes) }
@@ -105,14 +105,14 @@ fn seek_leads<R: Threads + Sync, P: Pool>(
     ensures leads { IfOk result (λ r. AreLeads (description pla.now) job.now.mode r.0) }
     ensures bits { IfOk result (λ r. (MIN_BITS ≤ r.1) × (r.1 ≤ job.now.nodes)) }
     ensures fits { OnOk result (FirstFits job.now (description pla.now)) }
-    ensures full { IsErrOf result Unsolved.Full
+    ensures full { IsErrOf result TermsRefusal.Full
         → 2 ^ job.now.nodes < first_nodes (description pla.now) job.now.mode }
-    ensures terms { IsErrOf result Unsolved.Terms
+    ensures terms { IsErrOf result TermsRefusal.Over
         → IsDueSolving job.now (description pla.now) (silent (outcomes.Terms job.now.terms)) }
     ensures most { P.done interp.new.pool.now ≤ P.done interp.old.pool.now + 2 ^ 25 }
 {
     match try_leads(interp, pla, job, bits) {
-        Err(Unsolved::Full) if bits < job.nodes => {
+        Err(TermsRefusal::Full) if bits < job.nodes => {
             let leads = try_leads(interp, pla, job, job.nodes)?;
             Ok((leads, job.nodes))
         }
@@ -156,7 +156,7 @@ fn try_solution<R: Threads + Sync, P: Pool>(
     job: &Job,
     leads: &[Monos],
     bits: u32,
-) -> Result<Solution, Unsolved>
+) -> Result<Solution, TermsRefusal>
     requires within { IsWithin job.now }
     requires bits { (MIN_BITS ≤ bits) × (bits ≤ job.now.nodes) }
     requires room { P.done interp.old.pool.now < 2 ^ 29 }
@@ -172,9 +172,9 @@ fn try_solution<R: Threads + Sync, P: Pool>(
         (solved job.now (description pla.now) (map shown_answer s.shown.items))) }
     ensures jobs { IfOk result (λ s. P.done interp.old.pool.now
         + jobs_for job.now.mode (map shown_answer s.shown.items) ≤ P.done interp.new.pool.now) }
-    ensures full { IsErrOf result Unsolved.Full
+    ensures full { IsErrOf result TermsRefusal.Full
         → 2 ^ bits < last_nodes (description pla.now) job.now.mode }
-    ensures terms { IsErrOf result Unsolved.Terms
+    ensures terms { IsErrOf result TermsRefusal.Over
         → IsDueSolving job.now (description pla.now) (silent (outcomes.Terms job.now.terms)) }
     ensures least { P.done interp.old.pool.now ≤ P.done interp.new.pool.now }
     ensures most { P.done interp.new.pool.now ≤ P.done interp.old.pool.now + 2 ^ 25 }
@@ -211,7 +211,7 @@ fn seek_solution<R: Threads + Sync, P: Pool>(
     job: &Job,
     leads: &[Monos],
     bits: u32,
-) -> Result<Solution, Unsolved>
+) -> Result<Solution, TermsRefusal>
     requires within { IsWithin job.now }
     requires bits { (MIN_BITS ≤ bits) × (bits ≤ job.now.nodes) }
     requires room { P.done interp.old.pool.now < 2 ^ 28 }
@@ -227,13 +227,13 @@ fn seek_solution<R: Threads + Sync, P: Pool>(
         (solved job.now (description pla.now) (map shown_answer s.shown.items))) }
     ensures jobs { IfOk result (λ s. P.done interp.old.pool.now
         + jobs_for job.now.mode (map shown_answer s.shown.items) ≤ P.done interp.new.pool.now) }
-    ensures full { IsErrOf result Unsolved.Full
+    ensures full { IsErrOf result TermsRefusal.Full
         → 2 ^ job.now.nodes < last_nodes (description pla.now) job.now.mode }
-    ensures terms { IsErrOf result Unsolved.Terms
+    ensures terms { IsErrOf result TermsRefusal.Over
         → IsDueSolving job.now (description pla.now) (silent (outcomes.Terms job.now.terms)) }
 {
     match try_solution(interp, pla, job, leads, bits) {
-        Err(Unsolved::Full) if bits < job.nodes => {
+        Err(TermsRefusal::Full) if bits < job.nodes => {
             try_solution(interp, pla, job, leads, job.nodes)
         }
         solution => solution,
@@ -246,7 +246,7 @@ fn prepare_leads<R: Threads + Sync, P: Pool>(
     interp: &mut Interp<'_, R, P>,
     pla: &Pla,
     job: &Job,
-) -> Result<(MonoLists, u32), Unsolved>
+) -> Result<(MonoLists, u32), TermsRefusal>
     requires within { IsWithin job.now }
     requires room { P.done interp.old.pool.now < 2 ^ 28 }
     requires consistent { IsConsistent pla.now.inputs pla.now.outputs pla.now.rows }
@@ -255,9 +255,9 @@ fn prepare_leads<R: Threads + Sync, P: Pool>(
     ensures bits { IfOk result (λ r. (MIN_BITS ≤ r.1) × (r.1 ≤ job.now.nodes)) }
     ensures fits { OnOk result (is_basis job.now.mode ≡ true
         → FirstFits job.now (description pla.now)) }
-    ensures full { IsErrOf result Unsolved.Full
+    ensures full { IsErrOf result TermsRefusal.Full
         → 2 ^ job.now.nodes < first_nodes (description pla.now) job.now.mode }
-    ensures terms { IsErrOf result Unsolved.Terms
+    ensures terms { IsErrOf result TermsRefusal.Over
         → IsDueSolving job.now (description pla.now) (silent (outcomes.Terms job.now.terms)) }
     ensures most { P.done interp.new.pool.now ≤ P.done interp.old.pool.now + 2 ^ 25 }
 {
@@ -271,19 +271,17 @@ fn prepare_leads<R: Threads + Sync, P: Pool>(
     }
 }
 
-impl Unsolved {
-    // How the run of the job ends.
-    fn outcome(self, job: &Job) -> Outcome<OwnEnd>
-        requires { job.now.nodes ≤ MAX_BITS }
-        ensures { result ≡ unsolved_outcome job.now self }
-    {
-        match self {
-            Unsolved::Full => Outcome::Exhausted {
-                nodes: 1 << job.nodes,
-            },
-            Unsolved::Terms => Outcome::Terms { limit: job.terms },
-            Unsolved::Memory => Outcome::Memory,
-        }
+// How the run of the job ends that found no solution.
+fn end_unsolved(job: &Job, refusal: TermsRefusal) -> Outcome<OwnEnd>
+    requires { job.now.nodes ≤ MAX_BITS }
+    ensures { result ≡ unsolved_outcome job.now refusal }
+{
+    match refusal {
+        TermsRefusal::Full => Outcome::Exhausted {
+            nodes: 1 << job.nodes,
+        },
+        TermsRefusal::Over => Outcome::Terms { limit: job.terms },
+        TermsRefusal::Memory => Outcome::Memory,
     }
 }
 
@@ -311,10 +309,10 @@ pub(crate) fn solve<R: Threads + Sync, P: Pool>(
 {
     let (leads, bits) = match prepare_leads(interp, pla, job) {
         Ok(found) => found,
-        Err(unsolved) => return Err(unsolved.outcome(job)),
+        Err(refusal) => return Err(end_unsolved(job, refusal)),
     };
     match seek_solution(interp, pla, job, leads.as_slice(), bits) {
         Ok(solution) => Ok(solution),
-        Err(unsolved) => Err(unsolved.outcome(job)),
+        Err(refusal) => Err(end_unsolved(job, refusal)),
     }
 }

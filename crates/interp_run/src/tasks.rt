@@ -13,10 +13,9 @@ ghost use Rattle.interp_run.specs.Phases.{AreCares, AreDone, IsPart, IsTask, ele
 ghost use Rattle.interp_run.specs.Phases.{no_task, part_family, part_list, task_family, task_list};
 
 use crate::means::Interp;
-use crate::phases::Unsolved;
 use bool_poly::SetOps;
 use computed_cache::CachedPass;
-use fork_branches::{Jobs, Pool};
+use fork_branches::{Jobs, Pool, SolveRefusal};
 use interp_lex::least;
 use lattice::Mono;
 use node_store::{Full, Handle, Store};
@@ -184,7 +183,7 @@ pub(crate) fn run_tasks<R: Threads + Sync, P: Pool>(
     store: &mut CachedPass,
     workers: u32,
     tasks: &Tasks,
-) -> Result<Vec<Handle>, Unsolved>
+) -> Result<Vec<Handle>, SolveRefusal>
     requires workers { (1 ≤ workers) × (workers ≤ 16) }
     requires room { P.done interp.old.pool.now < 2 ^ 30 }
     requires vars { (cached_state store.old).vars ≡ tasks.now.pla.now.inputs }
@@ -202,10 +201,8 @@ pub(crate) fn run_tasks<R: Threads + Sync, P: Pool>(
     ensures least { P.done interp.old.pool.now ≤ P.done interp.new.pool.now }
     ensures most { P.done interp.new.pool.now
         ≤ P.done interp.old.pool.now + length tasks.now.list.now }
-    ensures full { IsErrOf result Unsolved.Full
+    ensures full { IsErrOf result SolveRefusal.Full
         → IsFull (cached_state store.old) (cached_state store.new) }
-    ensures counted { ¬ IsErrOf result Unsolved.Terms }
 {
-    let found = interp.pool.all(interp.rt, interp.alloc, store, tasks, interp.gate, workers)?;
-    Ok(found)
+    interp.pool.all(interp.rt, interp.alloc, store, tasks, interp.gate, workers)
 }

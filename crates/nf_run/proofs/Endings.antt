@@ -14,12 +14,13 @@ use Rattle.lattice.proofs.Polynomials.{IsFamily-combine}
 use Rattle.pla_reader.specs.Reading.{Description, GivesReading, bytes_taken, reading_of}
 use Rattle.pla_reader.specs.declared.refusal.ReadRefusal.{ReadRefusal}
 use Rattle.pla_reader.specs.declared.refusal.Refusal.{Refusal}
+use Rattle.pla_reader.specs.declared.refusal.TextRefusal.{TextRefusal}
 use Rattle.cube_sets.specs.Clashes.{IsClash, IsLeastOf}
 use Rattle.cube_sets.specs.declared.clash.Clash.{Clash}
 use Rattle.cube_sets.proofs.OneClash.{none_of_consistent, one_least}
 use Rattle.point_ideals.specs.Joined.{IsJointBasis, first_refused, joint_ideal}
-use Rattle.point_ideals.specs.declared.joined.BasisRefusal.{BasisRefusal}
-use Rattle.point_ideals.specs.declared.joined.BasisRefusal.TheVariants as stops
+use Rattle.set_algebra.specs.declared.refusal.TermsRefusal.{TermsRefusal}
+use Rattle.set_algebra.specs.declared.refusal.TermsRefusal.TheVariants as stops
 use Rattle.point_ideals.specs.declared.joined.Joining.{Joining}
 use Rattle.point_ideals.specs.declared.joined.Joining.TheVariants.{Meet, Union}
 use Rattle.point_ideals.proofs.JointBases.{joint_exists, joint_unique}
@@ -35,7 +36,7 @@ use Rattle.nf_run.specs.Due.{IsDue, IsDueJoining, IsDueReducing, QueryDue, answe
 use Rattle.nf_run.specs.Due.{has_answers, has_basis, joining, no_description, no_queries, other_outputs, reducing, stopped}
 use Rattle.nf_run.specs.Due.{with_answers, with_basis}
 use Rattle.nf_run.specs.Duty.{IsAsked, query_duty}
-use Rattle.nf_run.specs.Parts.{refused_outcome, unreduced_outcome}
+use Rattle.nf_run.specs.Parts.{refused_outcome}
 use Rattle.nf_run.specs.Queries.{GivesQueries, Reading, query_reading}
 use Rattle.nf_run.specs.declared.answer.TheConstants.{MOST_TERMS}
 use Rattle.nf_run.specs.declared.ends.QueryEnd.{QueryEnd}
@@ -43,11 +44,7 @@ use Rattle.nf_run.specs.declared.ends.QueryEnd.TheVariants.{QueryText, TwoOutput
 use Rattle.nf_run.specs.declared.mode.QueryMode.{QueryMode}
 use Rattle.nf_run.specs.declared.mode.QueryMode.TheVariants.{Join, Reduce}
 use Rattle.nf_run.specs.declared.queries.Query.{Query}
-use Rattle.nf_run.specs.declared.queries.QueryRefusal.{QueryRefusal}
-use Rattle.nf_run.specs.declared.queries.QueryRefusal.TheVariants as unread
 use Rattle.nf_run.specs.declared.queries.QueryWhy.{QueryWhy}
-use Rattle.nf_run.specs.declared.solving.ReduceRefusal.{ReduceRefusal}
-use Rattle.nf_run.specs.declared.solving.ReduceRefusal.TheVariants as unreduced
 use Rattle.lattice.proofs.Polynomials.{err_is, ok_is}
 use Rattle.nf_run.proofs.QueryAnswers.{all_answered, answers_are, answers_count, answers_over, zip_all}
 
@@ -144,7 +141,7 @@ module _ (bits : ℕ) (d : Description) where
 -- ---- in mode reduce
 
 module _ {bits : ℕ} {d : Description} {text : List ℕ} where
-  pub refused_ends : (refusal : QueryRefusal) → GivesQueries (Err refusal) (query_reading d text)
+  pub refused_ends : (refusal : TextRefusal QueryWhy) → GivesQueries (Err refusal) (query_reading d text)
       → EndsWithout (IsDueReducing bits d text) (refused_outcome refusal)
   refused_ends refusal is = grind (arith, due_without, no_queries, no_memory)
 
@@ -156,9 +153,9 @@ module _ {bits : ℕ} {d : Description} {text : List ℕ} where
       all_due : {due : QueryDue} → with_answers bits d queries (map (answer_to d) queries) ≡ due → IsDueReducing bits d text due
       all_due is = subst (IsDueReducing bits d text) is (has_answers queries _ read ok (all_answered d queries))
 
-      pub unreduced_ends : (refusal : ReduceRefusal) → (refusal ≡ unreduced.Exhausted → 2 ^ bits < query_nodes d queries)
-          → (refusal ≡ unreduced.Terms → (query_nodes d queries ≤ 2 ^ bits) × (MOST_TERMS < answer_terms d queries))
-          → EndsWithout (IsDueReducing bits d text) (unreduced_outcome bits refusal)
+      pub unreduced_ends : (refusal : TermsRefusal) → (refusal ≡ stops.Full → 2 ^ bits < query_nodes d queries)
+          → (refusal ≡ stops.Over → (query_nodes d queries ≤ 2 ^ bits) × (MOST_TERMS < answer_terms d queries))
+          → EndsWithout (IsDueReducing bits d text) (stopped bits refusal)
       unreduced_ends refusal exhausted terms = grind (arith, nat_tests, answers_count d queries, all_due, due_without, no_memory)
 
       pub answers_due : query_nodes d queries ≤ 2 ^ bits → answer_terms d queries ≤ MOST_TERMS
@@ -172,13 +169,13 @@ module _ {bits : ℕ} {d : Description} {how : Joining} (two : d.outputs ≡ 2) 
   clash_joined = clash_ends d (λ c least. contradiction c two least)
 
   module _ (ok : IsConsistent d.inputs d.outputs d.rows) where
-    basis_gives : (basis : List Family) (first : Option BasisRefusal) → IsJointBasis d how basis
+    basis_gives : (basis : List Family) (first : Option TermsRefusal) → IsJointBasis d how basis
         → first_refused bits MOST_TERMS d how basis ≡ first
         → IsDueJoining bits d how (option_map_or (λ e. silent (stopped bits e)) first (done (basis_text d basis)))
     basis_gives basis first is found = subst (λ r. IsDueJoining bits d how (option_map_or (λ e. silent (stopped bits e)) r
         (done (basis_text d basis)))) found (has_basis basis two ok is)
 
-    pub stopped_ends : (refusal : BasisRefusal)
+    pub stopped_ends : (refusal : TermsRefusal)
         → (refusal ≢ stops.Memory → (basis : List Family) → IsJointBasis d how basis
         → first_refused bits MOST_TERMS d how basis ≡ Some refusal)
         → EndsWithout (IsDueJoining bits d how) (stopped bits refusal)

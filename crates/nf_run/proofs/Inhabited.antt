@@ -26,7 +26,7 @@ use Rattle.point_ideals.proofs.JointBases.{joint_exists}
 use Rattle.nf_run.specs.Answers.{answer_terms, answer_to, query_nodes}
 use Rattle.program.specs.Duties.{IsDueFor, done, silent, within}
 use Rattle.program.specs.Examples.{two_points}
-use Rattle.program.specs.declared.descriptions.TheConstants.{MOST_BYTES}
+use Rattle.pla_reader.specs.declared.reading.TheConstants.{MOST_BYTES}
 use Rattle.program.specs.declared.outcome.Outcome.TheVariants as ends
 use Rattle.nf_run.specs.Due.{IsDue, IsDueJoining, IsDueReducing, QueryDue, answers_text, basis_text, joining, no_queries, other_outputs}
 use Rattle.nf_run.specs.Due.{reducing}

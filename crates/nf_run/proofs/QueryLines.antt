@@ -5,12 +5,12 @@ use Rattle.std.specs.List.{All}
 use Rattle.std.proofs.lemmas.List.Elements.{All-nil, All-push}
 use Rattle.lattice.specs.Words.{is_empty}
 use Rattle.pla_reader.specs.Lines.{lines_of}
-use Rattle.pla_reader.specs.Parts.{Stops}
+use Rattle.pla_reader.specs.Parts.{Stops, text_refusal}
 use Rattle.pla_reader.specs.declared.refusal.LineRefusal.{LineRefusal}
 use Rattle.pla_reader.specs.declared.refusal.LineRefusal.TheVariants as line_refusals
 use Rattle.cert_check.specs.Reading.{bare, words}
 use Rattle.cert_check.specs.declared.refusal.AnswerWhy.TheVariants as answers
-use Rattle.nf_run.specs.Queries.{GivesQueries, IsQueryOver, queries_on, query_fault, query_of, query_refusal}
+use Rattle.nf_run.specs.Queries.{GivesQueries, IsQueryOver, queries_on, query_fault, query_of}
 use Rattle.nf_run.specs.declared.queries.Query.{Query}
 use Rattle.nf_run.specs.declared.queries.QueryWhy.{QueryWhy}
 
@@ -48,7 +48,7 @@ module _ (ins outs : List (List ℕ)) (text rest : List ℕ) (count : ℕ) (read
     }
 
     pub line_refused : (e : LineRefusal QueryWhy) → b ≡ false → Stops e (query_fault ins outs (words trimmed))
-        → GivesQueries (Err (query_refusal e (count + 1))) (queries_on ins outs 0 [] (lines_of text))
+        → GivesQueries (Err (text_refusal e (count + 1))) (queries_on ins outs 0 [] (lines_of text))
     line_refused line_refusals.Memory filled stops = tt
     line_refused (line_refusals.Bad why) filled stops = rw (next_line, filled, stops) refl
 

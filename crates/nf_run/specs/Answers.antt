@@ -7,12 +7,8 @@ use Rattle.node_store.specs.Stores.{Denotes, State, no_handle}
 use Rattle.node_store.specs.declared.store.Handle.{Handle}
 use Rattle.pla_reader.specs.Reading.{Description}
 use Rattle.cube_build.specs.CarePoints.{HoldsPoints, points_list}
-use Rattle.cube_build.specs.declared.rows.CubesRefusal.{CubesRefusal}
-use Rattle.cube_build.specs.declared.rows.CubesRefusal.TheVariants as unbuilt
 use Rattle.nf_run.specs.Reduced.{IsReduced, reduced, reduced_list, sum_of_terms}
 use Rattle.nf_run.specs.declared.queries.Query.{Query}
-use Rattle.nf_run.specs.declared.solving.ReduceRefusal.{ReduceRefusal}
-use Rattle.nf_run.specs.declared.solving.ReduceRefusal.TheVariants.{Exhausted, Memory}
 
 -- all care points of the output of a query
 abbrev pub points_of : Description → Query → Family
@@ -51,8 +47,3 @@ HoldsAll s d queries points = All (λ q. HoldsPoints s d q.output (slice_index_o
 pub record AreAnswered (s : State) (d : Description) (queries : List Query) (answers : List Handle) : Type 0 where
   pub each : AllZip (λ q h. Denotes s h (answer_to d q)) queries answers
   pub held : Covers s.held (working_set d.inputs (queries_list d queries))
-
--- why queries were not answered whose families were not all found
-abbrev pub refusal_of : CubesRefusal → ReduceRefusal
-refusal_of unbuilt.Full = Exhausted
-refusal_of unbuilt.Memory = Memory

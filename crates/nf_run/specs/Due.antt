@@ -17,8 +17,8 @@ use Rattle.program.specs.Duties.{Due, done, silent}
 use Rattle.program.specs.declared.outcome.Outcome.{Outcome}
 use Rattle.program.specs.declared.outcome.Outcome.TheVariants as ends
 use Rattle.point_ideals.specs.Joined.{IsJointBasis, first_refused}
-use Rattle.point_ideals.specs.declared.joined.BasisRefusal.{BasisRefusal}
-use Rattle.point_ideals.specs.declared.joined.BasisRefusal.TheVariants as stops
+use Rattle.set_algebra.specs.declared.refusal.TermsRefusal.{TermsRefusal}
+use Rattle.set_algebra.specs.declared.refusal.TermsRefusal.TheVariants as stops
 use Rattle.point_ideals.specs.declared.joined.Joining.{Joining}
 use Rattle.nf_run.specs.Answers.{IsAnswerTo, query_nodes}
 use Rattle.nf_run.specs.Queries.{query_reading}
@@ -56,10 +56,10 @@ with_answers bits d queries answers =
     if nat_lt (2 ^ bits) (query_nodes d queries) then silent (ends.Exhausted (2 ^ bits))
     else (if nat_lt MOST_TERMS (sum_by length answers) then silent (ends.Terms MOST_TERMS) else done (answers_text d queries answers))
 
--- of one whose search for a basis was refused
-abbrev pub stopped : ℕ → BasisRefusal → Outcome QueryEnd
-stopped bits stops.Exhausted = ends.Exhausted (2 ^ bits)
-stopped bits stops.Terms = ends.Terms MOST_TERMS
+-- of one whose terms were not given
+abbrev pub stopped : ℕ → TermsRefusal → Outcome QueryEnd
+stopped bits stops.Full = ends.Exhausted (2 ^ bits)
+stopped bits stops.Over = ends.Terms MOST_TERMS
 stopped bits stops.Memory = ends.Memory
 
 -- of one that has this basis, the same

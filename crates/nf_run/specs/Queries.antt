@@ -9,14 +9,14 @@ use Rattle.pla_reader.specs.Lines.{lines_of}
 use Rattle.pla_reader.specs.Reading.{Description}
 use Rattle.pla_reader.specs.declared.refusal.LineRefusal.{LineRefusal}
 use Rattle.pla_reader.specs.declared.refusal.LineRefusal.TheVariants as line_refusals
+use Rattle.pla_reader.specs.declared.refusal.TextRefusal.{TextRefusal}
+use Rattle.pla_reader.specs.declared.refusal.TextRefusal.TheVariants.{Bad, Memory}
 use Rattle.pla_reader.specs.PrintedNames.{printed_names}
 use Rattle.cert_check.specs.Reading.{are_known, are_ordered, bare, is_line, left_of, monomials_of, place_of, right_of, terms_in, words}
 use Rattle.cert_check.specs.declared.refusal.AnswerWhy.{AnswerWhy}
 use Rattle.nf_run.specs.declared.queries.Query.{Query}
 use Rattle.nf_run.specs.declared.queries.QueryWhy.{QueryWhy}
 use Rattle.nf_run.specs.declared.queries.QueryWhy.TheVariants.{BadLine, UnknownName, TermOrder}
-use Rattle.nf_run.specs.declared.queries.QueryRefusal.{QueryRefusal}
-use Rattle.nf_run.specs.declared.queries.QueryRefusal.TheVariants.{Bad, Memory}
 
 -- ---- a line
 
@@ -52,7 +52,7 @@ query_reading d text =
     queries_on (printed_names (codes "x") d.inputs d.in_names) (printed_names (codes "f") d.outputs d.out_names) 0 [] (lines_of text)
 
 -- the result gives what was read, unless memory ran out
-abbrev pub GivesQueries : Result (List Query) QueryRefusal → Reading → Type 0
+abbrev pub GivesQueries : Result (List Query) (TextRefusal QueryWhy) → Reading → Type 0
 GivesQueries (Ok queries) reading = reading ≡ Ok queries
 GivesQueries (Err (Bad line why)) reading = reading ≡ Err (line, why)
 GivesQueries (Err Memory) reading = Unit {0}
@@ -73,11 +73,6 @@ abbrev pub query_why_name : QueryWhy → List ℕ
 query_why_name BadLine = codes "BadLine"
 query_why_name UnknownName = codes "UnknownName"
 query_why_name TermOrder = codes "TermOrder"
-
--- the refusal of the line of this number
-abbrev pub query_refusal : LineRefusal QueryWhy → ℕ → QueryRefusal
-query_refusal (line_refusals.Bad why) line = Bad line why
-query_refusal line_refusals.Memory line = Memory
 
 -- the refusal of a line of known names whose terms were not read
 abbrev pub order_refusal : LineRefusal AnswerWhy → LineRefusal QueryWhy

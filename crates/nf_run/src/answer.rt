@@ -5,18 +5,19 @@ ghost use Rattle.pla_reader.specs.Reading.{description};
 ghost use Rattle.program.specs.Duties.{done};
 ghost use Rattle.program.specs.Runs.{EndsWithout};
 ghost use Rattle.nf_run.specs.Due.{IsDue, IsDueJoining, IsDueReducing, stopped};
-ghost use Rattle.nf_run.specs.Parts.{refused_outcome, unreduced_outcome};
+ghost use Rattle.nf_run.specs.Parts.{refused_outcome};
 
 use crate::ends::QueryEnd;
 use crate::mode::QueryMode;
 use crate::queries::QueryRefusal;
 use crate::reading::read_queries;
-use crate::solving::{ReduceRefusal, reduce};
+use crate::solving::reduce;
 use crate::texts::{answers_text, basis_text};
 use lattice::{Memory, Text};
 use pla_reader::{Pla, read};
-use point_ideals::{BasisRefusal, Joining, joint_basis};
+use point_ideals::{Joining, joint_basis};
 use program::{Outcome, behind, check_rows};
+use set_algebra::TermsRefusal;
 use std::alloc::Global;
 
 /// The limit of each count of terms.
@@ -35,27 +36,15 @@ fn refuse(refusal: QueryRefusal) -> QueryOutcome
     }
 }
 
-// How a run ends whose queries were not answered on a store of 2^bits slots.
-fn end_reducing(bits: u32, refusal: ReduceRefusal) -> QueryOutcome
-    requires { bits ≤ MAX_BITS }
-    ensures { result ≡ unreduced_outcome bits refusal }
-{
-    match refusal {
-        ReduceRefusal::Exhausted => Outcome::Exhausted { nodes: 1 << bits },
-        ReduceRefusal::Terms => Outcome::Terms { limit: MOST_TERMS },
-        ReduceRefusal::Memory => Outcome::Memory,
-    }
-}
-
-// How a run ends whose basis was not found on stores of 2^bits slots.
-fn end_joining(bits: u32, refusal: BasisRefusal) -> QueryOutcome
+// How a run ends whose terms were not given on stores of 2^bits slots.
+fn stop(bits: u32, refusal: TermsRefusal) -> QueryOutcome
     requires { bits ≤ MAX_BITS }
     ensures { result ≡ stopped bits refusal }
 {
     match refusal {
-        BasisRefusal::Exhausted => Outcome::Exhausted { nodes: 1 << bits },
-        BasisRefusal::Terms => Outcome::Terms { limit: MOST_TERMS },
-        BasisRefusal::Memory => Outcome::Memory,
+        TermsRefusal::Full => Outcome::Exhausted { nodes: 1 << bits },
+        TermsRefusal::Over => Outcome::Terms { limit: MOST_TERMS },
+        TermsRefusal::Memory => Outcome::Memory,
     }
 }
 
@@ -75,7 +64,7 @@ fn reduce_text(alloc: Global, bits: u32, p: &Pla, text: &[u8]) -> Result<Text, Q
     check_rows(p)?;
     let answers = match reduce(alloc, bits, p, queries.as_slice(), MOST_TERMS) {
         Ok(answers) => answers,
-        Err(refusal) => return Err(end_reducing(bits, refusal)),
+        Err(refusal) => return Err(stop(bits, refusal)),
     };
     match answers_text(alloc, p, queries.as_slice(), answers.as_slice()) {
         Ok(text) => Ok(text),
@@ -104,7 +93,7 @@ fn join_text(alloc: Global, bits: u32, p: &Pla, joining: Joining) -> Result<Text
     check_rows(p)?;
     let basis = match joint_basis(alloc, bits, p, joining, MOST_TERMS) {
         Ok(basis) => basis,
-        Err(refusal) => return Err(end_joining(bits, refusal)),
+        Err(refusal) => return Err(stop(bits, refusal)),
     };
     match basis_text(alloc, p, basis.as_slice()) {
         Ok(text) => Ok(text),

@@ -11,8 +11,8 @@ ghost use Rattle.nf_run.specs.Queries.{IsQueryOver};
 
 use crate::queries::Query;
 use crate::reduction::reduce_polynomial;
-use cube_build::{CubesRefusal, care_points};
-use node_store::{Full, Handle, Store};
+use cube_build::care_points;
+use node_store::{Full, Handle, SolveRefusal, Store};
 use pla_reader::Pla;
 use std::alloc::Global;
 
@@ -54,7 +54,7 @@ fn all_points<S: Store>(
     store: &mut S,
     p: &Pla,
     queries: &[Query],
-) -> Result<Vec<Handle>, CubesRefusal>
+) -> Result<Vec<Handle>, SolveRefusal>
     requires vars { (S.state store.old).vars ≡ p.now.inputs }
     requires over { All (IsQueryOver p.now.inputs p.now.outputs) queries.now }
     requires planned { Covers (S.state store.old).plan
@@ -63,7 +63,7 @@ fn all_points<S: Store>(
     ensures many { IfOk result (λ points. length points.items ≡ p.now.outputs) }
     ensures points { IfOk result (λ points. HoldsAll (S.state store.new)
         (description p.now) queries.now points.items) }
-    ensures full { IsErrOf result CubesRefusal.Full
+    ensures full { IsErrOf result SolveRefusal.Full
         → IsFull (S.state store.old) (S.state store.new) }
 {
     let mut points = Vec::new(alloc);
@@ -80,7 +80,7 @@ fn answers_on<S: Store>(
     p: &Pla,
     queries: &[Query],
     points: &[Handle],
-) -> Result<Vec<Handle>, CubesRefusal>
+) -> Result<Vec<Handle>, SolveRefusal>
     requires vars { (S.state store.old).vars ≡ p.now.inputs }
     requires over { All (IsQueryOver p.now.inputs p.now.outputs) queries.now }
     requires many { length points.now ≡ p.now.outputs }
@@ -90,7 +90,7 @@ fn answers_on<S: Store>(
     ensures grows { Grows (S.state store.old) (S.state store.new) }
     ensures answers { IfOk result
         (λ answers. AreAnswered (S.state store.new) (description p.now) queries.now answers.items) }
-    ensures full { IsErrOf result CubesRefusal.Full
+    ensures full { IsErrOf result SolveRefusal.Full
         → IsFull (S.state store.old) (S.state store.new) }
 {
     let mut answers = Vec::new(alloc);
@@ -103,13 +103,14 @@ fn answers_on<S: Store>(
 
 /// The answer to each query, in a store with a variable for each input: the least polynomial that
 /// has the values of the query's at the care points of its output. These are found once for each
-/// output. It is Full only where the plan has more families than the store has slots.
+/// output. `Full` comes only where the plan has more families than the store has slots, and
+/// `Memory` where a list of handles found none.
 pub fn answer_queries<S: Store>(
     alloc: Global,
     store: &mut S,
     p: &Pla,
     queries: &[Query],
-) -> Result<Vec<Handle>, CubesRefusal>
+) -> Result<Vec<Handle>, SolveRefusal>
     requires vars { (S.state store.old).vars ≡ p.now.inputs }
     requires over { All (IsQueryOver p.now.inputs p.now.outputs) queries.now }
     requires planned { Covers (S.state store.old).plan
@@ -117,7 +118,7 @@ pub fn answer_queries<S: Store>(
     ensures grows { Grows (S.state store.old) (S.state store.new) }
     ensures answers { IfOk result
         (λ answers. AreAnswered (S.state store.new) (description p.now) queries.now answers.items) }
-    ensures full { IsErrOf result CubesRefusal.Full
+    ensures full { IsErrOf result SolveRefusal.Full
         → IsFull (S.state store.old) (S.state store.new) }
 {
     let points = all_points(alloc, store, p, queries)?;

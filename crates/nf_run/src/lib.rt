@@ -20,5 +20,5 @@ pub use crate::mode::QueryMode;
 pub use crate::queries::{Queries, Query, QueryRefusal, QueryWhy};
 pub use crate::reading::read_queries;
 pub use crate::reduction::reduce_polynomial;
-pub use crate::solving::{ReduceRefusal, reduce};
+pub use crate::solving::reduce;
 pub use crate::top::{nf_run, start_nf_run};

@@ -1,9 +1,9 @@
 //! Queries, and why they are refused.
 ghost use Rattle.std.specs.Prelude.{◌≡◌};
-ghost use Rattle.nf_run.specs.Queries.{query_refusal, query_why_name};
+ghost use Rattle.nf_run.specs.Queries.{query_why_name};
 
 use lattice::{Monos, Seq};
-use pla_reader::LineRefusal;
+use pla_reader::TextRefusal;
 
 /// Asks for the least polynomial with the values of this one at the care points of the output,
 /// whose numbers begin with 1. The terms are given from the greatest to the least.
@@ -40,33 +40,5 @@ impl QueryWhy {
     }
 }
 
-/// Why queries were not read: the first bad line, counted from 1, and the first check that it
-/// fails; or there was no memory.
-#[derive(Clone, Copy, Debug, PartialEq, Eq)]
-pub enum QueryRefusal {
-    Bad { line: u32, why: QueryWhy },
-    Memory,
-}
-
-impl QueryRefusal {
-    /// The refusal of the line of this number.
-    pub(crate) fn of_line(refusal: LineRefusal<QueryWhy>, line: u32) -> QueryRefusal
-        ensures { result ≡ query_refusal refusal line }
-    {
-        match refusal {
-            LineRefusal::Bad(why) => QueryRefusal::Bad { line, why },
-            LineRefusal::Memory => QueryRefusal::Memory,
-        }
-    }
-}
-
-impl From<lattice::Memory> for QueryRefusal {
-    ghost use Rattle.std.specs.Prelude.{◌≡◌};
-    ghost use Rattle.nf_run.specs.declared.queries.QueryRefusal.TheVariants.{Memory};
-
-    ghost from_gives = { λ _ e. e ≡ Memory };
-
-    fn from(_: lattice::Memory) -> QueryRefusal {
-        QueryRefusal::Memory
-    }
-}
+/// Why queries were not read.
+pub type QueryRefusal = TextRefusal<QueryWhy>;

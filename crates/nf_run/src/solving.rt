@@ -11,62 +11,13 @@ ghost use Rattle.nf_run.specs.Queries.{IsQueryOver};
 use crate::answering::answer_queries;
 use crate::queries::Query;
 use computed_cache::CachedPass;
-use cube_build::{CubesRefusal, SMALL_BITS, first_bits, next_bits};
-use lattice::{Memory, MonoLists, Plan, Planned, plan_of};
+use cube_build::{SMALL_BITS, first_bits, next_bits};
+use lattice::{MonoLists, Plan, Planned, plan_of};
 use node_store::Store;
 use pla_reader::Pla;
-use set_algebra::{WalkRefusal, lists_of};
+use set_algebra::{TermsRefusal, lists_of};
 use std::alloc::Global;
 use unique_table::Shared;
-
-/// Why queries were not answered.
-#[derive(Clone, Copy, Debug, PartialEq, Eq)]
-pub enum ReduceRefusal {
-    /// More nodes are needed than there are slots.
-    Exhausted,
-    /// The answers have more terms than the limit.
-    Terms,
-    /// Memory ran out.
-    Memory,
-}
-
-impl From<CubesRefusal> for ReduceRefusal {
-    ghost use Rattle.nf_run.specs.Answers.{refusal_of};
-
-    ghost from_gives = { λ refusal e. e ≡ refusal_of refusal };
-
-    fn from(refusal: CubesRefusal) -> Self {
-        match refusal {
-            CubesRefusal::Full => ReduceRefusal::Exhausted,
-            CubesRefusal::Memory => ReduceRefusal::Memory,
-        }
-    }
-}
-
-impl From<WalkRefusal> for ReduceRefusal {
-    ghost use Rattle.set_algebra.specs.declared.counted.WalkRefusal.TheVariants as unlisted;
-    ghost use Rattle.nf_run.specs.declared.solving.ReduceRefusal.TheVariants as unreduced;
-
-    ghost from_gives = { λ refusal e. (refusal ≡ unlisted.Over → e ≡ unreduced.Terms)
-        × (refusal ≡ unlisted.Memory → e ≡ unreduced.Memory) };
-
-    fn from(refusal: WalkRefusal) -> Self {
-        match refusal {
-            WalkRefusal::Over => ReduceRefusal::Terms,
-            WalkRefusal::Memory => ReduceRefusal::Memory,
-        }
-    }
-}
-
-impl From<Memory> for ReduceRefusal {
-    ghost use Rattle.nf_run.specs.declared.solving.ReduceRefusal.TheVariants as unreduced;
-
-    ghost from_gives = { λ _ e. e ≡ unreduced.Memory };
-
-    fn from(_: Memory) -> Self {
-        ReduceRefusal::Memory
-    }
-}
 
 /// Queries on a description.
 #[derive(Drop)]
@@ -96,7 +47,7 @@ fn reduce_in<S: Store>(
     p: &Pla,
     queries: &[Query],
     limit: u64,
-) -> Result<MonoLists, ReduceRefusal>
+) -> Result<MonoLists, TermsRefusal>
     requires over { All (IsQueryOver p.now.inputs p.now.outputs) queries.now }
     requires vars { (S.state store.old).vars ≡ p.now.inputs }
     requires plan { (S.state store.old).plan
@@ -106,9 +57,9 @@ fn reduce_in<S: Store>(
     ensures fits { OnOk result (query_nodes (description p.now) queries.now
         ≤ (S.state store.old).capacity) }
     ensures few { OnOk result (answer_terms (description p.now) queries.now ≤ limit) }
-    ensures exhausted { IsErrOf result ReduceRefusal.Exhausted
+    ensures exhausted { IsErrOf result TermsRefusal.Full
         → (S.state store.old).capacity < query_nodes (description p.now) queries.now }
-    ensures terms { IsErrOf result ReduceRefusal.Terms
+    ensures terms { IsErrOf result TermsRefusal.Over
         → (query_nodes (description p.now) queries.now ≤ (S.state store.old).capacity)
         × (limit < answer_terms (description p.now) queries.now) }
 {
@@ -124,16 +75,16 @@ fn reduce_on(
     p: &Pla,
     queries: &[Query],
     limit: u64,
-) -> Result<MonoLists, ReduceRefusal>
+) -> Result<MonoLists, TermsRefusal>
     requires bits { (MIN_BITS ≤ bits) × (bits ≤ MAX_BITS) }
     requires over { All (IsQueryOver p.now.inputs p.now.outputs) queries.now }
     ensures answers { IfOk result
         (AllZip (λ q terms. IsAnswerTo (description p.now) q (reverse terms)) queries.now) }
     ensures fits { OnOk result (query_nodes (description p.now) queries.now ≤ 2 ^ bits) }
     ensures few { OnOk result (answer_terms (description p.now) queries.now ≤ limit) }
-    ensures exhausted { IsErrOf result ReduceRefusal.Exhausted
+    ensures exhausted { IsErrOf result TermsRefusal.Full
         → 2 ^ bits < query_nodes (description p.now) queries.now }
-    ensures terms { IsErrOf result ReduceRefusal.Terms
+    ensures terms { IsErrOf result TermsRefusal.Over
         → (query_nodes (description p.now) queries.now ≤ 2 ^ bits)
         × (limit < answer_terms (description p.now) queries.now) }
 {
@@ -169,30 +120,32 @@ fn first_bits_for(p: &Pla, queries: &[Query], bits: u32) -> u32
 /// Answers the queries on a table of 2^bits slots: for each the terms, from the greatest to the
 /// least, of the least polynomial that has the values of the query's at the care points of its
 /// output, where all have at most `limit` terms. The care points of an output are found once,
-/// however many queries are on it. Smaller tables are tried first that the description may do with.
+/// however many queries are on it. `Full` comes where more nodes are needed than there are slots,
+/// and else `Over` where the answers have more terms. Smaller tables are tried first that the
+/// description may do with.
 pub fn reduce(
     alloc: Global,
     bits: u32,
     p: &Pla,
     queries: &[Query],
     limit: u64,
-) -> Result<MonoLists, ReduceRefusal>
+) -> Result<MonoLists, TermsRefusal>
     requires bits { (MIN_BITS ≤ bits) × (bits ≤ MAX_BITS) }
     requires over { All (IsQueryOver p.now.inputs p.now.outputs) queries.now }
     ensures answers { IfOk result
         (AllZip (λ q terms. IsAnswerTo (description p.now) q (reverse terms)) queries.now) }
     ensures fits { OnOk result (query_nodes (description p.now) queries.now ≤ 2 ^ bits) }
     ensures few { OnOk result (answer_terms (description p.now) queries.now ≤ limit) }
-    ensures exhausted { IsErrOf result ReduceRefusal.Exhausted
+    ensures exhausted { IsErrOf result TermsRefusal.Full
         → 2 ^ bits < query_nodes (description p.now) queries.now }
-    ensures terms { IsErrOf result ReduceRefusal.Terms
+    ensures terms { IsErrOf result TermsRefusal.Over
         → (query_nodes (description p.now) queries.now ≤ 2 ^ bits)
         × (limit < answer_terms (description p.now) queries.now) }
 {
     let mut tried = first_bits_for(p, queries, bits);
     while tried < bits {
         match reduce_on(alloc, tried, p, queries, limit) {
-            Err(ReduceRefusal::Exhausted) => tried = next_bits(tried, bits),
+            Err(TermsRefusal::Full) => tried = next_bits(tried, bits),
             answers => return answers,
         }
     }

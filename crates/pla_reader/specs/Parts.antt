@@ -6,6 +6,8 @@ use Rattle.pla_reader.specs.declared.refusal.LineRefusal.{LineRefusal}
 use Rattle.pla_reader.specs.declared.refusal.LineRefusal.TheVariants.{Bad, Memory}
 use Rattle.pla_reader.specs.declared.refusal.ReadRefusal.{ReadRefusal}
 use Rattle.pla_reader.specs.declared.refusal.ReadRefusal.TheVariants as whole
+use Rattle.pla_reader.specs.declared.refusal.TextRefusal.{TextRefusal}
+use Rattle.pla_reader.specs.declared.refusal.TextRefusal.TheVariants as text
 use Rattle.pla_reader.specs.Lines.{words_of}
 
 -- the first word of a line, and what follows it
@@ -14,10 +16,14 @@ pub record BeginsWithWord (line word rest : List ℕ) : Type 0 where
   pub some : 0 < length word
   pub less : length rest < length line
 
--- the refusal of the line of this number
+-- the refusal of the line of this number, of a description and of any other text
 abbrev pub read_refusal : LineRefusal Why → ℕ → ReadRefusal
 read_refusal (Bad why) line = whole.Bad (record { line = line; why = why })
 read_refusal Memory line = whole.Memory
+
+abbrev pub text_refusal : {W : Type 0} → LineRefusal W → ℕ → TextRefusal W
+text_refusal (Bad why) line = text.Bad line why
+text_refusal Memory line = text.Memory
 
 -- the line has this fault, or memory ran out
 abbrev pub Stops : {W : Type 0} → LineRefusal W → Option W → Type 0

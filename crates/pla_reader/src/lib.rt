@@ -23,6 +23,6 @@ pub use crate::lines::{is_word, split_line, without_last};
 pub use crate::names::{includes, is_plain, names_in_place, plain_names, printed};
 pub use crate::order::{OrderRefusal, file_order, read_order};
 pub use crate::pla::{Pla, Rows};
-pub use crate::reading::read;
-pub use crate::refusal::{LineRefusal, ReadRefusal, Refusal, Why};
+pub use crate::reading::{MOST_BYTES, read};
+pub use crate::refusal::{LineRefusal, ReadRefusal, Refusal, TextRefusal, Why};
 pub use crate::row::Marks;

@@ -12,6 +12,9 @@ use crate::refusal::{ReadRefusal, Refusal, Why};
 use lattice::{Kind, Names};
 use std::alloc::Global;
 
+/// The most bytes of a description that a program takes.
+pub const MOST_BYTES: usize = 4_194_304;
+
 /// The lines of a description, all read.
 #[derive(Drop)]
 struct Lines {

@@ -2,7 +2,8 @@
 ghost use Rattle.std.specs.Prelude.{◌≡◌};
 ghost use Rattle.pla_reader.specs.declared.refusal.LineRefusal.TheVariants.{Bad, Memory};
 ghost use Rattle.pla_reader.specs.Causes.{why_name};
-ghost use Rattle.pla_reader.specs.Parts.{read_refusal};
+ghost use Rattle.pla_reader.specs.Parts.{read_refusal, text_refusal};
+ghost use Rattle.pla_reader.specs.declared.refusal.TextRefusal.TheVariants as whole;
 
 use std::alloc::{AllocError, AllocFailed};
 
@@ -86,6 +87,14 @@ pub enum LineRefusal<W: Copy> {
     Memory,
 }
 
+/// Why a text was not read that stands behind a description or answers one: its first bad line,
+/// counted from 1, and the first check that it fails; or there was no memory.
+#[derive(Clone, Copy, Debug, PartialEq, Eq)]
+pub enum TextRefusal<W: Copy> {
+    Bad { line: u32, why: W },
+    Memory,
+}
+
 impl ReadRefusal {
     /// The refusal of the line of this number.
     pub fn of_line(refusal: LineRefusal<Why>, line: u32) -> ReadRefusal
@@ -95,6 +104,26 @@ impl ReadRefusal {
             LineRefusal::Bad(why) => ReadRefusal::Bad(Refusal { line, why }),
             LineRefusal::Memory => ReadRefusal::Memory,
         }
+    }
+}
+
+impl<W: Copy> TextRefusal<W> {
+    /// The refusal of the line of this number.
+    pub fn of_line(refusal: LineRefusal<W>, line: u32) -> TextRefusal<W>
+        ensures { result ≡ text_refusal refusal line }
+    {
+        match refusal {
+            LineRefusal::Bad(why) => TextRefusal::Bad { line, why },
+            LineRefusal::Memory => TextRefusal::Memory,
+        }
+    }
+}
+
+impl<W: Copy> From<lattice::Memory> for TextRefusal<W> {
+    ghost from_gives = { λ _ e. e ≡ whole.Memory };
+
+    fn from(_e: lattice::Memory) -> TextRefusal<W> {
+        TextRefusal::Memory
     }
 }
 

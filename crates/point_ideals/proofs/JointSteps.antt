@@ -14,7 +14,8 @@ use Rattle.std_monomials.specs.PointLeads.{point_leads_list}
 use Rattle.cube_build.specs.CarePoints.{points_list}
 use Rattle.point_ideals.specs.Joined.{HoldsJoint, first_phase_list, joined, joint_points, joint_points_list, HoldsBasis}
 use Rattle.point_ideals.specs.Joined.{HoldsElements, elements_list, joint_leads, second_phase_list, FindsBasis, FindsLeads, IsJointBasis}
-use Rattle.point_ideals.specs.Joined.{first_nodes, first_refused, joint_basis_of, output_points, PhaseGives, refusal_by}
+use Rattle.point_ideals.specs.Joined.{first_nodes, first_refused, joint_basis_of, output_points, PhaseGives}
+use Rattle.set_algebra.specs.Refusals.{unlisted_refusal}
 use Rattle.point_ideals.specs.declared.joined.Joining.{Joining}
 use Rattle.std.specs.List.{All, sum_by}
 use Rattle.std.proofs.lemmas.Grind.{flat_map-append}
@@ -26,8 +27,8 @@ use Rattle.point_ideals.proofs.JointBases.{basis_listed, joint_fits, joint_exist
 use Rattle.std.specs.Prelude.{IfErr, IfOk, IsErrAnd}
 use Rattle.std.proofs.lemmas.Bool.Decides.{nat_tests}
 use Rattle.std.proofs.lemmas.List.Folds.{fold-map}
-use Rattle.point_ideals.specs.declared.joined.BasisRefusal.{BasisRefusal}
-use Rattle.point_ideals.specs.declared.joined.BasisRefusal.TheVariants.{Exhausted, Memory, Terms}
+use Rattle.set_algebra.specs.declared.refusal.TermsRefusal.{TermsRefusal}
+use Rattle.set_algebra.specs.declared.refusal.TermsRefusal.TheVariants as stops
 use Rattle.std.proofs.lemmas.Result.{err_from_is_err_and}
 use Rattle.set_algebra.specs.declared.counted.WalkRefusal.{WalkRefusal}
 use Rattle.set_algebra.specs.declared.counted.WalkRefusal.TheVariants as unlisted
@@ -229,7 +230,7 @@ elements_counted t d joining found is = sym (fold-map _ (family t) 0 found) ∙ 
 -- ---- the first limit that is passed
 
 module _ (bits limit : ℕ) (d : Description) (joining : Joining) where
-  abbrev Refuses : BasisRefusal → Type 0
+  abbrev Refuses : TermsRefusal → Type 0
   Refuses e = (basis : List Family) → IsJointBasis d joining basis → first_refused bits limit d joining basis ≡ Some e
 
   -- as many elements as leads
@@ -241,42 +242,44 @@ module _ (bits limit : ℕ) (d : Description) (joining : Joining) where
       → IsJointBasis d joining basis → f basis ≡ x
   of_each f x at basis is = ap f (joint_unique d joining basis (joint_basis_of d joining) is (joint_exists d joining)) ∙ at
 
-  abbrev refusal : List Family → Option BasisRefusal
+  abbrev refusal : List Family → Option TermsRefusal
   refusal = first_refused bits limit d joining
 
-  many_leads : {planned : ℕ} → FindsLeads planned (2 ^ bits) limit d joining (Err Terms) → Refuses Terms
-  many_leads h = of_each refusal (Some Terms) (grind (arith, nat_tests, h.terms refl, leads_counted))
+  many_leads : {planned : ℕ} → FindsLeads planned (2 ^ bits) limit d joining (Err stops.Over) → Refuses stops.Over
+  many_leads h = of_each refusal (Some stops.Over) (grind (arith, nat_tests, h.terms refl, leads_counted))
 
   -- phase 1 was stopped on a table of its own, or on one that is not full
-  pub stopped_first : (e : BasisRefusal) → FindsLeads (first_nodes d joining) (2 ^ bits) limit d joining (Err e) → e ≢ Memory → Refuses e
-  stopped_first Exhausted h other = of_each refusal (Some Exhausted) (grind (arith, nat_tests, h.exhausted refl))
-  stopped_first Terms h other = many_leads h
-  stopped_first Memory h other = absurd (other refl)
+  pub stopped_first : (e : TermsRefusal) → FindsLeads (first_nodes d joining) (2 ^ bits) limit d joining (Err e) → e ≢ stops.Memory
+      → Refuses e
+  stopped_first stops.Full h other = of_each refusal (Some stops.Full) (grind (arith, nat_tests, h.exhausted refl))
+  stopped_first stops.Over h other = many_leads h
+  stopped_first stops.Memory h other = absurd (other refl)
 
-  pub stopped_early : {planned : ℕ} (e : BasisRefusal) → FindsLeads planned (2 ^ bits) limit d joining (Err e) → e ≢ Memory
-      → e ≢ Exhausted → Refuses e
-  stopped_early Exhausted h other others = absurd (others refl)
-  stopped_early Terms h other others = many_leads h
-  stopped_early Memory h other others = absurd (other refl)
+  pub stopped_early : {planned : ℕ} (e : TermsRefusal) → FindsLeads planned (2 ^ bits) limit d joining (Err e) → e ≢ stops.Memory
+      → e ≢ stops.Full → Refuses e
+  stopped_early stops.Full h other others = absurd (others refl)
+  stopped_early stops.Over h other others = many_leads h
+  stopped_early stops.Memory h other others = absurd (other refl)
 
   module _ {planned : ℕ} (found : Family) (first : FindsLeads planned (2 ^ bits) limit d joining (Ok found)) where
-    stopped_last : (e : BasisRefusal) → FindsBasis (2 ^ bits) limit d joining (Err e) → e ≢ Memory → Refuses e
-    stopped_last Exhausted h other = of_each refusal (Some Exhausted)
+    stopped_last : (e : TermsRefusal) → FindsBasis (2 ^ bits) limit d joining (Err e) → e ≢ stops.Memory → Refuses e
+    stopped_last stops.Full h other = of_each refusal (Some stops.Full)
         (grind (arith, nat_tests, first.fits, first.few, leads_counted, h.exhausted refl))
-    stopped_last Terms h other = of_each refusal (Some Terms) (grind (arith, nat_tests, first.fits, first.few, leads_counted, h.terms refl))
-    stopped_last Memory h other = absurd (other refl)
+    stopped_last stops.Over h other = of_each refusal (Some stops.Over)
+        (grind (arith, nat_tests, first.fits, first.few, leads_counted, h.terms refl))
+    stopped_last stops.Memory h other = absurd (other refl)
 
-    pub not_found : (r : Result (List Family) BasisRefusal) → FindsBasis (2 ^ bits) limit d joining r
-        → IfErr r (λ e. e ≢ Memory → Refuses e)
+    pub not_found : (r : Result (List Family) TermsRefusal) → FindsBasis (2 ^ bits) limit d joining r
+        → IfErr r (λ e. e ≢ stops.Memory → Refuses e)
     not_found (Ok lists) h = tt
     not_found (Err e) h = stopped_last e h
 
-    pub found_within : (r : Result (List Family) BasisRefusal) → FindsBasis (2 ^ bits) limit d joining r
+    pub found_within : (r : Result (List Family) TermsRefusal) → FindsBasis (2 ^ bits) limit d joining r
         → IfOk r (λ lists. refusal (map reverse lists) ≡ None)
     found_within (Err e) h = tt
     found_within (Ok lists) h = rw h.answer (grind (arith, nat_tests, first.fits, first.few, leads_counted, h.fits, h.few))
 
-    pub found_joint : (r : Result (List Family) BasisRefusal) → FindsBasis (2 ^ bits) limit d joining r
+    pub found_joint : (r : Result (List Family) TermsRefusal) → FindsBasis (2 ^ bits) limit d joining r
         → IfOk r (λ lists. IsJointBasis d joining (map reverse lists))
     found_joint (Err e) h = tt
     found_joint (Ok lists) h = rw h.answer (joint_exists d joining)
@@ -285,14 +288,14 @@ module _ (bits limit : ℕ) (d : Description) (joining : Joining) where
 
 module _ (small bits limit : ℕ) (more : 2 ^ small ≤ 2 ^ bits) (d : Description) (joining : Joining) where
   -- a basis that is within the limits with the fewer is with the more
-  pub within_more : (r : Result (List Family) BasisRefusal)
+  pub within_more : (r : Result (List Family) TermsRefusal)
       → IfOk r (λ lists. first_refused small limit d joining (map reverse lists) ≡ None)
       → IfOk r (λ lists. first_refused bits limit d joining (map reverse lists) ≡ None)
   within_more (Ok lists) none = grind (arith, nat_tests, none, more)
   within_more (Err e) none = tt
 
   -- and one that is refused for another cause than its nodes is refused for it
-  pub refused_with_more : (e : BasisRefusal) → e ≢ Exhausted → (basis : List Family)
+  pub refused_with_more : (e : TermsRefusal) → e ≢ stops.Full → (basis : List Family)
       → first_refused small limit d joining basis ≡ Some e → first_refused bits limit d joining basis ≡ Some e
   refused_with_more e other basis over = grind (arith, nat_tests, other, over, more)
 
@@ -305,23 +308,23 @@ first_covered d joining is = rw is (covers_left d.inputs _ (first_phase_list d j
 
 -- what a phase gives is told of its store's slots, and so of as many
 module _ (d : Description) (joining : Joining) {slots others limit : ℕ} (is : slots ≡ others) where
-  pub leads_by : {planned : ℕ} {r : Result Family BasisRefusal} → FindsLeads planned slots limit d joining r
+  pub leads_by : {planned : ℕ} {r : Result Family TermsRefusal} → FindsLeads planned slots limit d joining r
       → FindsLeads planned others limit d joining r
   leads_by found = rw (← is) found
 
-  pub basis_by : {r : Result (List Family) BasisRefusal} → FindsBasis slots limit d joining r → FindsBasis others limit d joining r
+  pub basis_by : {r : Result (List Family) TermsRefusal} → FindsBasis slots limit d joining r → FindsBasis others limit d joining r
   basis_by found = rw (← is) found
 
 -- ---- what a phase gives
 
-module _ {T : Type 0} (slots limit planned nodes count : ℕ) (IsAnswer : T → Type 0) (r : Result T BasisRefusal) where
+module _ {T : Type 0} (slots limit planned nodes count : ℕ) (IsAnswer : T → Type 0) (r : Result T TermsRefusal) where
   -- where all were listed
   pub phase_listed : {x : T} → r ≡ Ok x → IsAnswer x → nodes ≤ slots → count ≤ limit
       → PhaseGives slots limit planned nodes count IsAnswer r
   phase_listed is answer fits few = rw is (record { answer = answer; fits = fits; few = few; exhausted = λ e. cc; terms = λ e. cc })
 
   -- where there were too many members, or memory ran out
-  pub phase_unlisted : (x : WalkRefusal) → IsErrAnd r (λ e. e ≡ refusal_by x) → nodes ≤ slots → (x ≡ unlisted.Over → limit < count)
+  pub phase_unlisted : (x : WalkRefusal) → IsErrAnd r (λ e. e ≡ unlisted_refusal x) → nodes ≤ slots → (x ≡ unlisted.Over → limit < count)
       → PhaseGives slots limit planned nodes count IsAnswer r
   phase_unlisted unlisted.Over named fits over =
       let p = err_from_is_err_and r named in

@@ -11,15 +11,11 @@ use Rattle.node_store.specs.declared.store.Handle.{Handle}
 use Rattle.pla_reader.specs.Reading.{Description}
 use Rattle.std_monomials.specs.PointLeads.{point_leads_list}
 use Rattle.cube_build.specs.CarePoints.{points_list}
-use Rattle.cube_build.specs.declared.rows.CubesRefusal.{CubesRefusal}
-use Rattle.cube_build.specs.declared.rows.CubesRefusal.TheVariants as unbuilt
-use Rattle.set_algebra.specs.declared.counted.WalkRefusal.{WalkRefusal}
-use Rattle.set_algebra.specs.declared.counted.WalkRefusal.TheVariants as unlisted
 use Rattle.point_ideals.specs.declared.joined.Joining.{Joining}
 use Rattle.point_ideals.specs.declared.joined.Joining.TheVariants.{Meet, Union}
 use Rattle.point_ideals.specs.declared.phases.Joint.{Joint}
-use Rattle.point_ideals.specs.declared.joined.BasisRefusal.{BasisRefusal}
-use Rattle.point_ideals.specs.declared.joined.BasisRefusal.TheVariants.{Exhausted, Memory, Terms}
+use Rattle.set_algebra.specs.declared.refusal.TermsRefusal.{TermsRefusal}
+use Rattle.set_algebra.specs.declared.refusal.TermsRefusal.TheVariants.{Full, Over}
 
 -- the care points of an output
 abbrev pub output_points : Description → ℕ → Family
@@ -81,12 +77,12 @@ last_nodes d joining = length (working_set d.inputs (second_phase_list d joining
 
 -- the first limit that a basis passes, of stores of 2^bits slots and of a number of terms: the nodes and then the leads of phase 1,
 -- and the nodes and then all terms of phase 2
-abbrev pub first_refused : (bits limit : ℕ) → Description → Joining → List Family → Option BasisRefusal
+abbrev pub first_refused : (bits limit : ℕ) → Description → Joining → List Family → Option TermsRefusal
 first_refused bits limit d joining basis =
-    if nat_lt (2 ^ bits) (first_nodes d joining) then Some Exhausted
-    else if nat_lt limit (length basis) then Some Terms
-    else if nat_lt (2 ^ bits) (last_nodes d joining) then Some Exhausted
-    else if nat_lt limit (sum_by length basis) then Some Terms
+    if nat_lt (2 ^ bits) (first_nodes d joining) then Some Full
+    else if nat_lt limit (length basis) then Some Over
+    else if nat_lt (2 ^ bits) (last_nodes d joining) then Some Full
+    else if nat_lt limit (sum_by length basis) then Some Over
     else None
 
 -- ---- what was found
@@ -109,32 +105,23 @@ pub record HoldsBasis (s : State) (d : Description) (joining : Joining) (found :
   pub are : map (family s) found ≡ joint_basis_of d joining
   pub held : Covers s.held (working_set d.inputs (second_phase_list d joining))
 
--- why a basis was not found where the families were not all found, or where the terms were not listed
-abbrev pub refusal_of : CubesRefusal → BasisRefusal
-refusal_of unbuilt.Full = Exhausted
-refusal_of unbuilt.Memory = Memory
-
-abbrev pub refusal_by : WalkRefusal → BasisRefusal
-refusal_by unlisted.Over = Terms
-refusal_by unlisted.Memory = Memory
-
 -- ---- what a phase gives that needs so many nodes, in a store with so many planned families, and counts so many leads or terms: an
 -- answer, where the nodes and the count are no more than the slots and the limit, or the refusal of the first that is more, or want of
--- memory. Where more than the needed families are planned, it may be exhausted by those.
-pub record PhaseGives {T : Type 0} (slots limit planned nodes count : ℕ) (IsAnswer : T → Type 0) (result : Result T BasisRefusal)
+-- memory. Where more than the needed families are planned, it may be full of those.
+pub record PhaseGives {T : Type 0} (slots limit planned nodes count : ℕ) (IsAnswer : T → Type 0) (result : Result T TermsRefusal)
     : Type 0 where
   pub answer : IfOk result IsAnswer
   pub fits : OnOk result (nodes ≤ slots)
   pub few : OnOk result (count ≤ limit)
-  pub exhausted : IsErrOf result Exhausted → slots < planned
-  pub terms : IsErrOf result Terms → (nodes ≤ slots) × (limit < count)
+  pub exhausted : IsErrOf result Full → slots < planned
+  pub terms : IsErrOf result Over → (nodes ≤ slots) × (limit < count)
 
 -- phase 1: the leads, from the greatest to the least
-abbrev pub FindsLeads : (planned slots limit : ℕ) → Description → Joining → Result Family BasisRefusal → Type 0
+abbrev pub FindsLeads : (planned slots limit : ℕ) → Description → Joining → Result Family TermsRefusal → Type 0
 FindsLeads planned slots limit d joining = PhaseGives slots limit planned (first_nodes d joining) (length (joint_leads d joining))
     (λ leads. reverse leads ≡ joint_leads d joining)
 
 -- phase 2: the basis, with the terms of each element from the greatest to the least
-abbrev pub FindsBasis : (slots limit : ℕ) → Description → Joining → Result (List Family) BasisRefusal → Type 0
+abbrev pub FindsBasis : (slots limit : ℕ) → Description → Joining → Result (List Family) TermsRefusal → Type 0
 FindsBasis slots limit d joining = let nodes = last_nodes d joining in
     PhaseGives slots limit nodes nodes (sum_by length (joint_basis_of d joining)) (λ lists. map reverse lists ≡ joint_basis_of d joining)

@@ -8,18 +8,18 @@ ghost use Rattle.lattice.specs.declared.limits.TheConstants.{MIN_BITS, MAX_BITS}
 ghost use Rattle.lattice.proofs.Diagrams.{working_set_is_node_list};
 ghost use Rattle.node_store.specs.Stores.{Grows};
 ghost use Rattle.pla_reader.specs.Reading.{description};
+ghost use Rattle.set_algebra.specs.declared.refusal.TermsRefusal.TheVariants as refusals;
 ghost use Rattle.point_ideals.specs.Joined.{FindsBasis, FindsLeads, IsJointBasis, first_nodes};
 ghost use Rattle.point_ideals.specs.Joined.{first_phase_list, first_refused, joint_leads};
 ghost use Rattle.point_ideals.specs.Joined.{second_phase_list};
-ghost use Rattle.point_ideals.specs.declared.joined.BasisRefusal.TheVariants as refusals;
 
 use crate::phases::{first_phase, second_phase};
 use computed_cache::CachedPass;
-use cube_build::{CubesRefusal, first_bits, next_bits};
-use lattice::{Memory, Mono, MonoLists, Monos, Plan, Planned, plan_of};
-use node_store::{Full, Store};
+use cube_build::{first_bits, next_bits};
+use lattice::{Mono, MonoLists, Monos, Plan, Planned, plan_of};
+use node_store::Store;
 use pla_reader::Pla;
-use set_algebra::{WalkRefusal, lists_upto, walk_upto};
+use set_algebra::{TermsRefusal, lists_upto, walk_upto};
 use std::alloc::Global;
 use unique_table::Shared;
 
@@ -32,59 +32,6 @@ pub enum Joining {
     /// The common ones. What vanishes there is a sum of what vanishes at the points of the one and
     /// what does at those of the other.
     Meet,
-}
-
-/// Why a basis was not found.
-#[derive(Clone, Copy, Debug, PartialEq, Eq)]
-pub enum BasisRefusal {
-    /// More nodes are needed than there are slots.
-    Exhausted,
-    /// There are more leads, or more terms of elements, than the limit.
-    Terms,
-    /// Memory ran out.
-    Memory,
-}
-
-impl From<CubesRefusal> for BasisRefusal {
-    ghost use Rattle.point_ideals.specs.Joined.{refusal_of};
-
-    ghost from_gives = { λ refusal e. e ≡ refusal_of refusal };
-
-    fn from(refusal: CubesRefusal) -> Self {
-        match refusal {
-            CubesRefusal::Full => BasisRefusal::Exhausted,
-            CubesRefusal::Memory => BasisRefusal::Memory,
-        }
-    }
-}
-
-impl From<Full> for BasisRefusal {
-    ghost from_gives = { λ _ e. e ≡ refusals.Exhausted };
-
-    fn from(_: Full) -> Self {
-        BasisRefusal::Exhausted
-    }
-}
-
-impl From<WalkRefusal> for BasisRefusal {
-    ghost use Rattle.point_ideals.specs.Joined.{refusal_by};
-
-    ghost from_gives = { λ refusal e. e ≡ refusal_by refusal };
-
-    fn from(refusal: WalkRefusal) -> Self {
-        match refusal {
-            WalkRefusal::Over => BasisRefusal::Terms,
-            WalkRefusal::Memory => BasisRefusal::Memory,
-        }
-    }
-}
-
-impl From<Memory> for BasisRefusal {
-    ghost from_gives = { λ _ e. e ≡ refusals.Memory };
-
-    fn from(_: Memory) -> Self {
-        BasisRefusal::Memory
-    }
 }
 
 /// Phase 1 on a description.
@@ -134,7 +81,7 @@ fn leads_in<S: Store>(
     p: &Pla,
     joining: Joining,
     limit: u64,
-) -> Result<Monos, BasisRefusal>
+) -> Result<Monos, TermsRefusal>
     requires outputs { p.now.outputs ≡ 2 }
     requires vars { (S.state store.old).vars ≡ p.now.inputs }
     requires planned { Covers (S.state store.old).plan
@@ -156,7 +103,7 @@ fn basis_in<S: Store>(
     joining: Joining,
     leads: &[Mono],
     limit: u64,
-) -> Result<MonoLists, BasisRefusal>
+) -> Result<MonoLists, TermsRefusal>
     requires outputs { p.now.outputs ≡ 2 }
     requires vars { (S.state store.old).vars ≡ p.now.inputs }
     requires leads { reverse leads.now ≡ joint_leads (description p.now) joining }
@@ -175,7 +122,7 @@ fn leads_on(
     p: &Pla,
     joining: Joining,
     limit: u64,
-) -> Result<Monos, BasisRefusal>
+) -> Result<Monos, TermsRefusal>
     requires bits { (MIN_BITS ≤ bits) × (bits ≤ MAX_BITS) }
     requires outputs { p.now.outputs ≡ 2 }
     ensures { FindsLeads (first_nodes (description p.now) joining) (2 ^ bits) limit
@@ -194,7 +141,7 @@ fn basis_on(
     joining: Joining,
     leads: &[Mono],
     limit: u64,
-) -> Result<MonoLists, BasisRefusal>
+) -> Result<MonoLists, TermsRefusal>
     requires bits { (MIN_BITS ≤ bits) × (bits ≤ MAX_BITS) }
     requires outputs { p.now.outputs ≡ 2 }
     requires leads { reverse leads.now ≡ joint_leads (description p.now) joining }
@@ -212,7 +159,7 @@ fn joint_basis_on(
     p: &Pla,
     joining: Joining,
     limit: u64,
-) -> Result<MonoLists, BasisRefusal>
+) -> Result<MonoLists, TermsRefusal>
     requires bits { (MIN_BITS ≤ bits) × (bits ≤ MAX_BITS) }
     requires outputs { p.now.outputs ≡ 2 }
     ensures basis { IfOk result (λ lists. IsJointBasis (description p.now) joining
@@ -236,7 +183,7 @@ fn joint_basis_at_once(
     p: &Pla,
     joining: Joining,
     limit: u64,
-) -> Result<MonoLists, BasisRefusal>
+) -> Result<MonoLists, TermsRefusal>
     requires bits { (MIN_BITS ≤ bits) × (bits ≤ MAX_BITS) }
     requires outputs { p.now.outputs ≡ 2 }
     ensures basis { IfOk result (λ lists. IsJointBasis (description p.now) joining
@@ -244,7 +191,7 @@ fn joint_basis_at_once(
     ensures within { IfOk result (λ lists. first_refused bits limit (description p.now) joining
         (map reverse lists) ≡ None) }
     ensures refused { IfErr result
-        (λ e. e ≢ refusals.Memory → e ≢ refusals.Exhausted → (basis : List Family)
+        (λ e. e ≢ refusals.Memory → e ≢ refusals.Full → (basis : List Family)
         → IsJointBasis (description p.now) joining basis
         → first_refused bits limit (description p.now) joining basis ≡ Some e) }
 {
@@ -258,15 +205,16 @@ fn joint_basis_at_once(
 /// outputs 1 and 2: the terms of each element from the greatest to the least, the elements by
 /// ascending lead. Each of two phases works on a table of 2^bits slots of its own: the first finds
 /// the leads, which are counted and listed, and the second the elements, whose terms are counted.
-/// The refusal is that of the first limit that is passed, or want of memory. Smaller tables are
-/// tried first that the description may do with, each for both phases.
+/// The refusal is that of the first limit that is passed, `Full` for the slots of a table and
+/// `Over` for the leads and the terms of the elements, or want of memory. Smaller tables are tried
+/// first that the description may do with, each for both phases.
 pub fn joint_basis(
     alloc: Global,
     bits: u32,
     p: &Pla,
     joining: Joining,
     limit: u64,
-) -> Result<MonoLists, BasisRefusal>
+) -> Result<MonoLists, TermsRefusal>
     requires bits { (MIN_BITS ≤ bits) × (bits ≤ MAX_BITS) }
     requires outputs { p.now.outputs ≡ 2 }
     ensures basis { IfOk result (λ lists. IsJointBasis (description p.now) joining
@@ -281,7 +229,7 @@ pub fn joint_basis(
     let mut tried = first_bits(p, bits, true);
     while tried < bits {
         match joint_basis_at_once(alloc, tried, p, joining, limit) {
-            Err(BasisRefusal::Exhausted) => tried = next_bits(tried, bits),
+            Err(TermsRefusal::Full) => tried = next_bits(tried, bits),
             basis => return basis,
         }
     }

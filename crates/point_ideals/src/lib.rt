@@ -5,4 +5,4 @@ mod joined;
 pub mod laws;
 mod phases;
 
-pub use crate::joined::{BasisRefusal, Joining, joint_basis};
+pub use crate::joined::{Joining, joint_basis};

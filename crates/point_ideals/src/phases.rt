@@ -14,9 +14,9 @@ ghost use Rattle.point_ideals.specs.Joined.{second_phase_list};
 
 use crate::joined::Joining;
 use bool_poly::Serial;
-use cube_build::{CubesRefusal, care_points};
+use cube_build::care_points;
 use lattice::Mono;
-use node_store::{Full, Handle, Store};
+use node_store::{Full, Handle, SolveRefusal, Store};
 use pla_reader::Pla;
 use set_algebra::{inter, union};
 use std::alloc::Global;
@@ -89,7 +89,7 @@ fn elements<S: Store>(
     store: &mut S,
     points: Handle,
     leads: &[Mono],
-) -> Result<Vec<Handle>, CubesRefusal>
+) -> Result<Vec<Handle>, SolveRefusal>
     requires points { Knows (S.state store.old) points }
     requires leads { let s = S.state store.old in
         All (λ m. (m < 2 ^ s.vars) × IsLead s.vars (family s points) m) (reverse leads.now) }
@@ -100,7 +100,7 @@ fn elements<S: Store>(
     ensures elements { IfOk result
         (λ found. HoldsElements (S.state store.new) (family (S.state store.old) points)
         (reverse leads.now) found.items) }
-    ensures full { IsErrOf result CubesRefusal.Full
+    ensures full { IsErrOf result SolveRefusal.Full
         → IsFull (S.state store.old) (S.state store.new) }
 {
     let mut found = Vec::new(alloc);
@@ -118,7 +118,7 @@ pub(crate) fn second_phase<S: Store>(
     p: &Pla,
     joining: Joining,
     leads: &[Mono],
-) -> Result<Vec<Handle>, CubesRefusal>
+) -> Result<Vec<Handle>, SolveRefusal>
     requires outputs { p.now.outputs ≡ 2 }
     requires vars { (S.state store.old).vars ≡ p.now.inputs }
     requires leads { reverse leads.now ≡ joint_leads (description p.now) joining }
@@ -127,7 +127,7 @@ pub(crate) fn second_phase<S: Store>(
     ensures grows { Grows (S.state store.old) (S.state store.new) }
     ensures elements { IfOk result
         (λ found. HoldsBasis (S.state store.new) (description p.now) joining found.items) }
-    ensures full { IsErrOf result CubesRefusal.Full
+    ensures full { IsErrOf result SolveRefusal.Full
         → IsFull (S.state store.old) (S.state store.new) }
 {
     let found = first_phase(store, p, joining)?;

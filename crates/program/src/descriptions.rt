@@ -10,9 +10,6 @@ use cube_sets::conflict;
 use lattice::Memory;
 use pla_reader::{Pla, ReadRefusal};
 
-/// The source of a program that reads one description may give so many bytes.
-pub const MOST_BYTES: usize = 4_194_304;
-
 impl<E> From<ReadRefusal> for Outcome<E> {
     ghost from_gives = { λ refusal o. o ≡ unread_outcome refusal };
 

@@ -11,7 +11,7 @@ mod programs;
 mod runs;
 mod start;
 
-pub use crate::descriptions::{MOST_BYTES, behind, check_rows};
+pub use crate::descriptions::{behind, check_rows};
 pub use crate::lines::{
     LONGEST_MESSAGE, LONGEST_NAME, Message, count_message, fixed_message, refusal_message,
 };

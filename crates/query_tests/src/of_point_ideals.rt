@@ -2,7 +2,8 @@ ghost use Rattle.std.specs.Prelude.{◌<◌, ◌≤◌, length};
 
 use lattice::{Mono, MonoLists};
 use pla_reader::read;
-use point_ideals::{BasisRefusal, Joining, joint_basis};
+use point_ideals::{Joining, joint_basis};
+use set_algebra::TermsRefusal;
 use std::alloc::Global;
 use std::test::Fail;
 
@@ -13,7 +14,7 @@ fn basis_of(
     file: &[u8],
     joining: Joining,
     limit: u64,
-) -> Result<Result<MonoLists, BasisRefusal>, Fail>
+) -> Result<Result<MonoLists, TermsRefusal>, Fail>
     requires bits { (4 ≤ bits) × (bits ≤ 8) }
     requires file { length file.now < 200 }
 {
@@ -72,7 +73,7 @@ fn limits_of_terms(rt: HostRuntime) -> Result<(), Fail> {
     assert!(rt; are(&whole, &[first, &[Mono(4), Mono(0)]]));
     for limit in [0, 1, 2, 5] {
         let refused = basis_of(rt.alloc(), 4, file, Joining::Meet, limit)?.err();
-        assert_eq!(rt; refused, Some(BasisRefusal::Terms));
+        assert_eq!(rt; refused, Some(TermsRefusal::Over));
     }
     Ok(())
 }
@@ -83,9 +84,9 @@ fn limits_of_terms(rt: HostRuntime) -> Result<(), Fail> {
 fn exhausted_second(rt: HostRuntime) -> Result<(), Fail> {
     let file = b".i 3\n.o 2\n11- 0-\n--0 0-\n";
     let refused = basis_of(rt.alloc(), 4, file, Joining::Meet, 2)?.err();
-    assert_eq!(rt; refused, Some(BasisRefusal::Exhausted));
+    assert_eq!(rt; refused, Some(TermsRefusal::Full));
     let counted = basis_of(rt.alloc(), 4, file, Joining::Meet, 1)?.err();
-    assert_eq!(rt; counted, Some(BasisRefusal::Terms));
+    assert_eq!(rt; counted, Some(TermsRefusal::Over));
     let whole = basis_of(rt.alloc(), 5, file, Joining::Meet, 3)??;
     assert!(rt; are(&whole, &[&[Mono(1), Mono(0)], &[Mono(6)]]));
     Ok(())
@@ -96,8 +97,8 @@ fn exhausted_second(rt: HostRuntime) -> Result<(), Fail> {
 fn exhausted_first(rt: HostRuntime) -> Result<(), Fail> {
     let file = b".i 4\n.o 2\n1110 1-\n";
     let refused = basis_of(rt.alloc(), 4, file, Joining::Meet, 0)?.err();
-    assert_eq!(rt; refused, Some(BasisRefusal::Exhausted));
+    assert_eq!(rt; refused, Some(TermsRefusal::Full));
     let counted = basis_of(rt.alloc(), 5, file, Joining::Meet, 0)?.err();
-    assert_eq!(rt; counted, Some(BasisRefusal::Terms));
+    assert_eq!(rt; counted, Some(TermsRefusal::Over));
     Ok(())
 }

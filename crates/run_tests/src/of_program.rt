@@ -1,5 +1,5 @@
-use pla_reader::{Why, read};
-use program::{MOST_BYTES, NoEnd, Outcome, behind};
+use pla_reader::{MOST_BYTES, Why, read};
+use program::{NoEnd, Outcome, behind};
 use std::test::Fail;
 
 // A description, the bytes behind it, and two causes of a refusal; the second is found in the last

@@ -2,11 +2,12 @@ use interp_list::{are_care_points, least_list};
 use lattice::{Memory, Mono, Words};
 use outside::{MemSink, SureSource};
 use program::run;
+use set_algebra::TermsRefusal;
 use std::alloc::{AllocError, Global};
 use std::process::Abort;
 use std::test::Fail;
 use std::thread::Threads;
-use uses_library::{Refusal, RowCount, least_terms, run_on};
+use uses_library::{RowCount, least_terms, run_on};
 
 const TWO_POINTS: &str = ".i 2\n.o 1\n.type fr\n11 1\n00 0\n";
 
@@ -76,7 +77,7 @@ fn one_term_too_many(rt: HostRuntime) {
     let (zeros, ones) = ([0, 1, 2, 4], [3, 5, 6, 7]);
     assert!(rt; are_care_points(3, &zeros, &ones));
     let found = least_terms(rt.alloc(), 3, &zeros, &ones, 2);
-    assert_eq!(rt; found.err(), Some(Refusal::Long));
+    assert_eq!(rt; found.err(), Some(TermsRefusal::Over));
 }
 
 // Runs the program on a file, and compares the status and the text.

@@ -16,8 +16,10 @@ use Rattle.set_algebra.specs.GivenPoints.{GivesPoints}
 use Rattle.set_algebra.specs.declared.points.ValuedPoints.{ValuedPoints}
 -- errors where points are given, and points that are given after reads or as others
 pub use Rattle.set_algebra.proofs.GivenPoints.{points_failed, failed_points, points_after, points_as}
--- terms later, and walks that were over their limit
-pub use Rattle.set_algebra.proofs.TermLemmas.{terms_of-later, walk_was_over}
+-- terms later
+pub use Rattle.set_algebra.proofs.TermLemmas.{terms_of-later}
+-- errors where terms are given
+pub use Rattle.set_algebra.proofs.Refusals.{walk_was_over}
 
 -- the handle has this family, which is one over d variables
 abbrev pub IsAtHand : State → ℕ → Handle → Family → Type 0

@@ -3,4 +3,5 @@ pub mod Calls
 mod GivenPoints
 mod HalvesLemmas
 mod PairLemmas
+mod Refusals
 mod TermLemmas

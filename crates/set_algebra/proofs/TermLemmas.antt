@@ -10,8 +10,6 @@ use Rattle.lattice.specs.Words.{Family}
 use Rattle.node_store.specs.Stores.{State, Knows, family, no_handle, Grows}
 use Rattle.node_store.proofs.StoreLaws.{Grows-family, length-later}
 use Rattle.node_store.specs.declared.store.Handle.{Handle}
-use Rattle.set_algebra.specs.declared.counted.WalkRefusal.{WalkRefusal}
-use Rattle.set_algebra.specs.declared.counted.WalkRefusal.TheVariants.{Over, Memory}
 use Rattle.set_algebra.specs.Terms.{terms_of}
 
 -- the terms of one element
@@ -49,9 +47,3 @@ lists_more s t hs i before after terms grows known within so_far is pushed =
     ∙ (reverse-reverse (family t h) ∙ Grows-family s t h grows (All-get_or (Knows s) hs i no_handle within known)) in
     rw (pushed, map_push reverse before terms, so_far, last) (sym (map_more (family s) hs i no_handle within))
 
--- a walk that ended in an error which is passed on as `over` was over its limit
-pub walk_was_over : {T E : Type 0} (r : Result T E) (w : WalkRefusal) (over memory : E)
-    → IsErrAnd r (λ e. (w ≡ Over → e ≡ over) × (w ≡ Memory → e ≡ memory)) → (memory ≡ over → ⊥) → IsErrOf r over → w ≡ Over
-walk_was_over r Over over memory passed apart is = refl
-walk_was_over (Ok t) Memory over memory passed apart is = cc
-walk_was_over (Err e) Memory over memory passed apart is = grind arith

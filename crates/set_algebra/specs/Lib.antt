@@ -4,3 +4,4 @@ pub mod GivenPoints
 pub mod ReadyStores
 pub mod Begins
 pub mod Terms
+pub mod Refusals

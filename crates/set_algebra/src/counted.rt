@@ -7,7 +7,7 @@ ghost use Rattle.node_store.specs.Stores.{Knows, family, Reads};
 use crate::halves::split;
 use lattice::{Memory, Mono, Monos};
 use node_store::{Handle, Store};
-use std::alloc::Global;
+use std::alloc::{AllocFailed, Global};
 use thiserror::Error;
 
 /// Why members were not listed.
@@ -25,6 +25,16 @@ impl From<Memory> for WalkRefusal {
     ghost from_gives = { λ _ e. e ≡ refusals.Memory };
 
     fn from(_e: Memory) -> WalkRefusal {
+        WalkRefusal::Memory
+    }
+}
+
+impl<T: Drop> From<AllocFailed<T>> for WalkRefusal {
+    ghost use Rattle.set_algebra.specs.declared.counted.WalkRefusal.TheVariants as refusals;
+
+    ghost from_gives = { λ _ e. e ≡ refusals.Memory };
+
+    fn from(_e: AllocFailed<T>) -> WalkRefusal {
         WalkRefusal::Memory
     }
 }

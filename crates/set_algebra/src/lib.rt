@@ -7,6 +7,7 @@ mod listed;
 mod pairs;
 mod points;
 mod pointwise;
+mod refusal;
 mod single;
 mod terms;
 
@@ -15,5 +16,6 @@ pub use crate::listed::family_of;
 pub use crate::pairs::{Cofactors, cut};
 pub use crate::points::ValuedPoints;
 pub use crate::pointwise::{Begun, Halved, begin, combine, finish, inter, minus, union, xor};
+pub use crate::refusal::TermsRefusal;
 pub use crate::single::{contains, one, power};
 pub use crate::terms::{count_terms, lists_of, lists_upto, terms_of};

@@ -3,7 +3,7 @@ use Rattle.std.specs.Prelude.{◌≡◌, ◌++◌, [], true, ℕ, List, Result, 
 use Rattle.pla_reader.specs.Reading.{Description, reading_of}
 use Rattle.pla_reader.specs.declared.refusal.Refusal.{Refusal}
 use Rattle.program.specs.Duties.{Due, Duty, done, silent}
-use Rattle.program.specs.declared.descriptions.TheConstants.{MOST_BYTES}
+use Rattle.pla_reader.specs.declared.reading.TheConstants.{MOST_BYTES}
 use Rattle.program.specs.declared.outcome.NoEnd.{NoEnd}
 use Rattle.program.specs.declared.outcome.Outcome.TheVariants as ends
 

@@ -8,8 +8,8 @@ use arrayvec::ArrayString;
 use itoa::Buffer;
 use lattice::Words;
 use outside::Sink;
-use pla_reader::{Pla, read};
-use program::{MOST_BYTES, NoEnd, Outcome, Program, write_page};
+use pla_reader::{MOST_BYTES, Pla, read};
+use program::{NoEnd, Outcome, Program, write_page};
 use std::alloc::Global;
 use watch::Watch;
 

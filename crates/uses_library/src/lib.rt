@@ -7,5 +7,5 @@ mod listed;
 mod whole;
 
 pub use crate::counted::RowCount;
-pub use crate::listed::{Refusal, least_terms};
+pub use crate::listed::least_terms;
 pub use crate::whole::{Ended, run_on};

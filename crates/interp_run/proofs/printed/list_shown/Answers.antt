@@ -2,9 +2,8 @@ use Rattle.std.proofs.Common.{◌∙◌, Err, ap, arith, drop, get_or, length, m
 use Rattle.std.proofs.lemmas.List.Sums.{sum_by-drop_more}
 use Rattle.node_store.specs.Stores.{no_handle}
 use Rattle.node_store.proofs.StoreLaws.{All_known-later, Grows-knows, Grows-trans, Reads-refl, Reads-trans}
-use Rattle.set_algebra.proofs.Calls.{walk_was_over}
+use Rattle.lattice.proofs.Polynomials.{same_error}
 use Rattle.interp_run.specs.Phases.{answer_in, second_terms, terms_of}
-use Rattle.interp_run.specs.declared.phases.Unsolved.TheVariants.{Terms, Memory}
 use Rattle.interp_run.proofs.GroupedElements.{next_output, no_more_outputs}
 use Rattle.interp_run.proofs.Written.{KnowsOutput-at, shown_more, solved_so_far}
 use Rattle.interp_run.proofs.printed.list_shown.Goals as goal
@@ -24,7 +23,7 @@ returns-in_err-terms_of-clause-terms g c is =
     c.loop-index.invariant.rest c.index-leads-index.result no_handle c.loop-index-test.true (omega (arith, c.requires.polynomials))
     c.index-leads-index.is in
     let to_t = c.loop-index.invariant.reads.grows in
-    let over = walk_was_over c.from_residual.result c.in_err-terms_of.field-0.0 Terms Memory c.from_residual.ensures.1 (λ e. cc) is in
+    let over = same_error c.from_residual.result c.in_err-terms_of.field-0.0 _ c.from_residual.ensures.1 is in
     let more = solved_so_far _ _ _ _ turn.0 turn.1 c.requires.known _ _ to_t to_t in
     omega (arith, more, c.loop-index.invariant.left, c.in_err-terms_of.ensures.over (ap Err over))
 
@@ -46,8 +45,8 @@ returns-in_err-lists_of-clause-terms g c is =
     let basis = c.split_at.ensures.front ∙ ap (λ k. take k c.loop-index.rest.now) c.len.ensures in
     let to_t = c.loop-index.invariant.reads.grows in
     let to_u = Grows-trans _ _ _ to_t c.terms_of.ensures.reads.grows in
-    let over = walk_was_over c.from_residual-in_err-lists_of.result c.in_err-lists_of.field-0.0 Terms Memory
-    c.from_residual-in_err-lists_of.ensures.1 (λ e. cc) is in
+    let over = same_error c.from_residual-in_err-lists_of.result c.in_err-lists_of.field-0.0 _
+    c.from_residual-in_err-lists_of.ensures.1 is in
     let more = solved_so_far _ _ _ _ turn.0 turn.1 c.requires.known _ _ to_t to_u in
     let listed = ap (terms_of (g.S.Store.state c.terms_of.new.store)) basis in
     let rest = c.in_err-lists_of.ensures.over (ap Err over) in

@@ -5,8 +5,8 @@ use Rattle.lattice.specs.Words.{is_basis, second_phase}
 use Rattle.computed_cache.specs.Cached.{cached_sound, cached_state}
 use Rattle.pla_reader.specs.Reading.{description}
 use Rattle.anf_printer.specs.Text.{shown_answer}
-use Rattle.lattice.proofs.Polynomials.{same_error}
 use Rattle.node_store.proofs.StoreLaws.{fits}
+use Rattle.set_algebra.proofs.Calls.{walk_was_over}
 use Rattle.interp_run.specs.Parts.{jobs_for}
 use Rattle.interp_run.specs.Phases.{answer_in, answers_for}
 use Rattle.interp_run.proofs.PhaseLists.{first_later}
@@ -67,7 +67,7 @@ returns-in_err-shown-clause-terms g c is =
     let size = rw (c.new-pass.ensures.state, c.pass.ensures.state, c.in_ok-table.ensures.state) at c.in_ok-first.ensures.grows.capacity in
     last_terms_over job d c.requires.consistent c.requires.fits (omega (arith, room, size, pow_mono c.requires.bits.1))
     (rw (c.deref-2.ensures.value, c.deref-3.ensures.value, answers_counted d job.mode u _ are) at (c.in_err-shown.ensures.terms
-    (ap Err (same_error c.from_residual-in_err-shown.result c.in_err-shown.field-0.0 _ c.from_residual-in_err-shown.ensures.1 is))))
+    (ap Err (walk_was_over c.from_residual-in_err-shown.result c.in_err-shown.field-0.0 c.from_residual-in_err-shown.ensures.1 is))))
 
 pub returns-clause-jobs : goal.returns-clause-jobs
 returns-clause-jobs g c =

@@ -1,3 +1,4 @@
+use Rattle.std.proofs.lemmas.Result.{IfOk-weaker}
 use Rattle.computed_cache.specs.Cached.{cached_state}
 use Rattle.pla_reader.specs.Reading.{description}
 use Rattle.interp_run.proofs.TaskJobs.{may_work, solved_done}
@@ -12,5 +13,5 @@ all-requires-clause-may g c κs within =
 pub returns-clause-done : goal.returns-clause-done
 returns-clause-done g c =
     let tasks = c.args.tasks.now in
-    solved_done (description tasks.pla.now) (cached_state c.all.new.pass) (cached_state c.args.store.now) tasks.cares.now tasks.list.now
-    c.in_ok-found.found.items c.in_ok-found.ensures.solved
+    IfOk-weaker c.all.result _ _ (λ found solved. solved_done (description tasks.pla.now) (cached_state c.all.new.pass)
+    (cached_state c.args.store.now) tasks.cares.now tasks.list.now found.items solved) c.all.ensures.solved

@@ -14,7 +14,7 @@ returns-in_err-check_rows-clause-err c =
 pub returns-in-Err-reduce-clause-err : goal.returns-in-Err-reduce-clause-err
 returns-in-Err-reduce-clause-err c =
     let e = c.in-Err-reduce.ensures in
-    rw c.end_reducing.ensures (unreduced_ends (c.in-Ok.ensures.reading ∙ ap Ok (sym c.as_slice.ensures)) c.in_ok-check_rows.ensures.ok
+    rw c.stop.ensures (unreduced_ends (c.in-Ok.ensures.reading ∙ ap Ok (sym c.as_slice.ensures)) c.in_ok-check_rows.ensures.ok
     c.in-Err-reduce.refusal (λ is. e.exhausted (ap Err is)) (λ is. e.terms (ap Err is)))
 
 pub answers_text-requires-clause-families : goal.answers_text-requires-clause-families

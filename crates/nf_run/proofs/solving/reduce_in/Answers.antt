@@ -1,6 +1,5 @@
 use Rattle.std.proofs.Common.{Err, ap, arith}
 use Rattle.set_algebra.proofs.Calls.{walk_was_over}
-use Rattle.nf_run.specs.declared.solving.ReduceRefusal.TheVariants.{Memory, Terms}
 use Rattle.nf_run.proofs.QueryAnswers.{handles_known, lists_right, nodes_fit, terms_are}
 use Rattle.nf_run.proofs.solving.reduce_in.Goals as goal
 
@@ -13,8 +12,8 @@ lists_of-requires g c = rw c.deref.ensures.value (handles_known c.in_ok-found.en
 pub returns-in_err-lists_of-clause-terms : goal.returns-in_err-lists_of-clause-terms
 returns-in_err-lists_of-clause-terms g c is =
     let are = c.in_ok-found.ensures.answers in
-    let over = walk_was_over c.from_residual-in_err-lists_of.result c.in_err-lists_of.field-0.0 Terms Memory
-    c.from_residual-in_err-lists_of.ensures.1 (λ e. cc) is in
+    let over = walk_was_over c.from_residual-in_err-lists_of.result c.in_err-lists_of.field-0.0
+    c.from_residual-in_err-lists_of.ensures.1 is in
     let more = rw c.deref.ensures.value at (c.in_err-lists_of.ensures.over (ap Err over)) in (
       omega (arith, nodes_fit are (g.met.S.Store.sound c.answer_queries.new.store), c.in_ok-found.ensures.grows.capacity),
       omega (arith, terms_are are, more),

@@ -3,7 +3,7 @@ use Rattle.file_stream.specs.Files.{IsPiece}
 use Rattle.file_stream.specs.declared.cutter.Piece.{Piece}
 use Rattle.program.specs.Duties.{IsDueFor}
 use Rattle.program.specs.Runs.{EndsWithout}
-use Rattle.program.specs.declared.descriptions.TheConstants.{MOST_BYTES}
+use Rattle.pla_reader.specs.declared.reading.TheConstants.{MOST_BYTES}
 use Rattle.program.specs.declared.outcome.Outcome.TheVariants as ends
 use Rattle.interp_run.specs.Duty.{interp_duty}
 use Rattle.batch_pipe.proofs.Answered.{due_alone, ends_alone, long_alone}
