@@ -81,6 +81,7 @@ pub fn part_with<S: Store>(
 /// What there is before the halves of `ones_of`: the result, where a look at the handles is enough
 /// or it is kept, and else `h` and `set`, cut at their first variable. The low half is that of both
 /// low parts, and the high half that of `part_with`.
+#[inline(always)]
 pub fn begin_ones<S: Store>(store: &mut S, h: Handle, set: Handle) -> Begun
     requires { AsksOnes (S.state store.old) h set }
     ensures reads { Reads (S.state store.old) (S.state store.new) }
@@ -120,6 +121,7 @@ pub fn begin_ones<S: Store>(store: &mut S, h: Handle, set: Handle) -> Begun
 
 /// What there is after the halves of `ones_of`, `lo` of the points without the variable of the cut
 /// and `hi` of those with it: the points over both, which are kept.
+#[inline(always)]
 pub fn finish_ones<S: Store>(
     store: &mut S,
     halved: Halved,

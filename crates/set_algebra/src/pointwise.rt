@@ -88,6 +88,7 @@ pub enum Begun {
 
 /// What there is before the halves of a pointwise operation: its result, where it needs no look at
 /// the nodes or is kept, and else the operands in order, cut at their first variable.
+#[inline(always)]
 pub fn begin<S: Store>(store: &mut S, op: Op, a: Handle, b: Handle) -> Begun
     requires op { is_pointwise op ≡ true }
     requires asks { Asks op (S.state store.old) a b }
@@ -116,6 +117,7 @@ pub fn begin<S: Store>(store: &mut S, op: Op, a: Handle, b: Handle) -> Begun
 
 /// What there is after the halves of a pointwise operation, `lo` of the low parts and `hi` of the
 /// high ones: the result over both, which is kept.
+#[inline(always)]
 pub fn finish<S: Store>(
     store: &mut S,
     op: Op,

@@ -163,8 +163,9 @@ impl<'t> Pass<'t> {
     }
 
     // Looks at the place that stands so many steps along the word's path, and puts the word there
-    // where it is vacant. None where another word stands there.
-    fn visit<J: Asked>(&mut self, word: u64, steps: usize) -> Option<usize>
+    // where it is vacant. None where another word stands there. `bits` are the table's.
+    fn visit<J: Asked>(&mut self, bits: u32, word: u64, steps: usize) -> Option<usize>
+        requires bits { bits ≡ self.old.bits }
         requires word { J.asked ≡ word }
         requires last { J.last ≡ (steps + 1 == 2 ^ self.old.bits) }
         requires asked { IsAsked self.old.seat.me.0 word }
@@ -178,7 +179,7 @@ impl<'t> Pass<'t> {
             ((other : ℕ) × Passes self.old.seat.me.0 J.last (place self.old.bits word steps) other
             word self.new.seat.me.0) }
     {
-        let place = probe_place(self.bits, word, steps);
+        let place = probe_place(bits, word, steps);
         let found = self.probe::<J>(place);
         if found == word {
             return Some(place);
@@ -211,8 +212,10 @@ impl<'t> Pass<'t> {
         ensures none { IfNone result (AllOthers self.old.seat.me.0 word self.new.seat.me.0) }
         ensures vacant { IsNew self.old.seat.me.0 → result ≡ Some (place self.old.bits word 0) }
     {
+        // (read once: nothing that a step calls is known not to change it)
+        let bits = self.bits;
         for steps in 0..self.slots() {
-            let slot = self.visit::<Brand>(word, steps);
+            let slot = self.visit::<Brand>(bits, word, steps);
             if slot.is_some() {
                 return slot;
             }
