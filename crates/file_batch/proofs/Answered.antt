@@ -1,5 +1,5 @@
 -- What one thread wrote, as what two of them would.
-use Rattle.std.proofs.Common.{◌≡◌, ℕ, ◌≤◌, List, [], ◌∷◌, ◌++◌, length, take, refl, sym, true≢false}
+use Rattle.std.proofs.Common.{ℕ, ◌≤◌, List, [], ◌∷◌, ◌++◌, length, take, refl, sym, true≢false}
 use Rattle.std.specs.Prelude.{Option, Result, Ok, Err, OnOk, IsOk}
 use Rattle.std.proofs.KnownBytes.{Appends-nil}
 use Rattle.std.specs.Io.KnownBytes.{Appends, Consumes, IsAtEnd}

@@ -1,15 +1,10 @@
 -- The blocks of the messages so far, when one more is written.
-use Rattle.std.proofs.Common.{◌≡◌, ℕ, suc, ◌+◌, List, [], ◌∷◌, ◌++◌, length, take, refl, sym, ap, ◌∙◌, subst, append_assoc, append-nil}
-use Rattle.std.proofs.Common.{arith}
-use Rattle.std.specs.Prelude.{Bool, true, false, Option, Some, None, Result, Ok, Err, OnOk, OnErr, is_err}
+use Rattle.std.proofs.Common.{◌≡◌, ℕ, List, [], ◌∷◌, ◌++◌, refl, sym, ap, ◌∙◌, append_assoc, append-nil}
+use Rattle.std.specs.Prelude.{true, false, Option, Result, Ok, Err, OnOk, OnErr, is_err}
 use Rattle.std.proofs.Common.{true≢false}
 use Rattle.std.specs.Io.KnownBytes.{Appends}
-use Rattle.outside.specs.Causes.{GainsFront}
 use Rattle.outside.proofs.Known.{appends_both}
-use Rattle.file_relay.specs.Messages.{HaveFiles, is_end, has_no_end}
 use Rattle.file_relay.specs.declared.message.Message.{Message}
-use Rattle.file_relay.specs.declared.message.Message.TheVariants.{File, End}
-use Rattle.file_batch.specs.Blocks.{AreBlocks}
 use Rattle.file_batch.specs.Progress.{AreTold, HasWritten, IsToldOf, Progress, going, stopped, whole, part, nothing}
 use Rattle.file_batch.specs.declared.progress.Halt.{Halt}
 use Rattle.file_batch.specs.declared.progress.Halt.TheVariants.{Fault, Memory}

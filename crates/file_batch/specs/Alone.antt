@@ -1,8 +1,8 @@
 -- What was written of the bytes that one thread read.
 use Rattle.std.specs.Prelude.{◌≡◌, ℕ, List, length, Option, Result}
 use Rattle.file_stream.specs.Cutters.{IsAt}
-use Rattle.file_stream.specs.Files.{files_of}
-use Rattle.file_relay.specs.Messages.{HaveFiles, IsCut}
+use Rattle.file_stream.specs.Files.{files_of, IsCut}
+use Rattle.file_relay.specs.Messages.{HaveFiles}
 use Rattle.file_relay.specs.declared.message.Message.{Message}
 use Rattle.file_batch.specs.Progress.{Progress}
 use Rattle.file_batch.specs.declared.alone.Reading.{Reading}

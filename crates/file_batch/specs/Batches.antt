@@ -2,8 +2,7 @@
 use Rattle.std.specs.Prelude.{◌≡◌, ◌⊎◌, ◌≤◌, ℕ, List, length, take, Option}
 use Rattle.std.specs.Io.KnownBytes.{Appends, Consumes, IsAtEnd}
 use Rattle.outside.specs.Causes.{GainsFront}
-use Rattle.file_stream.specs.Files.{files_of}
-use Rattle.file_relay.specs.Messages.{IsCut}
+use Rattle.file_stream.specs.Files.{files_of, IsCut}
 use Rattle.file_relay.specs.declared.reader.TheConstants.{MOST_STREAM}
 use Rattle.file_batch.specs.Blocks.{AreBlocks}
 

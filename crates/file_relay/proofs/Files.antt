@@ -1,9 +1,6 @@
 -- The files that were sent, when one more is.
-use Rattle.std.proofs.Common.{◌≡◌, ℕ, suc, ◌+◌, true, List, [], ◌∷◌, ◌++◌, length, refl, sym, ap, ◌∙◌, subst, append_assoc, append-nil}
-use Rattle.std.proofs.Common.{take, drop, take-append-drop, arith}
-use Rattle.file_stream.specs.Files.{files_of, IsFirstFile}
-use Rattle.file_relay.specs.Messages.{HasFile, HaveFiles, IsCut, has_no_end}
-use Rattle.file_relay.specs.Reading.{ArePartly}
+use Rattle.std.proofs.Common.{◌≡◌, ℕ, suc, ◌+◌, true, List, [], ◌∷◌, ◌++◌, length, refl, subst, arith}
+use Rattle.file_relay.specs.Messages.{HasFile, HaveFiles, has_no_end}
 use Rattle.file_relay.specs.declared.message.Message.{Message}
 use Rattle.file_relay.specs.declared.message.Message.TheVariants.{File, End}
 
@@ -24,17 +21,3 @@ no_end_of n (m ∷ ms) [] h = absurd h
 no_end_of n (File k piece ∷ ms) (f ∷ fs) h = no_end_of (n + 1) ms fs h.1
 no_end_of n (End ∷ ms) (f ∷ fs) h = absurd h.0
 
--- more was read
-pub cut_more : (read : List ℕ) (done : List (List ℕ)) (rest x : List ℕ) → IsCut read done rest → IsCut (read ++ x) done (rest ++ x)
-cut_more read done rest x h more =
-    ap files_of (append_assoc read x more) ∙ (h (x ++ more) ∙ ap (λ t. done ++ files_of t) (sym (append_assoc rest x more)))
-
--- what was left ends a file with the bytes that follow
-pub cut_file : (read : List ℕ) (done : List (List ℕ)) (rest x : List ℕ) → IsCut read done rest → IsFirstFile (rest ++ x)
-    → IsCut (read ++ x) (done ++ (rest ++ x) ∷ []) []
-cut_file read done rest x h first more =
-    cut_more read done rest x h more ∙ (ap (λ t. done ++ t) (first more) ∙ sym (append_assoc done ((rest ++ x) ∷ []) (files_of more)))
-
--- at the end of the stream
-pub cut_end : (read : List ℕ) (done : List (List ℕ)) (rest : List ℕ) → IsCut read done rest → files_of read ≡ done ++ files_of rest
-cut_end read done rest h = ap files_of (sym (append-nil read)) ∙ (h [] ∙ ap (λ t. done ++ files_of t) (append-nil rest))

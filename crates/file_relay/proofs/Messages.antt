@@ -1,7 +1,6 @@
 -- What lists of messages say when one more joins them, and that nothing is left where both sides ended.
-use Rattle.std.proofs.Common.{◌≡◌, ℕ, Bool, true, false, true≢false, List, [], ◌∷◌, ◌++◌, refl, sym, ap, ◌∙◌, append_assoc, append-nil}
-use Rattle.std.proofs.Common.{arith}
-use Rattle.std.specs.Prelude.{Option, if◌then◌else◌}
+use Rattle.std.proofs.Common.{◌≡◌, Bool, true, false, true≢false, List, [], ◌∷◌, ◌++◌, refl, sym, ap, ◌∙◌, append-nil}
+use Rattle.std.specs.Prelude.{if◌then◌else◌}
 use Rattle.file_relay.specs.declared.message.Message.{Message}
 use Rattle.file_relay.specs.declared.message.Message.TheVariants.{File, End}
 use Rattle.file_relay.specs.declared.link.Log.{Log}

@@ -1,6 +1,6 @@
 -- What messages say of the files of a stream.
 use Rattle.std.specs.Prelude.{◌≡◌, ℕ, ◌+◌, Bool, true, false, List, [], ◌∷◌, ◌++◌, if◌then◌else◌}
-use Rattle.file_stream.specs.Files.{files_of, IsPiece}
+use Rattle.file_stream.specs.Files.{IsPiece}
 use Rattle.file_relay.specs.declared.message.Message.{Message}
 use Rattle.file_relay.specs.declared.message.Message.TheVariants.{File, End}
 
@@ -19,10 +19,6 @@ HaveFiles number (m ∷ ms) (file ∷ files) = HasFile number m file × HaveFile
 -- the same, and then the end mark
 abbrev pub TellFiles : List Message → List (List ℕ) → Type 0
 TellFiles messages files = (ms : List Message) × (messages ≡ ms ++ End ∷ []) × HaveFiles 1 ms files
-
--- of the bytes that were read these files are done, and these bytes are left, whatever follows
-abbrev pub IsCut : (read : List ℕ) (done : List (List ℕ)) (rest : List ℕ) → Type 0
-IsCut read done rest = (more : List ℕ) → files_of (read ++ more) ≡ done ++ files_of (rest ++ more)
 
 -- ---- the end mark
 

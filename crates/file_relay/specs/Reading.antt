@@ -1,10 +1,10 @@
 -- What was read of a stream, and which of its files were sent.
 use Rattle.std.specs.Prelude.{◌≡◌, ◌≤◌, ◌<◌, ℕ, List, [], ◌∷◌, ◌++◌, length, Option}
 use Rattle.std.specs.Io.KnownBytes.{Consumes, IsAtEnd}
-use Rattle.file_stream.specs.Files.{files_of}
+use Rattle.file_stream.specs.Files.{files_of, IsCut}
 use Rattle.file_stream.specs.Cutters.{IsAt}
 use Rattle.file_stream.specs.declared.cutter.Cutter.{Cutter}
-use Rattle.file_relay.specs.Messages.{HaveFiles, IsCut}
+use Rattle.file_relay.specs.Messages.{HaveFiles}
 use Rattle.file_relay.specs.declared.message.Message.{Message}
 use Rattle.file_relay.specs.declared.message.Message.TheVariants.{End}
 use Rattle.file_relay.specs.declared.reader.TheConstants.{MOST_STREAM}

@@ -1,4 +1,5 @@
 mod Begun
+pub mod Cuts
 mod Digests
 mod Joined
 mod Keeping

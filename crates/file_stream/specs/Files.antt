@@ -34,3 +34,7 @@ IsPiece Long file = MOST_BYTES < length file
 -- the file that comes first in each stream that begins with these bytes
 abbrev pub IsFirstFile : List ℕ → Type 0
 IsFirstFile file = (more : List ℕ) → files_of (file ++ more) ≡ file ∷ files_of more
+
+-- of the bytes that were read these files are done, and these bytes are left, whatever follows
+abbrev pub IsCut : (read : List ℕ) (done : List (List ℕ)) (rest : List ℕ) → Type 0
+IsCut read done rest = (more : List ℕ) → files_of (read ++ more) ≡ done ++ files_of (rest ++ more)

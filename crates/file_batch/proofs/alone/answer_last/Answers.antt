@@ -1,7 +1,8 @@
 use Rattle.std.proofs.Common.{◌≡◌, ◌+◌, ◌++◌, [], ◌∷◌, length, ap, ◌∙◌, append-nil, arith}
 use Rattle.file_stream.specs.Files.{files_of}
+use Rattle.file_stream.proofs.Cuts.{cut_end}
 use Rattle.file_relay.specs.declared.message.Message.TheVariants.{File}
-use Rattle.file_relay.proofs.Files.{cut_end, have-snoc}
+use Rattle.file_relay.proofs.Files.{have-snoc}
 use Rattle.file_batch.proofs.alone.answer_last.Goals as goal
 
 pub returns-clause-all : goal.returns-clause-all

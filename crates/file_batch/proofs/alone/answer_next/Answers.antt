@@ -1,7 +1,8 @@
 use Rattle.std.proofs.Common.{◌≡◌, ◌+◌, ◌++◌, [], ◌∷◌, length, length-append, arith}
+use Rattle.file_stream.proofs.Cuts.{cut_file, cut_more}
 use Rattle.file_relay.specs.declared.message.Message.TheVariants.{File}
 use Rattle.lattice.proofs.Polynomials.{on_err}
-use Rattle.file_relay.proofs.Files.{cut_file, cut_more, have-snoc}
+use Rattle.file_relay.proofs.Files.{have-snoc}
 use Rattle.file_batch.proofs.alone.answer_next.Goals as goal
 
 pub returns-in_err-file-clause-refused : goal.returns-in_err-file-clause-refused

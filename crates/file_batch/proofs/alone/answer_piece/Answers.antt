@@ -1,7 +1,7 @@
 use Rattle.std.proofs.Common.{◌≡◌, ◌++◌, take, drop, ap, ◌∙◌, subst, append_assoc, take-append-drop}
-use Rattle.file_relay.specs.Messages.{IsCut}
 use Rattle.lattice.proofs.Polynomials.{on_err}
-use Rattle.file_relay.proofs.Files.{cut_more}
+use Rattle.file_stream.specs.Files.{IsCut}
+use Rattle.file_stream.proofs.Cuts.{cut_more}
 use Rattle.file_batch.proofs.alone.answer_piece.Goals as goal
 
 pub returns-in_err-answer_next-clause-refused : goal.returns-in_err-answer_next-clause-refused

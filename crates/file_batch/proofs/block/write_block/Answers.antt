@@ -1,7 +1,5 @@
-use Rattle.std.proofs.Common.{◌≡◌, ◌∙◌, rules}
+use Rattle.std.proofs.Common.{◌≡◌, rules}
 use Rattle.std.specs.List.{concat}
-use Rattle.std.specs.Io.KnownBytes.{Appends}
-use Rattle.outside.specs.Causes.{GainsFront}
 use Rattle.file_batch.specs.Blocks.{header}
 use Rattle.file_batch.proofs.Gains.{front_after, front_more, ok_after}
 use Rattle.file_batch.proofs.block.write_block.Goals as goal

@@ -1,4 +1,4 @@
-use Rattle.std.proofs.Common.{rules, ap, ◌∙◌, sym, ◌≡◌, ◌++◌}
+use Rattle.std.proofs.Common.{ap, ◌∙◌, sym, ◌++◌}
 use Rattle.crossbeam_channel.specs.Claims.{view}
 use Rattle.file_relay.proofs.Messages.{came_through}
 use Rattle.file_relay.proofs.Relays.{merges, totals}

@@ -1,8 +1,9 @@
 use Rattle.std.proofs.Common.{◌≡◌, ◌+◌, ◌++◌, [], ◌∷◌, length, ap, ◌∙◌, append-nil, arith}
 use Rattle.crossbeam_channel.specs.Claims.{view}
 use Rattle.file_stream.specs.Files.{files_of}
+use Rattle.file_stream.proofs.Cuts.{cut_end}
 use Rattle.file_relay.specs.declared.message.Message.TheVariants.{File}
-use Rattle.file_relay.proofs.Files.{cut_end, have-snoc}
+use Rattle.file_relay.proofs.Files.{have-snoc}
 use Rattle.file_relay.proofs.Messages.{sent_one}
 use Rattle.file_relay.proofs.reader.send_last.Goals as goal
 

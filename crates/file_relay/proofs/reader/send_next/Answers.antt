@@ -1,8 +1,9 @@
 use Rattle.std.proofs.Common.{◌≡◌, ◌+◌, ◌++◌, [], ◌∷◌, length, length-append, arith}
 use Rattle.crossbeam_channel.specs.Claims.{view}
+use Rattle.file_stream.proofs.Cuts.{cut_file, cut_more}
 use Rattle.file_relay.specs.declared.message.Message.TheVariants.{File}
 use Rattle.lattice.proofs.Polynomials.{on_err}
-use Rattle.file_relay.proofs.Files.{cut_file, cut_more, have-snoc}
+use Rattle.file_relay.proofs.Files.{have-snoc}
 use Rattle.file_relay.proofs.Messages.{sent_one}
 use Rattle.file_relay.proofs.reader.send_next.Goals as goal
 

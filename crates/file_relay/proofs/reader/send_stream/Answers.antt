@@ -1,9 +1,7 @@
-use Rattle.std.proofs.Common.{rules, arith, ◌≡◌, ◌≤◌, ◌+◌, ◌++◌, ◌∙◌, take, length, length-append, length-take}
-use Rattle.std.specs.Io.KnownBytes.{Consumes}
+use Rattle.std.proofs.Common.{rules, arith, ◌≡◌, ◌+◌, ◌++◌, ◌∙◌, take, length, length-append, length-take}
 use Rattle.crossbeam_channel.specs.Claims.{view}
 use Rattle.outside.proofs.Known.{consumes_both}
 use Rattle.file_stream.specs.Files.{files_of}
-use Rattle.file_relay.specs.Messages.{HaveFiles}
 use Rattle.file_relay.specs.Reading.{ArePartly, IsSent}
 use Rattle.lattice.proofs.Polynomials.{on_err}
 use Rattle.file_relay.proofs.Files.{no_end_of}
