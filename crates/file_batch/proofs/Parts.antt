@@ -1,8 +1,8 @@
 -- What was written of the files that were sent.
-use Rattle.std.proofs.Common.{◌≡◌, ℕ, suc, ◌+◌, List, [], ◌∷◌, ◌++◌, length, take, drop, get_or, refl, sym, ap, ◌∙◌, subst, append-nil}
+use Rattle.std.proofs.Common.{◌≡◌, ℕ, suc, ◌+◌, List, [], ◌∷◌, ◌++◌, length, take, drop, get_or, refl, sym, ap, ◌∙◌, subst}
 use Rattle.std.proofs.Common.{inl, inr, true≢false, arith}
-use Rattle.std.specs.Prelude.{◌≤◌, Option, Some, None, Result, Ok, Err, OnOk, OnErr, IsOk}
-use Rattle.std.specs.Io.KnownBytes.{Appends, Consumes, IsAtEnd}
+use Rattle.std.specs.Prelude.{Option, Result, Ok, Err, OnOk, OnErr, IsOk}
+use Rattle.std.specs.Io.KnownBytes.{Appends, Consumes}
 use Rattle.std.proofs.lemmas.List.{take_all}
 use Rattle.lattice.proofs.Polynomials.{left_nil}
 use Rattle.outside.specs.Causes.{GainsFront}
@@ -17,6 +17,16 @@ use Rattle.file_batch.specs.Blocks.{AreBlocks, IsBlock}
 use Rattle.file_batch.specs.Progress.{AreTold, IsToldOf, Progress, going, stopped}
 use Rattle.file_batch.specs.declared.progress.Halt.{Halt}
 use Rattle.file_batch.proofs.Gains.{all_front}
+
+-- messages to which one more was added are some
+pub some_left : (ms : List Message) (m : Message) → ms ++ m ∷ [] ≡ [] → ⊥
+some_left [] m e = omega (arith, ap length e)
+some_left (x ∷ ms) m e = omega (arith, ap length e)
+
+-- where one is the only one, none was before it
+pub alone_before : (ms : List Message) (m x : Message) → ms ++ m ∷ [] ≡ x ∷ [] → ms ≡ []
+alone_before [] m x e = refl
+alone_before (y ∷ ms) m x e = absurd (some_left ms m (ap (drop 1) e))
 
 module _ (answers : List ℕ → ℕ → List (List ℕ) → Type 0) where
   is_block : (n : ℕ) (m : Message) (file text : List ℕ) → IsToldOf answers m text → HasFile n m file → IsBlock answers n file text

@@ -1,5 +1,5 @@
 //! Both branches: one reads, cuts and sends, and the other answers and writes.
-ghost use Rattle.std.specs.Prelude.{◌≡◌, true, false, [], OnErr, OnOk, IsErrOf, IsOk};
+ghost use Rattle.std.specs.Prelude.{◌≡◌, ◌∷◌, true, false, [], OnErr, OnOk, IsErrOf};
 ghost use Rattle.crossbeam_channel.specs.Claims.{view, IsSeatAt};
 ghost use Rattle.crossbeam_channel.specs.Ends.{receives_on, sends_on};
 ghost use Rattle.lattice.specs.Counts.{Rose};
@@ -7,9 +7,12 @@ ghost use Rattle.file_relay.specs.Messages.{ends_once};
 ghost use Rattle.file_relay.specs.Reading.{BeforeEnd, IsReadPart, IsReadPast, IsReadThrough};
 ghost use Rattle.file_relay.specs.Reading.{IsReadWhole};
 ghost use Rattle.file_relay.specs.Relayed.{log};
+ghost use Rattle.file_relay.specs.declared.message.Message.TheVariants.{End};
 ghost use Rattle.file_relay.specs.declared.reader.StreamStop.TheVariants as reads;
 ghost use Rattle.file_batch.specs.Progress.{IsCaused, Progress};
 ghost use Rattle.file_batch.specs.Batches.{IsWritten, IsWrittenPart};
+ghost use Rattle.file_batch.specs.Branches.{IfRead};
+ghost use Rattle.file_batch.specs.declared.branches.Stream.TheVariants.{Unread};
 ghost use Rattle.file_batch.specs.declared.stop.BatchStop.TheVariants.{ReadFault, TooLong};
 ghost use Rattle.file_batch.specs.declared.stop.BatchStop.TheVariants.{WriteFault};
 
@@ -17,17 +20,59 @@ use crate::alone::write_alone;
 use crate::answerer::Answerer;
 use crate::progress::{Halt, write_blocks};
 use crate::stop::{BatchStop, stop_of};
-use file_relay::{Inlet, Link, Outlet, StreamStop, Token, open_link, send_files, settle};
+use file_relay::{Inlet, Link, Outlet, StreamStop, Token, open_link, send_end, send_files, settle};
 use outside::{Gate, Rendezvous, Sink, Source};
 use std::alloc::Global;
 use std::sync::Wait;
-use std::thread::{Threads, join, join_mut};
+use std::thread::{Threads, join_mut};
 
-// How often a branch looks for another at most, before there is none.
+// How often a branch looks for the other at most, before it goes on without it.
 const MOST_LOOKS: u64 = 100_000_000;
 
-// Both branches, and what each left in what it was lent. The answers come first: where the system
-// gives no thread, the second branch runs first, and what it sends must find room.
+// What became of the stream in the branch that reads.
+#[derive(Clone, Copy, Debug, Drop, PartialEq, Eq)]
+enum Stream {
+    // It was read, and the reading ended so.
+    Read(Result<(), StreamStop>),
+    // The branch that answers did not come, so nothing was read.
+    Unread,
+}
+
+// Meets the branch that answers, and sends it the files of the stream. Where that one does not
+// come, this one reads nothing and sends the end mark alone, for which the channel has room.
+fn send_where_met<R: Wait, S: Source>(
+    rt: &R,
+    alloc: Global,
+    source: &mut S,
+    outlet: &Outlet,
+    pass: &mut Token,
+    gate: &Rendezvous,
+) -> Stream
+    requires channel { IsSeatAt (sends_on outlet.now) pass.old }
+    requires fresh { view pass.old ≡ log true false [] [] }
+    ensures channel { IsSeatAt (sends_on outlet.now) pass.new × (pass.new.id ≡ pass.old.id) }
+    ensures role { view pass.new ≡ log true false (view pass.new).sent [] }
+    ensures ends { ends_once (view pass.new).sent ≡ true }
+    ensures whole { IfRead result (λ read. OnOk read (BeforeEnd
+        (IsReadWhole (S.left source.old) (S.left source.new)) (view pass.new).sent)) }
+    ensures part { IfRead result (λ read. OnErr read (BeforeEnd
+        (IsReadPart (S.left source.old) (S.left source.new)) (view pass.new).sent)) }
+    ensures long { IfRead result (λ read. IsErrOf read reads.TooLong
+        → IsReadPast (S.left source.old) (S.left source.new)) }
+    ensures rose { IfRead result (λ read. IsErrOf read reads.Fault
+        → Rose (S.faults source.old) (S.faults source.new)) }
+    ensures unread { result ≡ Unread
+        → (source.new ≡ source.old) × ((view pass.new).sent ≡ End ∷ []) }
+{
+    gate.enter(1);
+    if !gate.met() {
+        send_end(rt, outlet, pass);
+        return Stream::Unread;
+    }
+    Stream::Read(send_files(rt, alloc, source, outlet, pass))
+}
+
+// Both branches, which meet before the stream is read, and what each left in what it was lent.
 fn run_both<R: Threads + Wait + Sync, A: Answerer + Sync, S: Source + Send, K: Sink + Send>(
     rt: &R,
     alloc: Global,
@@ -38,7 +83,7 @@ fn run_both<R: Threads + Wait + Sync, A: Answerer + Sync, S: Source + Send, K: S
     inlet: &Inlet,
     sending: &mut Token,
     taking: &mut Token,
-) -> (Result<(), Halt>, Result<(), StreamStop>)
+) -> (Result<(), Halt>, Stream)
     requires ready { A.ready answerer.now }
     requires outlet { IsSeatAt (sends_on outlet.now) sending.old }
     requires inlet { IsSeatAt (receives_on inlet.now) taking.old }
@@ -50,27 +95,33 @@ fn run_both<R: Threads + Wait + Sync, A: Answerer + Sync, S: Source + Send, K: S
     ensures taking { view taking.new ≡ log false true [] (view taking.new).got }
     ensures sent { ends_once (view sending.new).sent ≡ true }
     ensures got { ends_once (view taking.new).got ≡ true }
-    ensures whole { OnOk result.1 (BeforeEnd (IsReadWhole (S.left source.old) (S.left source.new))
-        (view sending.new).sent) }
-    ensures part { OnErr result.1 (BeforeEnd (IsReadPart (S.left source.old) (S.left source.new))
-        (view sending.new).sent) }
-    ensures long { IsErrOf result.1 reads.TooLong
-        → IsReadPast (S.left source.old) (S.left source.new) }
-    ensures rose { IsErrOf result.1 reads.Fault → Rose (S.faults source.old) (S.faults source.new) }
+    ensures whole { IfRead result.1 (λ read. OnOk read (BeforeEnd
+        (IsReadWhole (S.left source.old) (S.left source.new)) (view sending.new).sent)) }
+    ensures part { IfRead result.1 (λ read. OnErr read (BeforeEnd
+        (IsReadPart (S.left source.old) (S.left source.new)) (view sending.new).sent)) }
+    ensures long { IfRead result.1 (λ read. IsErrOf read reads.TooLong
+        → IsReadPast (S.left source.old) (S.left source.new)) }
+    ensures rose { IfRead result.1 (λ read. IsErrOf read reads.Fault
+        → Rose (S.faults source.old) (S.faults source.new)) }
     ensures progress { Progress (A.answers answerer.now) (K.held out.old) (K.held out.new)
         (view taking.new).got result.0 }
     ensures cause { IsCaused (K.faults out.old) (K.faults out.new) result.0 }
+    // Where the stream was not read, source and sink are as they were, once what was taken is known
+    // to be what was sent.
+    ensures unread { result.1 ≡ Unread → (source.new ≡ source.old)
+        × ((view taking.new).got ≡ (view sending.new).sent → out.new ≡ out.old) }
 {
+    let gate = Rendezvous::waiting(MOST_LOOKS);
     join_mut(
         rt,
-        &mut || write_blocks(rt, alloc, answerer, out, inlet, taking),
-        &mut || send_files(rt, alloc, source, outlet, sending),
+        &mut || write_blocks(rt, alloc, answerer, out, inlet, taking, &gate),
+        &mut || send_where_met(rt, alloc, source, outlet, sending, &gate),
     )
 }
 
-// Answers the files of the stream, and writes a block for each, in order: by two threads, of which
-// one reads on while the other answers.
-fn write_by_two<R: Threads + Wait + Sync, A: Answerer + Sync, S: Source + Send, K: Sink + Send>(
+/// Answers the files of the stream, and writes a block for each, in order: by two threads, of which
+/// one reads on while the other answers, or, where the system gives no second thread, by one.
+pub fn write_batch<R: Threads + Wait + Sync, A: Answerer + Sync, S: Source + Send, K: Sink + Send>(
     rt: &R,
     alloc: Global,
     answerer: &A,
@@ -97,7 +148,7 @@ fn write_by_two<R: Threads + Wait + Sync, A: Answerer + Sync, S: Source + Send, 
         mut sending,
         mut taking,
     } = link;
-    let (written, read) = run_both(
+    let (written, stream) = run_both(
         rt,
         alloc,
         answerer,
@@ -109,39 +160,8 @@ fn write_by_two<R: Threads + Wait + Sync, A: Answerer + Sync, S: Source + Send, 
         &mut taking,
     );
     settle(&outlet, sending, taking);
-    stop_of(read, written)
-}
-
-// Whether two branches run at once: each waits for the other, for so many looks at most.
-fn threads_come<R: Threads>(rt: &R) -> bool {
-    let gate = Rendezvous::waiting(MOST_LOOKS);
-    join(rt, || gate.enter(0), || gate.enter(1));
-    gate.met()
-}
-
-/// Answers the files of the stream, and writes a block for each, in order: by two threads, of which
-/// one reads on while the other answers, or, where the system gives no second thread, by one.
-pub fn write_batch<R: Threads + Wait + Sync, A: Answerer + Sync, S: Source + Send, K: Sink + Send>(
-    rt: &R,
-    alloc: Global,
-    answerer: &A,
-    source: &mut S,
-    out: &mut K,
-) -> Result<(), BatchStop>
-    requires ready { A.ready answerer.now }
-    ensures whole { OnOk result (IsWritten (A.answers answerer.now) (S.left source.old)
-        (S.left source.new) (K.held out.old) (K.held out.new)) }
-    ensures part { IsWrittenPart (A.answers answerer.now) (S.left source.old) (S.left source.new)
-        (K.held out.old) (K.held out.new) }
-    ensures read { IsErrOf result ReadFault → Rose (S.faults source.old) (S.faults source.new) }
-    ensures write { IsErrOf result WriteFault → Rose (K.faults out.old) (K.faults out.new) }
-    ensures through { IsErrOf result WriteFault
-        → IsReadThrough (S.left source.old) (S.left source.new) }
-    ensures long { IsErrOf result TooLong → IsReadPast (S.left source.old) (S.left source.new) }
-{
-    if threads_come(rt) {
-        write_by_two(rt, alloc, answerer, source, out)
-    } else {
-        write_alone(alloc, answerer, source, out)
+    match stream {
+        Stream::Read(read) => stop_of(read, written),
+        Stream::Unread => write_alone(alloc, answerer, source, out),
     }
 }

@@ -7,6 +7,7 @@ ghost use Rattle.crossbeam_channel.specs.Ends.{receives_on};
 ghost use Rattle.outside.specs.Causes.{GainsFront};
 ghost use Rattle.file_relay.specs.Messages.{ends_once};
 ghost use Rattle.file_relay.specs.Relayed.{log};
+ghost use Rattle.file_relay.specs.declared.message.Message.TheVariants.{End};
 ghost use Rattle.file_batch.specs.Progress.{HasWritten, IsAnswerTo, IsCaused, Progress};
 ghost use Rattle.file_batch.specs.declared.progress.Halt.TheVariants as halts;
 
@@ -14,7 +15,7 @@ use crate::answerer::Answerer;
 use crate::block::write_block;
 use file_relay::{Inlet, Message, Token, take};
 use file_stream::Piece;
-use outside::{Failed, Sink};
+use outside::{Failed, Gate, Rendezvous, Sink};
 use std::alloc::Global;
 use std::sync::Wait;
 
@@ -62,6 +63,7 @@ pub(crate) fn write_next<A: Answerer, K: Sink>(
         result }
     ensures cause { (start : ℕ) → IsCaused start (K.faults out.old) written
         → IsCaused start (K.faults out.new) result }
+    ensures untouched { message.now ≡ End → out.new ≡ out.old }
 {
     if written.is_err() {
         return written;
@@ -72,8 +74,9 @@ pub(crate) fn write_next<A: Answerer, K: Sink>(
     }
 }
 
-/// Takes files up to the end mark, answers each and writes its block. Once something stopped the
-/// writing it goes on taking, and writes nothing more.
+/// Meets the branch that reads, then takes files up to the end mark, whether or not that one came;
+/// answers each and writes its block. Once something stopped the writing it goes on taking, and
+/// writes nothing more.
 pub(crate) fn write_blocks<R: Wait, A: Answerer, K: Sink>(
     rt: &R,
     alloc: Global,
@@ -81,6 +84,7 @@ pub(crate) fn write_blocks<R: Wait, A: Answerer, K: Sink>(
     out: &mut K,
     inlet: &Inlet,
     pass: &mut Token,
+    gate: &Rendezvous,
 ) -> Result<(), Halt>
     requires ready { A.ready answerer.now }
     requires channel { IsSeatAt (receives_on inlet.now) pass.old }
@@ -91,7 +95,9 @@ pub(crate) fn write_blocks<R: Wait, A: Answerer, K: Sink>(
     ensures progress { Progress (A.answers answerer.now) (K.held out.old) (K.held out.new)
         (view pass.new).got result }
     ensures cause { IsCaused (K.faults out.old) (K.faults out.new) result }
+    ensures untouched { (view pass.new).got ≡ End ∷ [] → out.new ≡ out.old }
 {
+    gate.enter(0);
     let mut written = Ok(());
     for _ in rt.forever() {
         let message = take(rt, inlet, pass);

@@ -8,4 +8,4 @@ mod reader;
 
 pub use crate::link::{InOrder, Inlet, Link, Log, Outlet, Token, open_link, send, settle, take};
 pub use crate::message::Message;
-pub use crate::reader::{MOST_STREAM, StreamStop, send_files};
+pub use crate::reader::{MOST_STREAM, StreamStop, send_end, send_files};

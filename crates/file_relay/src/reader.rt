@@ -10,6 +10,7 @@ ghost use Rattle.file_relay.specs.Messages.{HaveFiles, ends_once, has_no_end};
 ghost use Rattle.file_relay.specs.Reading.{BeforeEnd, IsReadPart, IsReadPast, IsReadWhole};
 ghost use Rattle.file_relay.specs.Reading.{ArePartly, IsSent};
 ghost use Rattle.file_relay.specs.Relayed.{log};
+ghost use Rattle.file_relay.specs.declared.message.Message.TheVariants.{End};
 ghost use Rattle.file_relay.specs.declared.reader.StreamStop.TheVariants.{Fault, Memory, TooLong};
 
 use crate::link::{Outlet, Token, send};
@@ -165,6 +166,19 @@ fn send_stream<R: Wait, S: Source>(
     Err(StreamStop::TooLong)
 }
 
+/// Sends the end mark, behind files or, where none was sent, alone.
+pub fn send_end<R: Wait>(rt: &R, outlet: &Outlet, pass: &mut Token)
+    requires channel { IsSeatAt (sends_on outlet.now) pass.old }
+    requires role { view pass.old ≡ log true false (view pass.old).sent [] }
+    requires unended { has_no_end (view pass.old).sent ≡ true }
+    ensures channel { IsSeatAt (sends_on outlet.now) pass.new × (pass.new.id ≡ pass.old.id) }
+    ensures role { view pass.new ≡ log true false (view pass.new).sent [] }
+    ensures sent { (view pass.new).sent ≡ (view pass.old).sent ++ End ∷ [] }
+    ensures ends { ends_once (view pass.new).sent ≡ true }
+{
+    send(rt, outlet, pass, Message::End);
+}
+
 /// Reads the stream, cuts it into files, and sends each with its number as soon as it was read
 /// whole; then the end mark, also where it stopped before the end of the stream. It answers why it
 /// stopped.
@@ -190,6 +204,6 @@ pub fn send_files<R: Wait, S: Source>(
     ensures rose { IsErrOf result Fault → Rose (S.faults source.old) (S.faults source.new) }
 {
     let result = send_stream(rt, alloc, source, outlet, pass);
-    send(rt, outlet, pass, Message::End);
+    send_end(rt, outlet, pass);
     result
 }

@@ -12,5 +12,6 @@ invariant-loop g l = record {
   role : view l.pass ≡ log false true [] (view l.pass).got;
   unended : has_no_end (view l.pass).got ≡ true;
   progress : Progress (g.A.Answerer.answers l.answerer) (g.K.Sink.held l.fn.out) (g.K.Sink.held l.out) (view l.pass).got l.written;
+  untouched : (view l.pass).got ≡ [] → l.out ≡ l.fn.out;
   cause : IsCaused (g.K.Sink.faults l.fn.out) (g.K.Sink.faults l.out) l.written;
 }
