@@ -85,11 +85,17 @@ LAST, LONGEST = 12, 40
 def masks_of(text, bits):
     """The monomials of a polynomial's text, each the sum of the bits of its factors, or an AnswerError. The bits stand
     in the order that factors have in the text, as far as it is in order, which makes it fast."""
+    return ordered_masks_of(text, bits)[0]
+
+
+def ordered_masks_of(text, bits):
+    """The same, and whether the bits of each monomial descend as its factors are written."""
     if text == "0":
-        return []
-    terms, masks = text.split(" + "), Masks(bits)
+        return [], True
+    terms, masks, is_ordered = text.split(" + "), Masks(bits), True
     cut = re.compile(rf"\*(?:{'|'.join(map(re.escape, last_factors(terms, bits)))})(?![^*])").search
-    front, size, base, found = " ", 0, 0, []
+    # `lowest` is the last bit of the front, or 1 before there is one.
+    front, size, base, lowest, found = " ", 0, 0, 1, []
     for term in terms:
         # A term that begins like the one before, as most do, has its front from there.
         if not term.startswith(front):
@@ -99,8 +105,12 @@ def masks_of(text, bits):
                 continue
             size = met.start() + 1
             front, base = term[:size], masks[term[: size - 1]]
-        found.append(base + masks[term[size:]])
-    return found
+            lowest = base & -base
+        rest = masks[term[size:]]
+        if rest >= lowest:
+            is_ordered = False
+        found.append(base + rest)
+    return found, is_ordered and masks.are_ordered
 
 
 def last_factors(terms, bits):
@@ -110,20 +120,26 @@ def last_factors(terms, bits):
 
 
 class Masks(dict):
-    """The masks of products of factors by their texts, as far as they were asked for and are kept."""
+    """The masks of products of factors by their texts, as far as they were asked for and are kept, and whether the bits
+    of each product descend."""
 
     def __init__(self, bits):
         super().__init__()
         self.bits = bits
+        self.are_ordered = True
 
     def __missing__(self, text):
         middle = text.find("*", len(text) // 2)
         if len(text) > LONGEST and middle > 0:
-            return self[text[:middle]] + self[text[middle + 1 :]]
+            first, second = self[text[:middle]], self[text[middle + 1 :]]
+            self.are_ordered &= second < first & -first
+            return first + second
         try:
-            mask = self[text] = sum(map(self.bits.__getitem__, text.split("*")))
+            bits = [self.bits[factor] for factor in text.split("*")]
         except KeyError as error:
             raise AnswerError(None, f"{error.args[0][:60]!r} is no input of the file") from None
+        self.are_ordered &= all(map(operator.gt, bits, bits[1:]))
+        mask = self[text] = sum(bits)
         return mask
 
 
@@ -139,8 +155,6 @@ class Reader:
         self.aliases = dict(others)
         bits.update([(before, bits[after]) for before, after in others])
         self.bits = dict(sorted(bits.items(), key=operator.itemgetter(1), reverse=True))
-        names = {after: before for before, after in others}
-        self.writers = [self.monomials, Monomials(names.get(factor, factor) for factor in factors)][: 1 + bool(names)]
         self.ordered = ordered
         # The bits of complements, each beside that of its input.
         self.complements = sum(bit for factor, bit in self.bits.items() if is_complement(factor))
@@ -148,20 +162,14 @@ class Reader:
     def polynomial(self, line, text):
         """The polynomial of a text on a line."""
         try:
-            masks = masks_of(text, self.bits)
+            masks, is_ordered = ordered_masks_of(text, self.bits)
         except AnswerError as error:
             raise AnswerError(line, str(error)) from None
         if self.complements and any(mask >> 1 & mask & self.complements for mask in masks):
             raise AnswerError(line, "a term has an input and its complement")
-        if not self.is_in_order(masks, text):
+        if not is_ordered or not all(map(operator.gt, masks, masks[1:])):
             return self.refuse_faults(line, text, masks)
         return Polynomial.of_masks(self.monomials, masks)
-
-    def is_in_order(self, masks, text):
-        """Whether a text is that of these monomials, as it is written, and they descend."""
-        if not all(map(operator.gt, masks, masks[1:])) or masks and masks[0] >> len(self.monomials.factors):
-            return False
-        return any(text == writer.text(masks) for writer in self.writers)
 
     def refuse_faults(self, line, text, masks):
         """The polynomial of another text, which is refused where a term or a factor stands twice, and where order is

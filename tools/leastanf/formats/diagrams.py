@@ -4,11 +4,14 @@ them.
 A node stands for the polynomial `low + factor*high`. The nodes 0 and 1 are these polynomials.
 """
 
+import operator
 from bisect import bisect_left
+from functools import reduce
 from itertools import accumulate
 
-# The last factors of a monomial, whose sets are kept as the bits of one number while a diagram is made.
-LEAF_BITS = 6
+# So many factors, the last ones that occur: sets of monomials in them are kept as the bits of one number while a diagram
+# is made.
+LEAF_BITS = 5
 
 
 class Diagram:
@@ -19,6 +22,11 @@ class Diagram:
         self.factors = tuple(factors)
         self.nodes = [None, None]
         self._numbers = {}
+        self._begin_leaves(0)
+
+    def _begin_leaves(self, base):
+        """Begins with sets of monomials whose last factor has this bit."""
+        self._base = base
         self._leaves = [{} for _ in range(LEAF_BITS + 1)]
 
     def node(self, bit, high, low):
@@ -40,11 +48,15 @@ class Diagram:
         masks = sorted(polynomial.masks(self.factors))
         if not masks:
             return 0
+        occurring = reduce(operator.or_, masks)
+        base = max((occurring & -occurring).bit_length() - 1, 0)
+        if base != self._base:
+            self._begin_leaves(base)
         last = (1 << LEAF_BITS) - 1
-        groups = [mask >> LEAF_BITS for mask in masks]
+        groups = [mask >> base + LEAF_BITS for mask in masks]
         ends = {key: end for end, key in enumerate(groups, 1)}
         # As no monomial stands twice, the sum of a group's bits is their union.
-        sums = [0, *accumulate([1 << (mask & last) for mask in masks])]
+        sums = [0, *accumulate([1 << (mask >> base & last) for mask in masks])]
         keys = list(ends)
         places = [0, *ends.values()]
         sets = [sums[end] - sums[start] for start, end in zip(places, places[1:])]
@@ -59,12 +71,12 @@ class Diagram:
         middle = bisect_left(keys, known | 1 << bit, start, end)
         low = self._of_groups(keys, sets, (start, middle), known) if middle > start else 0
         high = self._of_groups(keys, sets, (middle, end), known | 1 << bit)
-        return self.node(bit + LEAF_BITS, high, low)
+        return self.node(self._base + LEAF_BITS + bit, high, low)
 
     def _chain(self, key, members):
         """The node of one group: the product of its factors and the polynomial of its set."""
         number = self._leaf(members, LEAF_BITS)
-        bit = LEAF_BITS
+        bit = self._base + LEAF_BITS
         while key:
             if key & 1:
                 number = self.node(bit, number, 0)
@@ -82,6 +94,6 @@ class Diagram:
             low, high = members & (1 << half) - 1, members >> half
             number = self._leaf(low, bits - 1)
             if high:
-                number = self.node(bits - 1, self._leaf(high, bits - 1), number)
+                number = self.node(self._base + bits - 1, self._leaf(high, bits - 1), number)
             self._leaves[bits][members] = number
         return number
