@@ -20,7 +20,7 @@ import sys
 
 TOP = pathlib.Path(__file__).resolve().parent.parent
 MOST = 260
-MOST_OF_A_CRATE = 14
+MOST_OF_A_CRATE = 16
 HEAD = re.compile(r"^( *)((?:pub(?:\(crate\))? |final |unsafe )*)fn (\w+)", re.M)
 CLAUSE = re.compile(r"^ *(requires|ensures) (?:(\w+) )?\{", re.M)
 GHOST = re.compile(r"^    ghost (?!use )(\w+)", re.M)
