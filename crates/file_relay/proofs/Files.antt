@@ -20,4 +20,3 @@ no_end_of n [] fs h = refl
 no_end_of n (m ∷ ms) [] h = absurd h
 no_end_of n (File k piece ∷ ms) (f ∷ fs) h = no_end_of (n + 1) ms fs h.1
 no_end_of n (End ∷ ms) (f ∷ fs) h = absurd h.0
-

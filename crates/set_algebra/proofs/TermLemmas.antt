@@ -46,4 +46,3 @@ lists_more s t hs i before after terms grows known within so_far is pushed =
     let last : reverse terms ≡ family s h = ap reverse is
     ∙ (reverse-reverse (family t h) ∙ Grows-family s t h grows (All-get_or (Knows s) hs i no_handle within known)) in
     rw (pushed, map_push reverse before terms, so_far, last) (sym (map_more (family s) hs i no_handle within))
-
