@@ -2,8 +2,8 @@
 
 A stream is cut here again, by lines, and interp is run on each piece. Then the limits of a file and of a stream, the
 words, want of memory at each allocation, each read and write that fails, is short or is interrupted, and a system that
-refuses threads. Where GNU parallel is installed a stream is spread over processes, and over a second host, which is a
-network namespace of the test's own, where one can be made.
+refuses threads, all of them or one. Where GNU parallel is installed a stream is spread over processes, and over a
+second host, which is a network namespace of the test's own, where one can be made.
 """
 
 import concurrent.futures
@@ -47,6 +47,9 @@ STREAMS = {
 
 # The most allocations, reads and writes that are tried in one run.
 MOST_CALLS = 400
+
+# A run with calls that fail takes no longer than so many seconds; one that waits for a thread that does not come would.
+LONGEST = 30
 
 # So many small files take at most a fifth of what a loop over interp takes.
 SMALL_FILES = 400
@@ -189,20 +192,29 @@ class Batches(Test):
 
 
 class Faults(Test):
-    """Calls that fail, one after the other, on a stream of four files."""
+    """Calls that fail, one after the other, on a stream of four files, or of some hundred."""
 
-    STREAM = f"{POINTS}.e\n{CONTRADICTION}.e\n{POINTS}.e\n{POINTS}.e\n"
+    FILES = f"{POINTS}.e\n{CONTRADICTION}.e\n{POINTS}.e\n{POINTS}.e\n"
 
     def setUp(self):
         faults()
         self.words = [program("batch"), "anf"]
-        self.whole = run(self.words, self.STREAM)
+        self.take(self.FILES)
+
+    def take(self, stream):
+        """Makes this the stream."""
+        self.stream = stream
+        self.whole = run(self.words, stream)
         self.assertEqual(self.whole.status, 0)
 
-    def fail_each(self, call, fd, how, is_right, **given):
+    def run_with(self, fault, **how):
+        """Runs the words on the stream, and answers how this ended and whether a call was met."""
+        return faults().run(self.words, self.stream, fault, **how, timeout=LONGEST)
+
+    def fail_each(self, call, fd, how, is_right):
         """Answers how many calls there are."""
         for number in range(1, MOST_CALLS):
-            ended, was_met = faults().run(self.words, self.STREAM, Fault(call, fd, number, number, how), **given)
+            ended, was_met = self.run_with(Fault(call, fd, number, number, how))
             if not was_met:
                 self.assertEqual(ended, self.whole)
                 return number - 1
@@ -217,29 +229,33 @@ class Faults(Test):
         return ended == self.whole
 
     def test_memory(self):
-        """Each allocation in turn. One of them is the second thread's: without it a run may wait for ever, if the
-        thread that was tried before came. docs/DECISIONS.md says so; there is no other one."""
-        waiting = []
-
-        def is_right(ended):
-            waiting.extend([ended] if str(ended.status).startswith("no end") else [])
-            is_known = len(waiting) == 1 and ended is waiting[0]
-            return is_known or self.is_whole(ended) or self.is_front(ended, 7, "batch: out of memory\n")
-
-        self.assertGreater(self.fail_each("alloc", 0, "fail", is_right, timeout=5), 20)
+        """Each allocation in turn. Some are made for the second thread, which then does not come."""
+        is_right = lambda ended: self.is_whole(ended) or self.is_front(ended, 7, "batch: out of memory\n")
+        self.assertGreater(self.fail_each("alloc", 0, "fail", is_right), 20)
 
     def test_reads(self):
+        """Between the reads blocks are written."""
+        self.take(self.FILES * 100)
         is_right = lambda ended: self.is_front(ended, 8, "batch: read fault\n")
-        self.assertGreater(self.fail_each("read", 0, "fail", is_right), 0)
+        self.assertGreater(self.fail_each("read", 0, "fail", is_right), 3)
         self.fail_each("read", 0, "interrupt", self.is_whole)
         self.fail_each("read", 0, "short", self.is_whole)
-        self.assertEqual(faults().run(self.words, self.STREAM, Fault("read", 0, 1, ALL, "short"))[0], self.whole)
+        with self.case("one byte at a time"):
+            self.assertEqual(self.run_with(Fault("read", 0, 1, ALL, "short")), (self.whole, True))
 
     def test_writes(self):
         is_right = lambda ended: self.is_front(ended, 9, "batch: write fault\n") and ended.out != self.whole.out
         self.assertGreater(self.fail_each("write", 1, "fail", is_right), 3)
         self.fail_each("write", 1, "interrupt", self.is_whole)
         self.fail_each("write", 1, "short", self.is_whole)
+        with self.case("one byte at a time"):
+            self.assertEqual(self.run_with(Fault("write", 1, 1, ALL, "short")), (self.whole, True))
+
+    def test_a_read_and_a_write(self):
+        """What stops the reading is told."""
+        with self.case("a read fault and no output that takes anything"), open("/dev/full", "wb") as full:
+            ended = self.run_with(Fault("read", 0, 2, 2, "fail"), stdout=full)
+            self.assertEqual(ended, (Ended(8, "", "batch: read fault\n"), True))
 
     def test_the_line(self):
         """The line on standard error is lost, and the status stays."""
@@ -248,21 +264,21 @@ class Faults(Test):
             self.assertEqual((was_met, ended), (True, Ended(2, "", "")))
 
     def test_threads(self):
-        """Where no thread comes one does all, file by file; so a long stream ends too."""
-        stream = self.STREAM * 500
-        fault = Fault("thread", 0, 1, ALL, "fail")
+        """Where no thread comes, or one of the first does not, the text is the same; so a long stream ends too."""
         for words in (["anf"], ["basis", "--workers", "4"]):
-            whole = run([program("batch"), *words], stream)
-            ended, was_met = faults().run([program("batch"), *words], stream, fault)
-            with self.case(" ".join(words)):
-                self.assertTrue(was_met)
-                self.assertEqual(ended, whole)
+            self.words = [program("batch"), *words]
+            self.take(self.FILES * 500)
+            for first, last in [(1, ALL), (1, 1), (2, 2), (3, 3)]:
+                with self.case(f"{' '.join(words)} without the threads from {first} to {last}"):
+                    ended, was_met = self.run_with(Fault("thread", 0, first, last, "fail"))
+                    self.assertEqual(ended, self.whole)
+                    self.assertTrue(was_met or first > 1)
 
     def test_one_thread_that_fails(self):
         """Where no thread comes, faults end as they do otherwise."""
         with self.case("a write fault"), open("/dev/full", "wb") as full:
-            ended, was_met = faults().run(self.words, self.STREAM, Fault("thread", 0, 1, ALL, "fail"), stdout=full)
-            self.assertEqual((was_met, ended), (True, Ended(9, "", "batch: write fault\n")))
+            ended = self.run_with(Fault("thread", 0, 1, ALL, "fail"), stdout=full)
+            self.assertEqual(ended, (Ended(9, "", "batch: write fault\n"), True))
 
 
 # What docs/USES.md shows: parts of a stream that are cut at lines `.e`, and the blocks numbered again.
