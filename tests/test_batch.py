@@ -265,14 +265,14 @@ class Faults(Test):
 
     def test_threads(self):
         """Where no thread comes, or one of the first does not, the text is the same; so a long stream ends too."""
-        for words in (["anf"], ["basis", "--workers", "4"]):
+        for words, threads in ((["anf"], 1), (["basis", "--workers", "4"], 3)):
             self.words = [program("batch"), *words]
             self.take(self.FILES * 500)
             for first, last in [(1, ALL), (1, 1), (2, 2), (3, 3)]:
                 with self.case(f"{' '.join(words)} without the threads from {first} to {last}"):
                     ended, was_met = self.run_with(Fault("thread", 0, first, last, "fail"))
                     self.assertEqual(ended, self.whole)
-                    self.assertTrue(was_met or first > 1)
+                    self.assertTrue(was_met or first > threads)
 
     def test_one_thread_that_fails(self):
         """Where no thread comes, faults end as they do otherwise."""
