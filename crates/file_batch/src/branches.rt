@@ -20,7 +20,7 @@ use crate::alone::write_alone;
 use crate::answerer::Answerer;
 use crate::progress::{Halt, write_blocks};
 use crate::stop::{BatchStop, stop_of};
-use file_relay::{Inlet, Link, Outlet, StreamStop, Token, open_link, send_end, send_files, settle};
+use file_relay::{Link, Outlet, StreamStop, Token, open_link, send_end, send_files, settle};
 use outside::{Gate, Rendezvous, Sink, Source};
 use std::alloc::Global;
 use std::sync::Wait;
@@ -79,39 +79,43 @@ fn run_both<R: Threads + Wait + Sync, A: Answerer + Sync, S: Source + Send, K: S
     answerer: &A,
     source: &mut S,
     out: &mut K,
-    outlet: &Outlet,
-    inlet: &Inlet,
-    sending: &mut Token,
-    taking: &mut Token,
+    link: &mut Link,
 ) -> (Result<(), Halt>, Stream)
     requires ready { A.ready answerer.now }
-    requires outlet { IsSeatAt (sends_on outlet.now) sending.old }
-    requires inlet { IsSeatAt (receives_on inlet.now) taking.old }
-    requires sending { view sending.old ≡ log true false [] [] }
-    requires taking { view taking.old ≡ log false true [] [] }
-    ensures outlet { IsSeatAt (sends_on outlet.now) sending.new }
-    ensures inlet { IsSeatAt (receives_on inlet.now) taking.new }
-    ensures sending { view sending.new ≡ log true false (view sending.new).sent [] }
-    ensures taking { view taking.new ≡ log false true [] (view taking.new).got }
-    ensures sent { ends_once (view sending.new).sent ≡ true }
-    ensures got { ends_once (view taking.new).got ≡ true }
+    requires outlet { IsSeatAt (sends_on link.old.outlet) link.old.sending }
+    requires inlet { IsSeatAt (receives_on link.old.inlet) link.old.taking }
+    requires sending { view link.old.sending ≡ log true false [] [] }
+    requires taking { view link.old.taking ≡ log false true [] [] }
+    ensures same { link.new.outlet ≡ link.old.outlet }
+    ensures outlet { IsSeatAt (sends_on link.old.outlet) link.new.sending }
+    ensures inlet { IsSeatAt (receives_on link.old.inlet) link.new.taking }
+    ensures sending { view link.new.sending ≡ log true false (view link.new.sending).sent [] }
+    ensures taking { view link.new.taking ≡ log false true [] (view link.new.taking).got }
+    ensures sent { ends_once (view link.new.sending).sent ≡ true }
+    ensures got { ends_once (view link.new.taking).got ≡ true }
     ensures whole { IfRead result.1 (λ read. OnOk read (BeforeEnd
-        (IsReadWhole (S.left source.old) (S.left source.new)) (view sending.new).sent)) }
+        (IsReadWhole (S.left source.old) (S.left source.new)) (view link.new.sending).sent)) }
     ensures part { IfRead result.1 (λ read. OnErr read (BeforeEnd
-        (IsReadPart (S.left source.old) (S.left source.new)) (view sending.new).sent)) }
+        (IsReadPart (S.left source.old) (S.left source.new)) (view link.new.sending).sent)) }
     ensures long { IfRead result.1 (λ read. IsErrOf read reads.TooLong
         → IsReadPast (S.left source.old) (S.left source.new)) }
     ensures rose { IfRead result.1 (λ read. IsErrOf read reads.Fault
         → Rose (S.faults source.old) (S.faults source.new)) }
     ensures progress { Progress (A.answers answerer.now) (K.held out.old) (K.held out.new)
-        (view taking.new).got result.0 }
+        (view link.new.taking).got result.0 }
     ensures cause { IsCaused (K.faults out.old) (K.faults out.new) result.0 }
     // Where the stream was not read, source and sink are as they were, once what was taken is known
     // to be what was sent.
     ensures unread { result.1 ≡ Unread → (source.new ≡ source.old)
-        × ((view taking.new).got ≡ (view sending.new).sent → out.new ≡ out.old) }
+        × ((view link.new.taking).got ≡ (view link.new.sending).sent → out.new ≡ out.old) }
 {
     let gate = Rendezvous::waiting(MOST_LOOKS);
+    let Link {
+        outlet,
+        inlet,
+        sending,
+        taking,
+    } = link;
     join_mut(
         rt,
         &mut || write_blocks(rt, alloc, answerer, out, inlet, taking, &gate),
@@ -139,26 +143,16 @@ pub fn write_batch<R: Threads + Wait + Sync, A: Answerer + Sync, S: Source + Sen
         → IsReadThrough (S.left source.old) (S.left source.new) }
     ensures long { IsErrOf result TooLong → IsReadPast (S.left source.old) (S.left source.new) }
 {
-    let Ok(link) = open_link(alloc) else {
+    let Ok(mut link) = open_link(alloc) else {
         return Err(BatchStop::Memory);
     };
+    let (written, stream) = run_both(rt, alloc, answerer, source, out, &mut link);
     let Link {
         outlet,
-        inlet,
-        mut sending,
-        mut taking,
+        inlet: _,
+        sending,
+        taking,
     } = link;
-    let (written, stream) = run_both(
-        rt,
-        alloc,
-        answerer,
-        source,
-        out,
-        &outlet,
-        &inlet,
-        &mut sending,
-        &mut taking,
-    );
     settle(&outlet, sending, taking);
     match stream {
         Stream::Read(read) => stop_of(read, written),

@@ -22,18 +22,18 @@ pub returns-in-Read-clause-whole : goal.returns-in-Read-clause-whole
 returns-in-Read-clause-whole g c =
     let r = c.run_both-written in
     all_written (g.A.Answerer.answers c.args.answerer.now) (g.S.Source.left c.args.source.now) (g.S.Source.left r.new.source)
-    (g.K.Sink.held c.args.out.now) (g.K.Sink.held r.new.out) (view r.new.taking).got (view r.new.sending).sent
+    (g.K.Sink.held c.args.out.now) (g.K.Sink.held r.new.out) (view r.new.link.taking).got (view r.new.link.sending).sent
     c.stop_of.result c.in-Read.read r.result.0 c.stop_of.ensures.done (rw c.in-Read.is at r.ensures.whole) c.settle.ensures
     r.ensures.progress
 
 pub returns-in-Read-clause-part : goal.returns-in-Read-clause-part
 returns-in-Read-clause-part g c =
     let r = c.run_both-written in
-    let s = sent_whole (g.S.Source.left c.args.source.now) (g.S.Source.left r.new.source) (view r.new.sending).sent c.in-Read.read
+    let s = sent_whole (g.S.Source.left c.args.source.now) (g.S.Source.left r.new.source) (view r.new.link.sending).sent c.in-Read.read
     (rw c.in-Read.is at r.ensures.whole) (rw c.in-Read.is at r.ensures.part) in
-    let got : (view r.new.taking).got ≡ s.0 ++ End ∷ [] = c.settle.ensures ∙ s.3 in
+    let got : (view r.new.link.taking).got ≡ s.0 ++ End ∷ [] = c.settle.ensures ∙ s.3 in
     let p = progress_part (g.A.Answerer.answers c.args.answerer.now) (g.K.Sink.held c.args.out.now) (g.K.Sink.held r.new.out)
-    (view r.new.taking).got s.0 s.2 got s.4 r.result.0 r.ensures.progress in
+    (view r.new.link.taking).got s.0 s.2 got s.4 r.result.0 r.ensures.progress in
     record { read = s.1; done = s.2; count = p.0; text = p.1; lost = s.5; files = s.6; blocks = p.2; gained = p.3 }
 
 pub returns-clause-through : goal.returns-clause-through
