@@ -1,5 +1,3 @@
 mod Answered
-mod Gains
-mod Pages
 mod Parts
 mod Told

@@ -16,7 +16,7 @@ use Rattle.file_batch.specs.Batches.{AreReadWhole, IsWritten}
 use Rattle.file_batch.specs.Blocks.{AreBlocks, IsBlock}
 use Rattle.file_batch.specs.Progress.{AreTold, IsToldOf, Progress, going, stopped}
 use Rattle.file_batch.specs.declared.progress.Halt.{Halt}
-use Rattle.file_batch.proofs.Gains.{all_front}
+use Rattle.outside.proofs.Known.{all_front}
 
 -- messages to which one more was added are some
 pub some_left : (ms : List Message) (m : Message) → ms ++ m ∷ [] ≡ [] → ⊥

@@ -3,12 +3,11 @@ use Rattle.std.proofs.Common.{◌≡◌, ℕ, List, [], ◌∷◌, ◌++◌, ref
 use Rattle.std.specs.Prelude.{true, false, Option, Result, Ok, Err, OnOk, OnErr, is_err}
 use Rattle.std.proofs.Common.{true≢false}
 use Rattle.std.specs.Io.KnownBytes.{Appends}
-use Rattle.outside.proofs.Known.{appends_both}
 use Rattle.file_relay.specs.declared.message.Message.{Message}
 use Rattle.file_batch.specs.Progress.{AreTold, HasWritten, IsToldOf, Progress, going, stopped, whole, part, nothing}
 use Rattle.file_batch.specs.declared.progress.Halt.{Halt}
 use Rattle.file_batch.specs.declared.progress.Halt.TheVariants.{Fault, Memory}
-use Rattle.file_batch.proofs.Gains.{all_front, front_after}
+use Rattle.outside.proofs.Known.{all_front, appends_both, front_after}
 
 -- ---- results that are known to be one or the other
 

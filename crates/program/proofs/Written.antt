@@ -1,7 +1,7 @@
 -- Texts that are written one after the other, with what the watchers are told of each.
-use Rattle.std.proofs.Common.{◌≡◌, ◌∙◌, ◌+◌, ◌++◌, ◌<◌, ◌≤◌, List, Option, Some, [], ap, arith, drop, get_or}
-use Rattle.std.proofs.Common.{length, length-append, length-drop, length-take}
-use Rattle.std.proofs.Common.{append-nil, append_assoc, rules, sym, take, ⊎_elim, ℕ}
+use Rattle.std.proofs.Common.{◌≡◌, ◌∙◌, ◌+◌, ◌++◌, ◌<◌, ◌≤◌, List, Option, Some, [], ap, arith, get_or}
+use Rattle.std.proofs.Common.{length, length-append, length-take}
+use Rattle.std.proofs.Common.{append_assoc, rules, sym, take, ⊎_elim, ℕ}
 use Rattle.std.specs.Io.{StartsWith}
 use Rattle.std.specs.Io.KnownBytes.{Appends}
 use Rattle.std.specs.List.{All, concat}
@@ -10,48 +10,11 @@ use Rattle.std.proofs.lemmas.Bool.Decides.{leb_tells}
 use Rattle.std.proofs.lemmas.List.{append_cancel_left, take-append-drop, take-take, take_more}
 use Rattle.std.proofs.lemmas.List.Folds.{concat-append}
 use Rattle.outside.specs.Causes.{GainsLess}
-use Rattle.outside.proofs.Known.{appends_both}
+use Rattle.outside.proofs.Known.{page_more}
 use Rattle.watch.specs.Notes.{WatcherState, left_after, left_after_all}
 use Rattle.watch.specs.declared.note.Note.{Note}
 use Rattle.watch.proofs.LeftAfter.{left_after_all-push, room_left}
 use Rattle.program.specs.Pages.{HoldsFirst, TellsFirst}
-
--- ---- what out gained
-
-module _ (pages : List (List ℕ)) (i : ℕ) (d : List ℕ) (within : i < length pages) where
-  page_more : concat (take (i + 1) pages) ≡ concat (take i pages) ++ get_or pages i d
-  page_more = rw (take_more pages i d within, concat-append) (simp append-nil)
-
-  module _ (old middle new : Option (List ℕ)) (page : List ℕ) (is : page ≡ get_or pages i d)
-      (before : Appends old middle (concat (take i pages))) where
-    -- A page that was written whole,
-    pub page_written : Appends middle new page → Appends old new (concat (take (i + 1) pages))
-    page_written here = rw (page_more, ← is) (appends_both old middle new (concat (take i pages)) page before here)
-
-    -- and one of which less was written.
-    pub page_begun : GainsLess middle new page → GainsLess old new (concat pages)
-    page_begun here =
-        let start : List ℕ = concat (take i pages) in let part : List ℕ = here.part in
-        let rest : List ℕ = drop (length part) page ++ concat (drop (i + 1) pages) in
-        let cut : page ≡ part ++ drop (length part) page = sym (take-append-drop (length part) page)
-        ∙ ap (λ (l : List ℕ). l ++ drop (length part) page) here.front in
-        let whole : concat pages ≡ (start ++ part) ++ rest = sym (ap concat (take-append-drop (i + 1) pages))
-        ∙ (concat-append (take (i + 1) pages) (drop (i + 1) pages)
-        ∙ (ap (λ (l : List ℕ). l ++ concat (drop (i + 1) pages)) (page_more ∙ ap (λ (l : List ℕ). start ++ l) (sym is ∙ cut))
-        ∙ simp append_assoc)) in
-        record {
-          part = start ++ part;
-          front = ap (take (length (start ++ part))) whole ∙ take-append_seam (start ++ part) rest;
-          gained = appends_both old middle new start part before here.gained;
-          less = omega (
-            arith,
-            here.less,
-            ap length whole,
-            length-append (start ++ part) rest,
-            length-append (drop (length part) page) (concat (drop (i + 1) pages)),
-            length-drop (length part) page,
-          );
-        }
 
 -- ---- the watchers that are left
 

@@ -1,7 +1,7 @@
 use Rattle.std.proofs.Common.{◌≡◌, rules}
 use Rattle.std.specs.List.{concat}
 use Rattle.file_batch.specs.Blocks.{header}
-use Rattle.file_batch.proofs.Gains.{front_after, front_more, ok_after}
+use Rattle.outside.proofs.Known.{front_after, front_more, ok_after}
 use Rattle.file_batch.proofs.block.write_block.Goals as goal
 
 pub returns-in_err-write_whole-clause-front : goal.returns-in_err-write_whole-clause-front

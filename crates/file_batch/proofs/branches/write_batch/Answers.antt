@@ -2,7 +2,7 @@ use Rattle.std.proofs.Common.{◌≡◌, ◌++◌, ◌∷◌, ◌∙◌, [], ref
 use Rattle.std.proofs.KnownBytes.{Appends-nil, Consumes-nil}
 use Rattle.crossbeam_channel.specs.Claims.{view}
 use Rattle.file_relay.specs.declared.message.Message.TheVariants.{End}
-use Rattle.file_batch.proofs.Gains.{all_front}
+use Rattle.outside.proofs.Known.{all_front}
 use Rattle.file_batch.proofs.Parts.{all_written, progress_part, sent_whole}
 use Rattle.file_batch.proofs.branches.write_batch.Goals as goal
 

@@ -3,7 +3,8 @@ use Rattle.std.proofs.lemmas.Slice.Zip.{zip_turn}
 use Rattle.lattice.proofs.Polynomials.{on_err}
 use Rattle.watch.proofs.LeftAfter.{left_after_all-nil}
 use Rattle.program.proofs.Streams.{appends_nothing}
-use Rattle.program.proofs.Written.{page_begun, page_written, room_for_more, stopped_at, told_more}
+use Rattle.outside.proofs.Known.{page_begun, page_written}
+use Rattle.program.proofs.Written.{room_for_more, stopped_at, told_more}
 use Rattle.program.proofs.pages.write_pages.Goals as goal
 
 pub loop-page-init : goal.loop-page-init
