@@ -1,29 +1,41 @@
-//! The rows that may contradict a row at all, by the columns that every row fixes.
-ghost use Rattle.std.specs.Prelude.{◌≡◌, ◌%◌, ℕ, false, true, bit_and, length};
+//! The rows that may contradict a row at all, by the columns that every row fixes which gives a
+//! value.
+ghost use Rattle.std.specs.Prelude.{◌≡◌, ◌%◌, false, bit_and, length};
 ghost use Rattle.std.specs.List.{All};
-ghost use Rattle.lattice.specs.Family.{divides};
+ghost use Rattle.lattice.specs.declared.row.Row.{Row};
 ghost use Rattle.cube_sets.specs.declared.buckets.TheConstants.{BUCKETS};
-ghost use Rattle.cube_sets.specs.Buckets.{IsMarked, MeetsNone};
+ghost use Rattle.cube_sets.specs.Buckets.{Fixes, IsMarked, MeetsNone};
 
 use lattice::Row;
 
-/// The greatest prime below 2^16: of up to 16 columns that every row fixes, nearly every value has
-/// a bucket of its own.
+/// The greatest prime below 2^16: of up to 16 columns that are fixed so, nearly every value has a
+/// bucket of its own.
 pub(crate) const BUCKETS: usize = 65_521;
 
-/// The columns that every row fixes.
+// The columns that the row fixes, and every column where it gives no value and so contradicts none.
+fn fixed_by(row: &Row) -> u64
+    ensures { Fixes result row.now }
+{
+    if row.on == 0 && row.off == 0 {
+        u64::MAX
+    } else {
+        row.care
+    }
+}
+
+/// The columns that every row fixes which gives a value.
 pub(crate) fn common_care(rows: &[Row]) -> u64
-    ensures { All (λ r. divides result r.care ≡ true) rows.now }
+    ensures { All (Fixes result) rows.now }
 {
     let mut common = u64::MAX;
     for row in rows {
-        common &= row.care;
+        common &= fixed_by(row);
     }
     common
 }
 
-// The bucket of a row. Rows that share a point have the same values in the common columns, so they
-// have one bucket.
+// The bucket of a row. Rows that give values and share a point have the same values in the common
+// columns, so they have one bucket.
 fn bucket_of(row: &Row, common: u64) -> usize
     ensures { result ≡ bit_and row.now.value common % BUCKETS }
 {
@@ -44,8 +56,8 @@ pub(crate) fn mark_offs(offs: &mut [u64], rows: &[Row], common: u64)
 /// Whether the row may contradict one of the rows whose outputs of value 0 are marked.
 pub(crate) fn may_clash(a: &Row, offs: &[u64], common: u64) -> bool
     requires length { length offs.now ≡ BUCKETS }
-    requires fixed { divides common a.now.care ≡ true }
-    ensures { result ≡ false → (b : Row) → divides common b.care ≡ true → IsMarked common offs.now b
+    requires fixed { Fixes common a.now }
+    ensures { result ≡ false → (b : Row) → Fixes common b → IsMarked common offs.now b
         → MeetsNone a.now b }
 {
     a.on & offs[bucket_of(a, common)] != 0

@@ -4,7 +4,7 @@ ghost use Rattle.std.specs.List.{All, Contains};
 ghost use Rattle.lattice.specs.Family.{divides};
 ghost use Rattle.lattice.specs.Rows.{IsConsistent};
 ghost use Rattle.cube_sets.specs.declared.buckets.TheConstants.{BUCKETS};
-ghost use Rattle.cube_sets.specs.Buckets.{IsMarked};
+ghost use Rattle.cube_sets.specs.Buckets.{Fixes, IsMarked};
 ghost use Rattle.cube_sets.specs.Clashes.{SharePoint, IsClashOf, IsAmong, IsClash, IsLeastOf};
 ghost use Rattle.cube_sets.specs.Clashes.{AnswersUpTo};
 
@@ -64,7 +64,7 @@ fn clash_of(a: &Row, b: &Row, outputs: u32) -> Option<Clash>
 fn least_with(p: &Pla, offs: &[u64], common: u64, a: &Row, outputs: u32) -> Option<Clash>
     requires row { Contains p.now.rows a.now }
     requires length { length offs.now ≡ BUCKETS }
-    requires fixed { All (λ r. divides common r.care ≡ true) p.now.rows }
+    requires fixed { All (Fixes common) p.now.rows }
     requires marked { All (IsMarked common offs.now) p.now.rows }
     ensures { AnswersUpTo outputs (IsAmong (IsClashOf p.now.inputs a.now) p.now.rows) result }
 {

@@ -1,9 +1,8 @@
-use Rattle.std.proofs.Common.{◌≡◌, true, arith}
+use Rattle.std.proofs.Common.{arith}
 use Rattle.std.proofs.lemmas.List.Elements.{All-contains}
 use Rattle.lattice.specs.declared.row.Row.{Row}
 use Rattle.pla_reader.specs.Description.{FitsSizes}
-use Rattle.lattice.specs.Words.{divides}
-use Rattle.cube_sets.specs.Buckets.{IsMarked}
+use Rattle.cube_sets.specs.Buckets.{Fixes, IsMarked}
 use Rattle.cube_sets.specs.Clashes.{IsClashOf}
 use Rattle.cube_sets.proofs.Search.{with_on_row, search_next, search_end}
 use Rattle.cube_sets.proofs.clash.least_with.Goals as goal
@@ -15,7 +14,7 @@ returns-then-outputs-eq0 c d clash = elim c.then-outputs-eq0.branch [
   | then-outputs-eq0-via-then-outputs-eq0 w ↦ (let none = w.if-outputs-eq0.true in let first = clash.1.2.first in
       let last = clash.0 in omega arith)
   | then-outputs-eq0-via-else-outputs-eq0+then-not-may_clash w ↦ w.may_clash.ensures w.if-not-may_clash.true clash.1.0
-      (All-contains (λ r. divides c.args.common r.care ≡ true) c.args.p.now.rows clash.1.0 c.requires.fixed clash.1.1)
+      (All-contains (Fixes c.args.common) c.args.p.now.rows clash.1.0 c.requires.fixed clash.1.1)
       (All-contains (IsMarked c.args.common c.args.offs.now) c.args.p.now.rows clash.1.0 c.requires.marked clash.1.1)
       c.args.p.now.inputs d clash.1.2
 ]
