@@ -233,6 +233,16 @@ class Faults(Test):
         is_right = lambda ended: self.is_whole(ended) or self.is_front(ended, 7, "batch: out of memory\n")
         self.assertGreater(self.fail_each("alloc", 0, "fail", is_right), 20)
 
+    def test_words_are_read_once(self):
+        """Of the calls for memory that reading the words takes, a file more takes no part."""
+        count = lambda words, stream: faults().count(words, stream, Fault("alloc", 0, 1, ALL, "pass"))[1]
+        of_words = count([program("batch"), "gen"], "")
+        more = 100
+        for what, file in {"answered": f"{POINTS}.e\n", "refused": ".e\n"}.items():
+            with self.case(f"a file that is {what}"):
+                of_files = count(self.words, file * (more + 1)) - count(self.words, file)
+                self.assertLess(of_files, more * of_words)
+
     def test_reads(self):
         """Between the reads blocks are written."""
         self.take(self.FILES * 100)
