@@ -23,7 +23,6 @@ ON_DIAGRAMS = ("set_algebra", "cube_build", "bool_poly", "std_monomials", "inter
 EXCEPTIONS = {
     "cli_words": (2.6, "what clap finds for each of six arguments is proved argument by argument"),
     "cube_sets": (2.4, "the search by buckets is shown to find what comparing all pairs finds"),
-    "interp_lex": (4.1, "that what the recursion needs is planned and then held is said call by call"),
 }
 # A line that is one text, or an attribute, which the toolchain's formatter sets in one line.
 UNBROKEN = re.compile(r'\s*(b?"([^"\\]|\\.)*"[,;]?|#\[.*\])$')

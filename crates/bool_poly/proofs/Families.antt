@@ -1,7 +1,7 @@
 -- Families cut at a variable: the members that pass a test, the points of a set at which a polynomial is 1, values, greatest monomials
 -- and products of polynomials, and the working lists.
 use Rattle.std.proofs.Common.{◌≡◌, ℕ, suc, ◌+◌, ◌^◌, ◌<◌, ◌≤◌, Bool, true, false, ◌&&◌, [], refl, sym, ap, ap₂, ◌∙◌, arith, subst, ◌≢◌}
-use Rattle.std.proofs.Common.{zero, cond, ◌||◌, ◌==◌, inl, inr, List, ◌∷◌, ◌++◌, ◌-◌, ◌*◌, ◌%◌, ◌/◌, bit_and, map, zero-mul, mul-zero}
+use Rattle.std.proofs.Common.{zero, cond, ◌||◌, ◌==◌, inl, inr, List, ◌∷◌, ◌++◌, ◌*◌, ◌%◌, ◌/◌, bit_and, map, zero-mul, mul-zero}
 use Rattle.std.proofs.Common.{mul-one, length, length-append, ◌⊎◌}
 use Rattle.std.proofs.Math.Bool.{and-false, or_comm, and_comm}
 use Rattle.std.proofs.lemmas.Bool.{cases_Bool, and_parts, cond_both}
@@ -16,7 +16,7 @@ use Rattle.lattice.proofs.Diagrams.{low_cofactor_whole, join_cofactors_suc, IsFa
 use Rattle.lattice.proofs.Diagrams.{high_cofactor_none, covers_left, covers_right, sub-nil, combine-right_empty, covers_append, covers_cons}
 use Rattle.lattice.proofs.Diagrams.{covers_nil, covers_one, covers_head, covers_tail, steady, IsFamily-single, combine-left_empty}
 use Rattle.lattice.proofs.Diagrams.{sub-join_high, sub-join_low, Has-head, Has-tail, Has-append_left, Has-append_right, covers_family}
-use Rattle.lattice.proofs.Diagrams.{covers_part, covers_more, covers_lists, covers_nothing}
+use Rattle.lattice.proofs.Diagrams.{covers_more, covers_lists, covers_nothing}
 use Rattle.lattice.proofs.Polynomials.{empty_is, below_bound, not_above_bound, is_family, IsFamily-family_where, has-family_where}
 use Rattle.lattice.proofs.Polynomials.{only_below, family_where_has, family_where-agree, family_where-none, same_below, IsFamily_wider}
 use Rattle.lattice.proofs.Polynomials.{IsFamily-low_cofactor, IsFamily-high_cofactor, has-low_cofactor, has-high_cofactor, has-join_low}
@@ -35,6 +35,12 @@ pub record AreCutAt (n d : ℕ) (f g : Family) : Type 0 where
   pub first_after : IsFamily (suc d) f
   pub second_after : IsFamily (suc d) g
   pub one_has : (is_empty (high_cofactor d f) && is_empty (high_cofactor d g)) ≡ false
+
+-- a polynomial other than 0 and 1, and a set with a point
+pub record AreFull (p q : Family) : Type 0 where
+  pub some : p ≢ []
+  pub varies : p ≢ 0 ∷ []
+  pub points : q ≢ []
 
 -- a family without the variable
 pub lower : (d : ℕ) (f : Family) → IsFamily (suc d) f → is_empty (high_cofactor d f) ≡ true → IsFamily d f
@@ -321,15 +327,18 @@ unfolding product_list
 product_list-constant zero p q e = refl
 product_list-constant (suc d) p q e = rw e refl
 
--- the list where neither is
-abbrev list_of_parts : ℕ → Family → Family → List Family
-list_of_parts d p q =
-    let p0 = low_cofactor d p in let q0 = low_cofactor d q in
-    let ps = sum_of d p0 (high_cofactor d p) in let qs = sum_of d q0 (high_cofactor d q) in
-    product_list d p0 q0 ++ (product_list d ps qs ++ (ps ∷ qs ∷ product_of (suc d) p q ∷ []))
+-- the polynomial at the points with x, without it
+abbrev pub at_one : ℕ → ℕ → Family → Family
+at_one n d f = sum_of n (low_cofactor d f) (high_cofactor d f)
+
+-- the list where neither is, with the product k
+abbrev pub list_of_parts : ℕ → Family → Family → Family → List Family
+list_of_parts d p q k = product_list d (low_cofactor d p) (low_cofactor d q)
+    ++ (product_list d (at_one d d p) (at_one d d q) ++ (at_one d d p ∷ at_one d d q ∷ k ∷ []))
 
 product_list-step : (d : ℕ) (p q : Family) → (is_constant p || is_constant q) ≡ false
-    → (is_empty (high_cofactor d p) && is_empty (high_cofactor d q)) ≡ false → product_list (suc d) p q ≡ list_of_parts d p q
+    → (is_empty (high_cofactor d p) && is_empty (high_cofactor d q)) ≡ false
+    → product_list (suc d) p q ≡ list_of_parts d p q (product_of (suc d) p q)
 unfolding product_list
 product_list-step d p q const some = rw (const, some) refl
 
@@ -366,10 +375,6 @@ product_list-swap (suc d) p q =
 
 -- ---- one step
 
--- the polynomial at the points with x, without it
-abbrev pub at_one : ℕ → ℕ → Family → Family
-at_one n d f = sum_of n (low_cofactor d f) (high_cofactor d f)
-
 pub at_one_after : (d n : ℕ) (f : Family) → d ≤ n → IsFamily d (at_one n d f)
 at_one_after d n f le = sum_after d n _ _ (IsFamily-low_cofactor d f) (IsFamily-high_cofactor d f) le
 
@@ -385,6 +390,24 @@ values : (x : Bool) (l h w p0 ps q0 qs : ℕ) → l < 2 → w < 2 → l ≡ p0 *
     → cond x ((l + h) % 2) l ≡ cond x ps p0 * cond x qs q0
 values true l h w p0 ps q0 qs a b e f g = omega (arith, f, g)
 values false l h w p0 ps q0 qs a b e f g = e
+
+-- the parts of the product, over the d variables behind the first
+abbrev pub low_product : ℕ → Family → Family → Family
+low_product d p q = product_of d (low_cofactor d p) (low_cofactor d q)
+
+abbrev pub high_product : ℕ → Family → Family → Family
+high_product d p q = sum_of d (low_product d p q) (product_of d (at_one d d p) (at_one d d q))
+
+-- the families of its list in the order in which they are found, with the upper part; k is the product
+abbrev pub product_calls : ℕ → Family → Family → Family → List Family
+product_calls d p q k = product_list d (low_cofactor d p) (low_cofactor d q)
+    ++ (at_one d d p ∷ at_one d d q ∷ (product_list d (at_one d d p) (at_one d d q) ++ (high_product d p q ∷ k ∷ [])))
+
+pub as_called : (d : ℕ) (p q k : Family) → Covers (high_product d p q ∷ list_of_parts d p q k) (product_calls d p q k)
+as_called d p q k = search (covers_lists, covers_more, covers_nothing, Has-head, Has-tail, Has-append_left, Has-append_right) depth 12
+
+pub as_listed : (d : ℕ) (p q k : Family) → Covers (product_calls d p q k) (high_product d p q ∷ list_of_parts d p q k)
+as_listed d p q k = search (covers_lists, covers_more, covers_nothing, Has-head, Has-tail, Has-append_left, Has-append_right) depth 12
 
 module _ {n d : ℕ} {p q : Family} (cut : AreCutAt n d p q) where
   abbrev p0 : Family
@@ -428,12 +451,12 @@ module _ {n d : ℕ} {p q : Family} (cut : AreCutAt n d p q) where
       (λ a i. let some : part ≡ sum_of n p0 p1 = part_with-some n p0 p1 q1 (λ e. has_none a (rw e at i)) in
       cc (value-at_high d p a cut.first_after (below_bound d q1 a (IsFamily-high_cofactor d q) i), some, value-sum d n p0 p1 a p0f p1f le))
 
-  -- the working list of a polynomial other than 0 and 1 and a set with a point
-  module _ (pn : p ≢ []) (un : p ≢ 0 ∷ []) (qn : q ≢ []) where
+  -- the working list of the points
+  module _ (full : AreFull p q) where
     ones_is : ones_list n p q ≡ ones_of n p q ∷ (ones_list n p0 q0 ++ high_list n p0 p1 q1)
     ones_is = cc (
       ones_list-narrow (suc d) n p q cut.first_after cut.second_after cut.less,
-      ones_list-step d p q pn qn (not_constant p pn un) cut.one_has,
+      ones_list-step d p q full.some full.points (not_constant p full.some full.varies) cut.one_has,
       ones_of-narrow (suc d) n p q cut.second_after cut.less,
       ones_list-narrow d n p0 q0 p0f q0f le,
       ones_list-narrow d n p0 q1 p0f (IsFamily-high_cofactor d q) le,
@@ -466,81 +489,32 @@ module _ {n d : ℕ} {p q : Family} (cut : AreCutAt n d p q) where
 
   -- ---- the product
 
-  abbrev ps : Family
-  ps = at_one n d p
-
-  abbrev qs : Family
-  qs = at_one n d q
-
-  abbrev lows : Family
-  lows = product_of n p0 q0
-
-  abbrev highs : Family
-  highs = sum_of n lows (product_of n ps qs)
-
-  pub low_after : IsFamily d lows
-  low_after = product_after d n p0 q0 p0f q0f le
-
-  with_after : IsFamily d (product_of n ps qs)
-  with_after = product_after d n ps qs (at_one_after d n p le) (at_one_after d n q le) le
-
-  pub high_after : IsFamily d highs
-  high_after = sum_after d n lows (product_of n ps qs) low_after with_after le
-
-  pub product_of-join : product_of n p q ≡ join d lows highs
-  product_of-join = product_is n p q (join d lows highs)
-      (IsFamily_wider (suc d) n _ (IsFamily-join_suc d lows highs low_after high_after) (omega (arith, cut.less)))
-      (λ a. let first = value_split d n p a cut.first_after le in let second = value_split d n q a cut.second_after le in
-      rw (value_cut d lows highs a high_after, first, second)
-      (values (divides (2 ^ d) a) _ _ (value (product_of n ps qs) a) _ _ _ _ (value-lt lows a) (value-lt (product_of n ps qs) a)
-      (value-product_of d n p0 q0 a p0f q0f le)
-      (value-product_of d n ps qs a (at_one_after d n p le) (at_one_after d n q le) le)
-      (value-sum d n lows (product_of n ps qs) a low_after with_after le)))
+  pub product_of-join : product_of n p q ≡ join d (low_product d p q) (high_product d p q)
+  product_of-join = let same : d ≤ d = omega arith in
+      let high = IsFamily-combine exactly_one d (low_product d p q) (product_of d (at_one d d p) (at_one d d q)) in
+      let ps = at_one_after d d p same in let qs = at_one_after d d q same in let low = IsFamily-product_of d p0 q0 in
+      product_is n p q (join d (low_product d p q) (high_product d p q))
+      (IsFamily_wider (suc d) n _ (IsFamily-join_suc d _ _ low high) (omega (arith, cut.less)))
+      (λ a. let first = value_split d d p a cut.first_after same in let second = value_split d d q a cut.second_after same in
+      rw (value_cut d (low_product d p q) (high_product d p q) a high, first, second)
+      (values (divides (2 ^ d) a) _ _ (value (product_of d (at_one d d p) (at_one d d q)) a) _ _ _ _ (value-lt _ a) (value-lt _ a)
+      (value-product_of d d p0 q0 a p0f q0f same) (value-product_of d d _ _ a ps qs same)
+      (value-sum d d _ _ a low (IsFamily-product_of d _ _) same)))
 
   -- polynomials that are not constant
   module _ (const : (is_constant p || is_constant q) ≡ false) where
-    product_list_is : product_list n p q ≡ product_list n p0 q0 ++ (product_list n ps qs ++ (ps ∷ qs ∷ product_of n p q ∷ []))
+    pub product_list_is : product_list n p q ≡ list_of_parts d p q (product_of n p q)
     product_list_is = cc (
       product_list-narrow (suc d) n p q cut.first_after cut.second_after (omega (arith, cut.less)),
       product_list-step d p q const cut.one_has,
-      product_list-narrow d n p0 q0 p0f q0f le,
-      product_list-narrow d n ps qs (at_one_after d n p le) (at_one_after d n q le) le,
-      sum_narrow d n p0 p1 p0f p1f le,
-      sum_narrow d n q0 q1 q0f (IsFamily-high_cofactor d q) le,
       product_of-narrow (suc d) n p q cut.first_after cut.second_after (omega (arith, cut.less)),
     )
 
-    module _ (fs : List Family) where
-      -- what has the parts has the working set
-      pub product_all : Covers fs (working_set n (product_list n p0 q0)) → Covers fs (working_set n (product_list n ps qs))
-          → Covers fs (sub n ps) → Covers fs (sub n qs) → Covers fs (sub n (product_of n p q))
-          → Covers fs (working_set n (product_list n p q))
-      product_all low' both' first' second' self' = rw product_list_is (covers_append n fs _ _ low' (covers_append n fs _ _ both'
-          (covers_cons n fs _ ps first' (covers_cons n fs _ qs second' (covers_one n fs _ self')))))
-
-      -- what has the working set has its parts
-      module _ (all : Covers fs (working_set n (product_list n p q))) where
-        parts : Covers fs (working_set n (product_list n p0 q0 ++ (product_list n ps qs ++ (ps ∷ qs ∷ product_of n p q ∷ []))))
-        parts = rw product_list_is at all
-
-        pub product_low : Covers fs (working_set n (product_list n p0 q0))
-        product_low = covers_left n fs (product_list n p0 q0) _ parts
-
-        pub product_both : Covers fs (working_set n (product_list n ps qs))
-        product_both = covers_part n fs _ (product_list n ps qs) parts (λ f i. search (Has-append_left, Has-append_right))
-
-        pub product_first : Covers fs (sub n ps)
-        product_first = covers_family n fs _ ps parts (search (Has-head, Has-append_right))
-
-        pub product_second : Covers fs (sub n qs)
-        product_second = covers_family n fs _ qs parts (search (Has-head, Has-tail, Has-append_right))
-
-        pub product_self : Covers fs (sub n (product_of n p q))
-        product_self = covers_family n fs _ _ parts (search (Has-head, Has-tail, Has-append_right))
-
-        -- the part with the variable is a cofactor of the product
-        pub product_high : Covers fs (sub n highs)
-        product_high k i = product_self k (rw product_of-join (sub-join_high d n lows highs low_after high_after cut.less k i))
+    -- the part with the variable is a cofactor of the product
+    pub product_high : (fs : List Family) → Covers fs (working_set n (product_list n p q)) → Covers fs (sub n (high_product d p q))
+    product_high fs all k i =
+        let whole = covers_family n fs _ (product_of n p q) (rw product_list_is at all) (search (Has-head, Has-tail, Has-append_right)) in
+        whole k (rw product_of-join (sub-join_high d n _ _ (IsFamily-product_of d p0 q0) (IsFamily-combine exactly_one d _ _) cut.less k i))
 
 -- ---- the product with a variable
 
@@ -664,7 +638,7 @@ module _ (fs : List Family) (n : ℕ) where
               | inr (inl i) ↦ rw i (omega (arith, count), low)
               | inr (inr i) ↦ rw i (omega (arith, count), high)
             ] in
-            covers_all cut (λ e. cc) (λ e. cc) (λ e. cc) fs all
+            covers_all cut (record { some = λ e. cc; varies = λ e. cc; points = λ e. cc }) fs all
             (covers_few d under f0 p0 f0f p0f (omega (arith, count)) low (λ g i. whole g (sub-join_low d n _ _ zeros ones at g i)))
             (covers_cons n fs _ part small.1 (covers_few d under part p1 (part_after cut) p1f small.0 small.1
             (λ g i. whole g (sub-join_high d n _ _ zeros ones at g i))))

@@ -1,30 +1,30 @@
 -- The steps of the recursions on two operands: for the points of a set at which a polynomial is 1, and for the product of two polynomials.
-use Rattle.std.proofs.Common.{rules, ◌≡◌, ℕ, suc, ◌-◌, ◌*◌, ◌^◌, ◌<◌, ◌≤◌, max, false, ◌&&◌, ◌||◌, arith, true, ◌≢◌, Some, Ok, Err, Result}
-use Rattle.std.proofs.Common.{IfOk, [], ◌∷◌, refl, ◌∙◌, ap, ◌⊎◌, inl, inr, List, subst}
+use Rattle.std.proofs.Common.{◌≡◌, ℕ, suc, ◌-◌, ◌*◌, ◌^◌, ◌<◌, ◌≤◌, max, false, ◌&&◌, ◌||◌, arith, true, ◌≢◌, Some, Ok, Err, Result}
+use Rattle.std.proofs.Common.{IfOk, [], ◌∷◌, ◌++◌, refl, ◌∙◌, ap, ◌⊎◌, inl, inr, List}
 use Rattle.std.proofs.lemmas.Bool.{cases_Bool, or_right}
-use Rattle.lattice.specs.Words.{Family, IsFamily, Covers, high_cofactor, is_empty, is_constant, level, join, sub, takes_family, needs}
+use Rattle.lattice.specs.Words.{Family, IsFamily, Covers, exactly_one, high_cofactor, is_empty, is_constant, level, sub, needs}
 use Rattle.lattice.specs.Words.{ones_list, working_set, operation_list, ones_of, sum_of, product_of, product_list, value}
-use Rattle.lattice.specs.declared.op.Op.{Op}
 use Rattle.lattice.specs.declared.op.Op.TheVariants.{Ones, Product}
-use Rattle.lattice.proofs.Diagrams.{level-below, covers_head, covers_nil, covers_tail, covers_part}
+use Rattle.lattice.proofs.Diagrams.{level-below, covers_one, covers_head, covers_nil, covers_tail, covers_part}
 use Rattle.lattice.proofs.Polynomials.{IsFamily-low_cofactor, IsFamily-high_cofactor, product_by_values, not_constant}
 use Rattle.node_store.specs.Stores.{State, Knows, Denotes, family, IsSound, IsPlanned, Reads, needs_of, Grows, Gives, Builds}
 use Rattle.node_store.specs.declared.store.Handle.{Handle}
 use Rattle.node_store.specs.declared.store.Full.{Full}
 use Rattle.node_store.proofs.StoreLaws.{Denotes-family, Denotes-knows, Gives-after, Grows-family, Grows-knows, Knows-denotes, Reads-refl}
-use Rattle.node_store.proofs.StoreLaws.{Reads-trans, filled, known_after, zero_family, MayGrow, node_builds, one_family, gives_as}
+use Rattle.node_store.proofs.StoreLaws.{Reads-trans, filled, known_after, zero_family, one_family, gives_as}
 use Rattle.node_store.proofs.StoreLaws.{reads_one, then_call, found_built, gives_fewer, builds_gives, Builds-known, found_gives}
 use Rattle.node_store.proofs.StoreLaws.{found_read, Grows-trans}
 use Rattle.set_algebra.specs.Pairs.{AreCofactors, IsCutAt}
 use Rattle.set_algebra.specs.declared.pairs.Cofactors.{Cofactors}
 use Rattle.set_algebra.proofs.Levels.{top_after, top_later}
+use Rattle.set_algebra.proofs.Calls.{Calls, AreAtHand, IsAtHand, LastNode, also_planned, after_call, after_combined, after_other}
+use Rattle.set_algebra.proofs.Calls.{call_planned, calls_in_order, cofactors_start, combined_planned, last_node}
 use Rattle.bool_poly.specs.Parts.{AreOnes, AsksOnes, AsksWith, high_part, low_part, sum_at, with_needs, with_part}
-use Rattle.bool_poly.proofs.NodeLemmas.{IsSplit, split_grows}
-use Rattle.bool_poly.proofs.Families.{AreCutAt, lower, part_after, ones_of-nothing, ones_of-unit, ones_of-join, IsFamily-ones_of}
-use Rattle.bool_poly.proofs.Families.{ones_list-none, ones_list-unit, covers_self, covers_low, covers_high, covers_all}
-use Rattle.bool_poly.proofs.Families.{product_of-left_none, product_of-right_unit, product_of-swap, product_of-join, at_one_after}
-use Rattle.bool_poly.proofs.Families.{low_after, high_after, product_list-constant, product_list-swap, product_low, product_both}
-use Rattle.bool_poly.proofs.Families.{product_first, product_second, product_self, product_high, product_all}
+use Rattle.bool_poly.proofs.Families.{AreCutAt, AreFull, lower, part_after, ones_of-nothing, ones_of-unit, ones_of-join, IsFamily-ones_of}
+use Rattle.bool_poly.proofs.Families.{ones_list-none, ones_list-unit, covers_self, covers_low, covers_high, covers_all, at_one}
+use Rattle.bool_poly.proofs.Families.{product_of-left_none, product_of-right_unit, product_of-swap, product_of-join, product_of-narrow}
+use Rattle.bool_poly.proofs.Families.{product_list-constant, product_list-swap, product_list-narrow, IsFamily-product_of, low_product}
+use Rattle.bool_poly.proofs.Families.{high_product, product_calls, as_called, as_listed, product_list_is, product_high}
 
 -- ---- the cut
 
@@ -41,37 +41,10 @@ cut_families : {s : State} {a b : Handle} {var : ℕ} → IsSound s → Knows s 
     → AreCutAt s.vars (s.vars - var) (family s a) (family s b)
 cut_families {s} {a} {b} {var} ok ka kb cut = grind (arith, top_after, one_has_it)
 
--- what there is after the cut: s is the state at the call, t one after the cut
-pub record IsCut (s t : State) (a b : Handle) (c : Cofactors) : Type 0 where
-  pub reads : Reads s t
-  pub are : AreCofactors s t a b c
-  pub families : AreCutAt s.vars (s.vars - c.var) (family s a) (family s b)
-
-is_cut : {s t : State} {a b : Handle} {c : Cofactors} → IsSound s → Knows s a → Knows s b → Reads s t → AreCofactors s t a b c
-    → IsCut s t a b c
-is_cut ok ka kb reads are = search (rules, arith, cut_families)
-
-module _ {s t : State} {a b : Handle} {c : Cofactors} (cut : IsCut s t a b c) where
-  -- after one more call
-  pub cut_later : {u : State} {h : Handle} {f : Family} {needed : List Family} → Gives t u (Ok h) f needed → IsCut s u a b c
-  cut_later call = let reads = then_call cut.reads call in let grows = call.grows in grind arith
-
-  -- a call of an operation on handles whose families are behind the first variable
-  module _ {x y : Handle} {f g : Family} (fx : Denotes t x f) (gy : Denotes t y g) where
-    call_falls : IsFamily (s.vars - c.var) f → IsFamily (s.vars - c.var) g
-        → max (level t.vars (family t x)) (level t.vars (family t y)) < max (level s.vars (family s a)) (level s.vars (family s b))
-    call_falls ff gf =
-        let left = level-below _ s.vars f ff (omega arith) in let right = level-below _ s.vars g gf (omega arith) in
-        rw (cut.reads.grows.vars, Denotes-family t x f fx, Denotes-family t y g gy) (omega (arith, left, right, cut.are.top))
-
-    call_requires : (op : Op) → takes_family op ≡ true → Covers s.plan (needs op s.vars f g y.0)
-        → Knows t x × (Knows t y × Covers t.plan (needs_of t op x y.0))
-    call_requires op binary planned = let reads = cut.reads in grind (arith, Denotes-family, Denotes-knows)
-
-  -- the low parts fall
-  pub low_falls : max (level t.vars (family t c.a_low)) (level t.vars (family t c.b_low))
-      < max (level s.vars (family s a)) (level s.vars (family s b))
-  low_falls = call_falls cut.are.a_low cut.are.b_low (IsFamily-low_cofactor _ _) (IsFamily-low_cofactor _ _)
+-- the parts of two operands
+abbrev parts_of : State → Handle → Handle → Cofactors → List (Handle × Family)
+parts_of s a b c =
+    (c.a_low, low_part s c a) ∷ (c.a_high, high_part s c a) ∷ (c.b_low, low_part s c b) ∷ (c.b_high, high_part s c b) ∷ []
 
 -- ---- the points: results at once
 
@@ -92,60 +65,72 @@ module _ {s : State} (h set : Handle) (ok : IsSound s) where
 
 -- ---- the points: one step
 
--- the operands: a polynomial other than 0 and 1, and a set with a point
-record AreFull (s : State) (h set : Handle) : Type 0 where
-  some : family s h ≢ []
-  varies : family s h ≢ 0 ∷ []
-  points : family s set ≢ []
-  planned : Covers s.plan (working_set s.vars (ones_list s.vars (family s h) (family s set)))
-
-are_full : {s : State} {h set : Handle} → IsSound s → AsksOnes s h set → 2 ≤ h.0 → 1 ≤ set.0 → AreFull s h set
-unfolding needs operation_list
+are_full : {s : State} {h set : Handle} → IsSound s → AsksOnes s h set → 2 ≤ h.0 → 1 ≤ set.0 → AreFull (family s h) (family s set)
 are_full {s} {h} {set} ok asks varies points = grind (arith, filled, Knows-denotes)
 
--- what there is after the cut: s is the state at the call, t one after the cut
-pub record IsStarted (s t : State) (h set : Handle) (c : Cofactors) : Type 0 where
-  pub cut : IsCut s t h set c
-  full : AreFull s h set
+-- in t the parts of the operands at their first variable are at hand; the list stays whole behind the calls, since AreOnes says what of
+-- it is held
+pub record OnesCut (s t : State) (h set : Handle) (c : Cofactors) : Type 0 where
+  full : AreFull (family s h) (family s set)
+  cut : AreCutAt s.vars (s.vars - c.var) (family s h) (family s set)
+  pub top : max (level s.vars (family s h)) (level s.vars (family s set)) ≡ suc (s.vars - c.var)
+  pub calls : Calls s t (s.vars - c.var) (ones_list s.vars (family s h) (family s set)) (ones_list s.vars (family s h) (family s set))
+      (parts_of s h set c)
 
-pub started : {s t : State} {h set : Handle} {c : Cofactors} → IsSound s → AsksOnes s h set → 2 ≤ h.0 → 1 ≤ set.0 → Reads s t
-    → AreCofactors s t h set c → IsStarted s t h set c
-started ok asks varies points reads are = grind (arith, is_cut, are_full)
+pub ones_cut : {s t : State} {h set : Handle} {c : Cofactors} → IsSound s → AsksOnes s h set → 2 ≤ h.0 → 1 ≤ set.0 → Reads s t
+    → AreCofactors s t h set c → OnesCut s t h set c
+unfolding needs operation_list
+ones_cut ok asks varies points reads are = record {
+  full = are_full ok asks varies points;
+  cut = cut_families ok asks.polynomial asks.points (record { first = are.first; last = are.last; top = are.top });
+  top = are.top;
+  calls = cofactors_start reads are asks.planned refl;
+}
 
-module _ {s t : State} {h set : Handle} {c : Cofactors} (start : IsStarted s t h set c) where
-  open start use {cut, full}
-
-  -- after one more call
-  pub started_later : {u : State} {r : Handle} {f : Family} {needed : List Family} → Gives t u (Ok r) f needed → IsStarted s u h set c
-  started_later call = record { cut = cut_later cut call; full = full }
+module _ {s t : State} {h set : Handle} {c : Cofactors} (k : OnesCut s t h set c) where
+  abbrev parts : AreAtHand t (s.vars - c.var) (parts_of s h set c)
+  parts = k.calls.here
 
   -- the low part may be asked for
   pub low_asks : AsksOnes t c.a_low c.b_low
   unfolding needs operation_list
-  low_asks =
-      let planned = covers_low cut.families full.some full.varies full.points s.plan full.planned in
-      let asks = call_requires cut cut.are.a_low cut.are.b_low Ones refl planned in
-      record { polynomial = asks.0; points = asks.1.0; planned = asks.1.1 }
-
-  sum_is : sum_at t c.a_low c.a_high c.b_high ≡ with_part s c h set
-  sum_is =
-      let e = cut.are in let high = Denotes-family t c.b_high _ e.b_high in
-      rw (cut.reads.grows.vars, Denotes-family t c.a_low _ e.a_low, Denotes-family t c.a_high _ e.a_high, high) refl
+  low_asks = record {
+    polynomial = Denotes-knows t c.a_low _ parts.0.0;
+    points = Denotes-knows t c.b_low _ parts.1.1.0.0;
+    planned = rw (k.calls.reads.grows.plan, k.calls.reads.grows.vars, parts.0.0, parts.1.1.0.0)
+        (covers_low k.cut k.full s.plan k.calls.planned);
+  }
 
   -- the high part may be asked for
   pub with_asks : IsSound t → AsksWith t c.a_low c.a_high c.b_high
   with_asks ok =
-      let low' : Covers s.plan (sub s.vars (low_part s c h)) = λ k i. rw (← cut.reads.grows.plan) (ok.planned k
-      (ok.subs c.a_low.0 (low_part s c h) cut.are.a_low k (rw cut.reads.grows.vars i))) in
-      let high = covers_high cut.families full.some full.varies full.points s.plan full.planned low' in let sum = sum_is in
-      grind (arith, covers_head s.vars s.plan _ _ high, covers_tail s.vars s.plan _ _ high, Denotes-knows, Denotes-family)
+      let low' : Covers s.plan (sub s.vars (low_part s c h)) = λ f i. rw (← k.calls.reads.grows.plan) (ok.planned f
+      (ok.subs c.a_low.0 (low_part s c h) parts.0.0 f (rw k.calls.reads.grows.vars i))) in
+      let high = covers_high k.cut k.full s.plan k.calls.planned low' in record {
+        low_known = Denotes-knows t c.a_low _ parts.0.0;
+        high_known = Denotes-knows t c.a_high _ parts.1.0.0;
+        points_known = Denotes-knows t c.b_high _ parts.1.1.1.0.0;
+        sum = rw (k.calls.reads.grows.plan, k.calls.reads.grows.vars, parts.0.0, parts.1.0.0, parts.1.1.1.0.0)
+            (covers_head s.vars s.plan _ _ high);
+        planned = rw (k.calls.reads.grows.plan, k.calls.reads.grows.vars, parts.0.0, parts.1.0.0, parts.1.1.1.0.0)
+            (covers_tail s.vars s.plan _ _ high);
+      }
 
-  -- and falls: u is the state after the sum
-  pub high_falls : {u : State} {with : Handle} → Builds t u (Ok with) (sum_at t c.a_low c.a_high c.b_high)
-      → max (level u.vars (family u with)) (level u.vars (family u c.b_high)) < max (level s.vars (family s h))
-      (level s.vars (family s set))
-  high_falls call = let after = cut_later cut call in
-      call_falls after (call.ok ∙ ap Some sum_is) after.are.b_high (part_after cut.families) (IsFamily-high_cofactor _ _)
+  -- in u these handles were found
+  abbrev Found : State → List (Handle × Family) → Type 0
+  Found u hs = Calls s u (s.vars - c.var) (ones_list s.vars (family s h) (family s set)) (ones_list s.vars (family s h) (family s set))
+      (hs ++ parts_of s h set c)
+
+  module _ {u : State} {lo : Handle} {needed : List Family}
+      (one : Gives t u (Ok lo) (ones_of t.vars (family t c.a_low) (family t c.b_low)) needed) where
+    pub after_low : Found u ((lo, ones_of s.vars (low_part s c h) (low_part s c set)) ∷ [])
+    after_low = after_other k.calls (rw (k.calls.reads.grows.vars, parts.0.0, parts.1.1.0.0) refl)
+        (IsFamily-ones_of _ s.vars (low_part s c h) (low_part s c set) (IsFamily-low_cofactor _ _) k.calls.le) one
+
+    pub after_with : {v : State} {with : Handle} → Builds u v (Ok with) (sum_at u c.a_low c.a_high c.b_high)
+        → Found v ((with, with_part s c h set) ∷ (lo, ones_of s.vars (low_part s c h) (low_part s c set)) ∷ [])
+    after_with two = let here = after_low.here in
+        after_other after_low (rw (after_low.reads.grows.vars, here.1.0.0, here.1.1.0.0, here.1.1.1.1.0.0) refl) (part_after k.cut) two
 
 -- ---- what is asked, in other states
 
@@ -222,31 +207,22 @@ ones_in_row {lo = lo} asks same are reads second low sum high =
 
 -- ---- the points: the node over the halves, in the state v after them
 
-module _ {v : State} {x y lo hi : Handle} {c : Cofactors} (ok : IsSound v) (asks : AsksOnes v x y) (varies : 2 ≤ x.0)
-    (some_points : 1 ≤ y.0) (cut : IsCutAt v x y c.var) (are : AreOnes v x y c lo hi) where
-  families : AreCutAt v.vars (v.vars - c.var) (family v x) (family v y)
-  families = cut_families ok asks.polynomial asks.points cut
-
-  full : AreFull v x y
-  full = are_full ok asks varies some_points
-
-  split : IsSplit v c.var (ones_of v.vars (family v x) (family v y)) (ones_of v.vars (low_part v c x) (low_part v c y))
-      (ones_of v.vars (with_part v c x y) (high_part v c y))
-  split =
-      let covered = covers_self families full.some full.varies full.points v.plan full.planned in
-      let low = IsFamily-ones_of _ v.vars (low_part v c x) _ (IsFamily-low_cofactor (v.vars - c.var) (family v y)) (omega arith) in
-      let high = IsFamily-ones_of _ v.vars (with_part v c x y) _ (IsFamily-high_cofactor (v.vars - c.var) (family v y)) (omega arith) in
-      grind (arith, ones_of-join families)
-
-  pub may_grow : MayGrow v v c.var lo hi (ones_of v.vars (family v x) (family v y))
-  may_grow = split_grows split (Reads-refl v) are.low are.high
-
-  pub grown : {w : State} {r : Handle} → Builds v w (Ok r) (join (v.vars - c.var) (family v lo) (family v hi))
-      → Gives v w (Ok r) (ones_of v.vars (family v x) (family v y)) (needs_of v Ones x y.0)
-  unfolding needs operation_list
-  grown {w} {r} last =
-      let built : Builds v w (Ok r) (ones_of v.vars (family v x) (family v y)) = node_builds may_grow last in
-      grind (arith, covers_all families full.some full.varies full.points w.held)
+pub ones_node : {v : State} {x y lo hi : Handle} {c : Cofactors} → IsSound v → AsksOnes v x y → 2 ≤ x.0 → 1 ≤ y.0 → IsCutAt v x y c.var
+    → AreOnes v x y c lo hi → LastNode v v c.var lo hi (ones_of v.vars (family v x) (family v y)) (needs_of v Ones x y.0)
+unfolding needs operation_list
+ones_node {v} {x} {y} {c = c} ok asks varies points cut are =
+    let parts = cut_families ok asks.polynomial asks.points cut in let full = are_full ok asks varies points in
+    let calls : Calls v v (v.vars - c.var) (ones_list v.vars (family v x) (family v y)) (ones_of v.vars (family v x) (family v y) ∷ []) [] =
+    record {
+      reads = Reads-refl v;
+      le = omega arith;
+      planned = covers_one v.vars v.plan _ (covers_self parts full v.plan asks.planned);
+      whole = λ u later held. covers_all parts full u.held (covers_head v.vars u.held [] _ held)
+          (λ f i. later.held f (are.low_held f i)) (λ f i. later.held f (are.high_held f i));
+      here = tt;
+    } in last_node c.var calls ok (cut.first, cut.last) refl
+    (are.low, IsFamily-ones_of _ v.vars (low_part v c x) _ (IsFamily-low_cofactor _ _) calls.le)
+    (are.high, IsFamily-ones_of _ v.vars (with_part v c x y) _ (IsFamily-high_cofactor _ _) calls.le) (ones_of-join parts)
 
 -- ---- the product: results at once, and the other order
 
@@ -289,146 +265,100 @@ at_second a b ok ka kb either = swap_given a b (at_first b a ok kb ka either)
 
 -- ---- the product: one step
 
--- what there is after the cut: s is the state at the call, t one after the cut
-pub record IsMultiplied (s t : State) (a b : Handle) (c : Cofactors) : Type 0 where
-  pub cut : IsCut s t a b c
-  pub vary : (is_constant (family s a) || is_constant (family s b)) ≡ false
-  pub planned : Covers s.plan (working_set s.vars (product_list s.vars (family s a) (family s b)))
+-- what a call does; s is the state before it
+abbrev pub DoesProduct : State → Handle → Handle → State → Result Handle Full → Type 0
+DoesProduct s a b t r = Gives s t r (product_of s.vars (family s a) (family s b)) (needs_of s Product a b.0)
+
+-- a call for polynomials A and B at hand, whose list comes next
+module _ {s t : State} {d : ℕ} {all : List Family} {hs : List (Handle × Family)} {x y : Handle} {A B : Family} (rest : List Family)
+    (k : Calls s t d all (product_list d A B ++ rest) hs) (l : IsAtHand t d x A) (r : IsAtHand t d y B) where
+  product_needs : needs_of t Product x y.0 ≡ working_set s.vars (product_list d A B)
+  unfolding needs operation_list
+  product_needs = rw (k.reads.grows.vars, l.0, r.0, product_list-narrow d s.vars A B l.1 r.1 k.le) refl
+
+  pub product_asked : Knows t x × (Knows t y × Covers t.plan (needs_of t Product x y.0))
+  product_asked = (Denotes-knows t x A l.0, (Denotes-knows t y B r.0, call_planned (product_list d A B) rest k product_needs))
+
+  pub product_found : {u : State} {h : Handle} → DoesProduct t x y u (Ok h) → Calls s u d all rest ((h, product_of d A B) ∷ hs)
+  product_found does = after_call (product_list d A B) rest k product_needs
+      (rw (k.reads.grows.vars, l.0, r.0, product_of-narrow d s.vars A B l.1 r.1 k.le) refl) (IsFamily-product_of d A B) does
+
+-- a call for the sum of two polynomials at hand, which comes next
+pub sum_asked : {s t : State} {d : ℕ} {all rest : List Family} {hs : List (Handle × Family)} {x y : Handle} {A B : Family}
+    → Calls s t d all (sum_of d A B ∷ rest) hs → IsAtHand t d x A → IsAtHand t d y B
+    → record { a : Knows t x; b : Knows t y; planned : IsPlanned t (sum_of t.vars (family t x) (family t y)) }
+sum_asked {t = t} {x = x} {y} {A} {B} k l r =
+    record { a = Denotes-knows t x A l.0; b = Denotes-knows t y B r.0; planned = combined_planned exactly_one refl k l r }
+
+-- in t the parts of the polynomials P and Q of a and b at their first variable are at hand
+pub record ProductCut (s t : State) (a b : Handle) (c : Cofactors) : Type 0 where
+  pub cut : AreCutAt s.vars (s.vars - c.var) (family s a) (family s b)
+  pub are : AreCofactors s t a b c
+  pub calls : Calls s t (s.vars - c.var) (product_list s.vars (family s a) (family s b))
+      (product_calls (s.vars - c.var) (family s a) (family s b) (product_of s.vars (family s a) (family s b))) (parts_of s a b c)
 
 varies : (s : State) (h : Handle) → IsSound s → Knows s h → h.0 ≢ 0 → h.0 ≢ 1 → is_constant (family s h) ≡ false
 varies s h ok known ne un = grind (arith, not_constant, filled, Knows-denotes)
 
-pub multiplied : {s t : State} {a b : Handle} {c : Cofactors} → IsSound s → Knows s a → Knows s b → a.0 ≢ 0 → b.0 ≢ 1 → b.0 ≢ 0 → a.0 ≢ 1
-    → Covers s.plan (needs_of s Product a b.0) → Reads s t → AreCofactors s t a b c → IsMultiplied s t a b c
+pub product_cut : {s t : State} {a b : Handle} {c : Cofactors} → IsSound s → Knows s a → Knows s b → a.0 ≢ 0 → b.0 ≢ 1 → b.0 ≢ 0 → a.0 ≢ 1
+    → Covers s.plan (needs_of s Product a b.0) → Reads s t → AreCofactors s t a b c → ProductCut s t a b c
 unfolding needs operation_list
-multiplied {s} {t} {a} {b} {c} ok ka kb an bu bn au planned reads are = grind (arith, is_cut, varies)
+product_cut {s} {t} {a} {b} {c} ok ka kb an bu bn au planned reads are =
+    let cut = cut_families ok ka kb (record { first = are.first; last = are.last; top = are.top }) in
+    let vary : (is_constant (family s a) || is_constant (family s b)) ≡ false = rw (varies s a ok ka an au, varies s b ok kb bn bu) refl in
+    let parts = cofactors_start reads are planned (product_list_is cut vary) in record {
+      cut = cut;
+      are = are;
+      calls = calls_in_order (also_planned (product_high cut vary s.plan planned) parts) (as_called _ _ _ _) (as_listed _ _ _ _);
+    }
 
-module _ {s t : State} {a b : Handle} {c : Cofactors} (start : IsMultiplied s t a b c) where
-  open start use {cut, vary, planned}
+module _ {s t : State} {a b : Handle} {c : Cofactors} (k : ProductCut s t a b c) where
+  abbrev d : ℕ
+  d = s.vars - c.var
 
-  -- after one more call
-  pub multiplied_later : {u : State} {h : Handle} {f : Family} {needed : List Family} → Gives t u (Ok h) f needed → IsMultiplied s u a b c
-  multiplied_later call = record { cut = cut_later cut call; vary = vary; planned = planned }
+  abbrev P : Family
+  P = family s a
 
-  -- calls on two handles
-  module _ {x y : Handle} {f g : Family} (fx : Denotes t x f) (gy : Denotes t y g) where
-    sum_requires : Covers s.plan (sub s.vars (sum_of s.vars f g))
-        → Knows t x × Knows t y × IsPlanned t (sum_of t.vars (family t x) (family t y))
-    sum_requires all = let grows = cut.reads.grows in grind (arith, Denotes-knows, Denotes-family)
+  abbrev Q : Family
+  Q = family s b
 
-    sum_call : {u : State} {r : Handle} → Builds t u (Ok r) (sum_of t.vars (family t x) (family t y))
-        → Denotes u r (sum_of s.vars f g) × Covers u.held (sub s.vars (sum_of s.vars f g))
-    sum_call {u} {r} call =
-        let x_is = Denotes-family t x f fx in let y_is = Denotes-family t y g gy in
-        let same : sum_of t.vars (family t x) (family t y) ≡ sum_of s.vars f g = rw (cut.reads.grows.vars, x_is, y_is) refl in
-        (call.ok ∙ ap Some same, λ k i. call.held k (rw (cut.reads.grows.vars, x_is, y_is) i))
+  abbrev whole : Family
+  whole = product_of s.vars P Q
 
-    product_call : {u : State} {r : Handle} → Gives t u (Ok r) (product_of t.vars (family t x) (family t y)) (needs_of t Product x y.0)
-        → Denotes u r (product_of s.vars f g) × Covers u.held (working_set s.vars (product_list s.vars f g))
-    unfolding needs operation_list
-    product_call {u} {r} call =
-        let x_is = Denotes-family t x f fx in let y_is = Denotes-family t y g gy in
-        let list : needs_of t Product x y.0 ≡ working_set s.vars (product_list s.vars f g) = rw (cut.reads.grows.vars, x_is, y_is) refl in
-        (rw (cut.reads.grows.vars, x_is, y_is) at call.ok, subst (Covers u.held) list call.held)
+  abbrev ps : Family
+  ps = at_one d d P
 
-  -- the product of the low parts may be asked for
-  pub low_requires : Knows t c.a_low × (Knows t c.b_low × Covers t.plan (needs_of t Product c.a_low c.b_low.0))
-  unfolding needs operation_list
-  low_requires = call_requires cut cut.are.a_low cut.are.b_low Product refl (product_low cut.families vary s.plan planned)
+  abbrev qs : Family
+  qs = at_one d d Q
 
-  -- and so may the sums of the parts of a and of b
-  pub first_requires : Knows t c.a_low × Knows t c.a_high × IsPlanned t (sum_of t.vars (family t c.a_low) (family t c.a_high))
-  first_requires = sum_requires cut.are.a_low cut.are.a_high (product_first cut.families vary s.plan planned)
+  -- in u these families are still to be found, and these handles were
+  abbrev In : State → List Family → List (Handle × Family) → Type 0
+  In u rest hs = Calls s u d (product_list s.vars P Q) rest (hs ++ parts_of s a b c)
 
-  pub second_requires : Knows t c.b_low × Knows t c.b_high × IsPlanned t (sum_of t.vars (family t c.b_low) (family t c.b_high))
-  second_requires = sum_requires cut.are.b_low cut.are.b_high (product_second cut.families vary s.plan planned)
+  module _ {u : State} {lo : Handle} (one : DoesProduct t c.a_low c.b_low u (Ok lo)) where
+    pub after_product : In u (ps ∷ qs ∷ (product_list d ps qs ++ (high_product d P Q ∷ whole ∷ []))) ((lo, low_product d P Q) ∷ [])
+    after_product = product_found _ k.calls k.calls.here.0 k.calls.here.1.1.0 one
 
--- the calls one after the other: t is the state after the cut, u the one after the product of the low parts, v and w those after the sums
-module _ {s t u v w : State} {a b lo a_sum b_sum : Handle} {c : Cofactors} (start : IsMultiplied s t a b c)
-    (low_call : Gives t u (Ok lo) (product_of t.vars (family t c.a_low) (family t c.b_low)) (needs_of t Product c.a_low c.b_low.0))
-    (first_call : Builds u v (Ok a_sum) (sum_of u.vars (family u c.a_low) (family u c.a_high)))
-    (second_call : Builds v w (Ok b_sum) (sum_of v.vars (family v c.b_low) (family v c.b_high))) where
-  open start use {cut, vary, planned}
+    module _ {v : State} {a_sum : Handle} (two : Builds u v (Ok a_sum) (sum_of u.vars (family u c.a_low) (family u c.a_high))) where
+      pub after_first : In v (qs ∷ (product_list d ps qs ++ (high_product d P Q ∷ whole ∷ []))) ((a_sum, ps) ∷ (lo, low_product d P Q) ∷ [])
+      after_first = after_combined exactly_one refl after_product after_product.here.1.0 after_product.here.1.1.0 two
 
-  abbrev L : Family
-  L = product_of s.vars (low_part s c a) (low_part s c b)
+      module _ {w : State} {b_sum : Handle} (three : Builds v w (Ok b_sum) (sum_of v.vars (family v c.b_low) (family v c.b_high))) where
+        pub after_second : In w (product_list d ps qs ++ (high_product d P Q ∷ whole ∷ []))
+            ((b_sum, qs) ∷ (a_sum, ps) ∷ (lo, low_product d P Q) ∷ [])
+        after_second = after_combined exactly_one refl after_first after_first.here.1.1.1.1.0 after_first.here.1.1.1.1.1.0 three
 
-  abbrev FS : Family
-  FS = sum_of s.vars (low_part s c a) (high_part s c a)
+        module _ {x : State} {both : Handle} (four : DoesProduct w a_sum b_sum x (Ok both)) where
+          pub after_both : In x (high_product d P Q ∷ whole ∷ [])
+              ((both, product_of d ps qs) ∷ (b_sum, qs) ∷ (a_sum, ps) ∷ (lo, low_product d P Q) ∷ [])
+          after_both = product_found _ after_second after_second.here.1.0 after_second.here.0 four
 
-  abbrev GS : Family
-  GS = sum_of s.vars (low_part s c b) (high_part s c b)
+          module _ {y : State} {hi : Handle} (five : Builds x y (Ok hi) (sum_of x.vars (family x lo) (family x both))) where
+            pub after_upper : In y (whole ∷ []) ((hi, high_product d P Q) ∷ (both, product_of d ps qs) ∷ (b_sum, qs) ∷ (a_sum, ps)
+                ∷ (lo, low_product d P Q) ∷ [])
+            after_upper = after_combined exactly_one refl after_both after_both.here.1.1.1.0 after_both.here.0 five
 
-  after_low : IsMultiplied s u a b c
-  after_low = multiplied_later start low_call
-
-  after_first : IsMultiplied s v a b c
-  after_first = multiplied_later after_low first_call
-
-  after_second : IsMultiplied s w a b c
-  after_second = multiplied_later after_first second_call
-
-  first : Denotes v a_sum FS × Covers v.held (sub s.vars FS)
-  first = sum_call after_low after_low.cut.are.a_low after_low.cut.are.a_high first_call
-
-  second : Denotes w b_sum GS × Covers w.held (sub s.vars GS)
-  second = sum_call after_first after_first.cut.are.b_low after_first.cut.are.b_high second_call
-
-  a_sum_is : Denotes w a_sum FS
-  a_sum_is = second_call.grows.known a_sum.0 FS first.0
-
-  -- the product of the sums falls, and may be asked for
-  pub both_falls : max (level w.vars (family w a_sum)) (level w.vars (family w b_sum))
-      < max (level s.vars (family s a)) (level s.vars (family s b))
-  both_falls = call_falls after_second.cut a_sum_is second.0 (at_one_after _ _ _ (omega arith)) (at_one_after _ _ _ (omega arith))
-
-  pub both_requires : Knows w a_sum × (Knows w b_sum × Covers w.plan (needs_of w Product a_sum b_sum.0))
-  unfolding needs operation_list
-  both_requires = call_requires after_second.cut a_sum_is second.0 Product refl (product_both cut.families vary s.plan planned)
-
-  -- x is the state after it
-  module _ {x : State} {both : Handle}
-      (both_call : Gives w x (Ok both) (product_of w.vars (family w a_sum) (family w b_sum)) (needs_of w Product a_sum b_sum.0)) where
-    low : Denotes u lo L × Covers u.held (working_set s.vars (product_list s.vars (low_part s c a) (low_part s c b)))
-    low = product_call start cut.are.a_low cut.are.b_low low_call
-
-    third : Denotes x both (product_of s.vars FS GS) × Covers x.held (working_set s.vars (product_list s.vars FS GS))
-    third = product_call after_second a_sum_is second.0 both_call
-
-    lo_is : Denotes x lo L
-    lo_is = both_call.grows.known lo.0 L (second_call.grows.known lo.0 L (first_call.grows.known lo.0 L low.0))
-
-    after_both : IsMultiplied s x a b c
-    after_both = multiplied_later after_second both_call
-
-    -- its sum with the first product may be asked for
-    pub high_requires : Knows x lo × Knows x both × IsPlanned x (sum_of x.vars (family x lo) (family x both))
-    high_requires = sum_requires after_both lo_is third.0 (product_high cut.families vary s.plan planned)
-
-    -- y is the state after that, and z the one after the node
-    module _ {y : State} {hi : Handle} (high_call : Builds x y (Ok hi) (sum_of x.vars (family x lo) (family x both))) where
-      product_split : IsSplit s c.var (product_of s.vars (family s a) (family s b)) L (sum_of s.vars L (product_of s.vars FS GS))
-      product_split = record {
-        first = cut.are.first;
-        last = cut.are.last;
-        low_after = low_after cut.families;
-        high_after = high_after cut.families;
-        whole = product_of-join cut.families;
-        planned = product_self cut.families vary s.plan planned;
-      }
-
-      pub product_grows : MayGrow s y c.var lo hi (product_of s.vars (family s a) (family s b))
-      product_grows = split_grows product_split (then_call after_both.cut.reads high_call) (high_call.grows.known lo.0 L lo_is)
-          (sum_call after_both lo_is third.0 high_call).0
-
-      pub product_given : {z : State} {r : Handle} → Builds y z (Ok r) (join (y.vars - c.var) (family y lo) (family y hi))
-          → Gives s z (Ok r) (product_of s.vars (family s a) (family s b)) (needs_of s Product a b.0)
-      unfolding needs operation_list
-      product_given {z} {r} last =
-          let built : Builds s z (Ok r) (product_of s.vars (family s a) (family s b)) = node_builds product_grows last in
-          let late : Covers z.held x.held = λ k i. last.grows.held k (high_call.grows.held k i) in
-          let up : Covers z.held w.held = λ k i. late k (both_call.grows.held k i) in
-          let held = product_all cut.families vary z.held
-          (λ k i. up k (second_call.grows.held k (first_call.grows.held k (low.1 k i)))) (λ k i. late k (third.1 k i))
-          (λ k i. up k (second_call.grows.held k (first.1 k i))) (λ k i. up k (second.1 k i)) built.held in
-          record { grows = built.grows; ok = built.ok; held = held; quiet = built.quiet; full = built.full }
+            pub product_node : IsSound y → LastNode s y c.var lo hi whole (needs_of s Product a b.0)
+            unfolding needs operation_list
+            product_node sound = let at = after_upper.here in
+                last_node c.var after_upper sound (k.are.first, k.are.last) refl at.1.1.1.1.0 at.0 (product_of-join k.cut)

@@ -121,11 +121,6 @@ module _ {s u : State} {d : ℕ} {all : List Family} {hs : List (Handle × Famil
   next_needs : needs_of u Least z o.0 ≡ working_set s.vars (interpolation_list d A B)
   next_needs = needs_least u z o ∙ rw (k.reads.grows.vars, x.0, y.0, interpolation_list-narrow d s.vars A B x.1 y.1 k.le) refl
 
-  pub next_falls : (Z O : Family) → max (level s.vars Z) (level s.vars O) ≡ suc d
-      → max (level u.vars (family u z)) (level u.vars (family u o)) < max (level s.vars Z) (level s.vars O)
-  next_falls Z O top =
-      rw (k.reads.grows.vars, x.0, y.0, top) (omega (arith, level-below d s.vars A x.1 k.le, level-below d s.vars B y.1 k.le))
-
   next_asked : {R : Type 0} → AreDisjoint A B → R → Asked u z o R
   next_asked apart ready = record {
     zeros = Denotes-knows u z A x.0;

@@ -1,6 +1,6 @@
 -- Calls one after the other, which find the families of a list in its order: what is still to be found is planned, what was found is held,
 -- and the handles at hand keep their families. Then the end: a node over two handles, points with their values, or an error.
-use Rattle.std.proofs.Common.{◌≡◌, ◌≢◌, ℕ, suc, ◌-◌, ◌<◌, ◌≤◌, Bool, false, Result, Ok, Err, IsErr, List, [], ◌∷◌, ◌++◌, refl, arith}
+use Rattle.std.proofs.Common.{◌≡◌, ◌≢◌, ℕ, suc, ◌-◌, ◌<◌, ◌≤◌, max, Bool, false, Result, Ok, Err, IsErr, List, [], ◌∷◌, ◌++◌, refl, arith}
 use Rattle.lattice.specs.Words.{Family, IsFamily, Covers, Has, combine, join, level, low_cofactor, high_cofactor, working_set}
 use Rattle.lattice.proofs.Diagrams.{combine-narrow, covers_append, covers_cons, covers_head, covers_left, covers_nil, covers_part}
 use Rattle.lattice.proofs.Diagrams.{covers_right, covers_tail, level-below}
@@ -91,6 +91,17 @@ calls_in_order {s} {xs = xs} {ys} k there back = record {
   here = k.here;
 }
 
+-- one more family that is planned
+pub also_planned : {s t : State} {d : ℕ} {all rest : List Family} {hs : List (Handle × Family)} {F : Family} → IsPlanned s F
+    → Calls s t d all rest hs → Calls s t d all (F ∷ rest) hs
+also_planned {s} {rest = rest} {F = F} planned k = record {
+  reads = k.reads;
+  le = k.le;
+  planned = covers_cons s.vars s.plan rest F planned k.planned;
+  whole = λ u later held. k.whole u later (covers_tail s.vars u.held rest F held);
+  here = k.here;
+}
+
 -- ---- a call that finds the families of a list and gives a handle
 
 module _ {s t : State} {d : ℕ} {all : List Family} {hs : List (Handle × Family)} (list rest : List Family) {needed : List Family}
@@ -147,6 +158,13 @@ found_at_hand {s} {t} {rest = rest} {h = h} {F} sound k x = record {
 pub hand_falls : {s t : State} {d : ℕ} {all rest : List Family} {hs : List (Handle × Family)} {h : Handle} {F : Family} (P : Family)
     → Calls s t d all rest hs → IsAtHand t d h F → level s.vars P ≡ suc d → level t.vars (family t h) < level s.vars P
 hand_falls {s} {d = d} {F = F} P k x top = rw (k.reads.grows.vars, x.0, top) (omega (arith, level-below d s.vars F x.1 k.le))
+
+-- and so have two families at hand, of two that were cut there
+pub hands_fall : {s t : State} {d : ℕ} {all rest : List Family} {hs : List (Handle × Family)} {x y : Handle} {A B : Family} (P Q : Family)
+    → Calls s t d all rest hs → IsAtHand t d x A → IsAtHand t d y B → max (level s.vars P) (level s.vars Q) ≡ suc d
+    → max (level t.vars (family t x)) (level t.vars (family t y)) < max (level s.vars P) (level s.vars Q)
+hands_fall {s} {d = d} {A = A} {B} P Q k l r top =
+    rw (k.reads.grows.vars, l.0, r.0, top) (omega (arith, level-below d s.vars A l.1 k.le, level-below d s.vars B r.1 k.le))
 
 -- ---- a call that gives a family and needs its diagram alone
 

@@ -1,7 +1,6 @@
 -- The terms of polynomials, so far and later, and walks that were over their limit.
 use Rattle.std.proofs.Common.{◌≡◌, ℕ, ◌+◌, ◌<◌, ◌≤◌, List, [], ◌∷◌, length, take, get_or, ap, sym, refl, arith, ◌++◌, map, reverse}
-use Rattle.std.proofs.Common.{◌∙◌, Result, Ok, Err}
-use Rattle.std.specs.Result.{IsErrAnd, IsErrOf}
+use Rattle.std.proofs.Common.{◌∙◌}
 use Rattle.std.specs.List.{All, sum_by}
 use Rattle.std.proofs.lemmas.List.Sums.{sum_by-cons, sum_by_more, sum_by_more_le}
 use Rattle.std.proofs.lemmas.List.Elements.{All-get_or, All-head, All-tail}

@@ -1,16 +1,15 @@
 use Rattle.std.proofs.Common.{ℕ, arith}
-use Rattle.node_store.proofs.StoreLaws.{failed, then_call}
-use Rattle.bool_poly.proofs.Steps.{IsStarted, OnesFinish, high_falls, low_falls, ones_in_row, started, started_later, sum_asks, with_later}
+use Rattle.set_algebra.proofs.Calls.{call_failed, hands_fall}
+use Rattle.bool_poly.proofs.Steps.{OnesCut, OnesFinish, after_low, after_with, ones_cut, ones_in_row, sum_asks, with_later}
 use Rattle.bool_poly.proofs.points.+ones_of.Goals as goal
 use Rattle.bool_poly.proofs.points.+ones_of.Goals.{In-Halves, In_ok-hi-in-Halves}
 use Rattle.bool_poly.proofs.points.+ones_of.Given.{Over}
 
 at_cut : (g : Over) (m : ℕ) (c : In-Halves g m)
-    → IsStarted (g.S.Store.state c.args.store.now) (g.S.Store.state c.begin_ones.new.store) c.args.h c.args.set
-    c.in-Halves.halved.cofactors
+    → OnesCut (g.S.Store.state c.args.store.now) (g.S.Store.state c.begin_ones.new.store) c.args.h c.args.set c.in-Halves.halved.cofactors
 at_cut g m c =
     let is = c.in-Halves.ensures in
-    started (g.met.S.Store.sound c.args.store.now)
+    ones_cut (g.met.S.Store.sound c.args.store.now)
     (record { polynomial = c.requires.h; points = c.requires.set; planned = c.requires.planned })
     (rw is.operands.0 at is.varies) (rw is.operands.1 at is.filled) is.reads (rw (is.operands.0, is.operands.1) at is.cofactors)
 
@@ -24,8 +23,8 @@ whole g m c =
 
 pub ones_of-requires : goal.ones_of-requires
 ones_of-requires g m c κs within =
-    let falls = low_falls (at_cut g m (goal.at.ones_of-requires g m c).In-Halves).cut in
-    let asks = c.in-Halves.ensures.low in
+    let k = at_cut g m (goal.at.ones_of-requires g m c).In-Halves in let asks = c.in-Halves.ensures.low in
+    let falls = hands_fall _ _ k.calls k.calls.here.0 k.calls.here.1.1.0 k.top in
     (omega (arith, falls, c.decreases), (within, (asks.polynomial, (asks.points, asks.planned))))
 
 pub part_with-requires : goal.part_with-requires
@@ -36,13 +35,14 @@ part_with-requires g m c =
 
 pub returns-in_err-with-in-Halves : goal.returns-in_err-with-in-Halves
 returns-in_err-with-in-Halves g m c =
-    failed c.from_residual-in_err-with-in-Halves.ensures.0 (then_call c.in-Halves.ensures.reads c.in_ok-lo-in-Halves.ensures)
-    c.in_err-with-in-Halves.ensures
+    let k = at_cut g m (goal.at.returns-in_err-with-in-Halves g m c).In-Halves in
+    call_failed (after_low k c.in_ok-lo-in-Halves.ensures) c.from_residual-in_err-with-in-Halves.ensures.0 c.in_err-with-in-Halves.ensures
 
 pub ones_of-requires-in-Halves : goal.ones_of-requires-in-Halves
 ones_of-requires-in-Halves g m c κs within =
-    let start = at_cut g m (goal.at.ones_of-requires-in-Halves g m c).In-Halves in
-    let falls = high_falls (started_later start c.in_ok-lo-in-Halves.ensures) c.in_ok-with-in-Halves.ensures in
+    let cut = at_cut g m (goal.at.ones_of-requires-in-Halves g m c).In-Halves in
+    let k = after_with cut c.in_ok-lo-in-Halves.ensures c.in_ok-with-in-Halves.ensures in
+    let falls = hands_fall _ _ k k.here.0 k.here.1.1.1.1.1.0 cut.top in
     let later = c.in_ok-lo-in-Halves.ensures.grows in
     let asks = sum_asks (with_later _ (g.S.Store.state c.ones_of.new.store) _ _ _ later.known later.plan later.vars
     c.in-Halves.ensures.high) c.in_ok-with-in-Halves.ensures in
@@ -50,9 +50,9 @@ ones_of-requires-in-Halves g m c κs within =
 
 pub returns-in_err-hi-in-Halves : goal.returns-in_err-hi-in-Halves
 returns-in_err-hi-in-Halves g m c =
-    failed c.from_residual-in_err-hi-in-Halves.ensures.0
-    (then_call (then_call c.in-Halves.ensures.reads c.in_ok-lo-in-Halves.ensures) c.in_ok-with-in-Halves.ensures)
-    c.in_err-hi-in-Halves.ensures
+    let k = at_cut g m (goal.at.returns-in_err-hi-in-Halves g m c).In-Halves in
+    call_failed (after_with k c.in_ok-lo-in-Halves.ensures c.in_ok-with-in-Halves.ensures)
+    c.from_residual-in_err-hi-in-Halves.ensures.0 c.in_err-hi-in-Halves.ensures
 
 pub finish_ones-requires : goal.finish_ones-requires
 finish_ones-requires g m c =

@@ -3,15 +3,15 @@ use Rattle.lattice.specs.Words.{answer}
 use Rattle.lattice.specs.declared.op.Op.TheVariants.{Ones}
 use Rattle.node_store.proofs.StoreLaws.{handles, kept_given, then_reads}
 use Rattle.set_algebra.proofs.Levels.{cofactors_before}
-use Rattle.bool_poly.proofs.Steps.{IsStarted, at_nothing, at_unit, low_asks, started, with_asks}
+use Rattle.bool_poly.proofs.Steps.{OnesCut, at_nothing, at_unit, low_asks, ones_cut, with_asks}
 use Rattle.bool_poly.proofs.points.begin_ones.Goals as goal
 use Rattle.bool_poly.proofs.points.begin_ones.Goals.{After-cut-cofactors}
 use Rattle.bool_poly.proofs.points.begin_ones.Given.{Over}
 
 at_cut : (g : Over) (c : After-cut-cofactors g)
-    → IsStarted (g.S.Store.state c.args.store.now) (g.S.Store.state c.cut-cofactors.new.store) c.args.h c.args.set c.cut-cofactors.result
+    → OnesCut (g.S.Store.state c.args.store.now) (g.S.Store.state c.cut-cofactors.new.store) c.args.h c.args.set c.cut-cofactors.result
 at_cut g c =
-    started (g.met.S.Store.sound c.args.store.now) c.requires (omega (arith, c.if-h-eq0.false, c.if-h-eq1.false))
+    ones_cut (g.met.S.Store.sound c.args.store.now) c.requires (omega (arith, c.if-h-eq0.false, c.if-h-eq1.false))
     (omega (arith, c.if-set-eq0.false)) (then_reads c.look.ensures.reads c.cut-cofactors.ensures.reads)
     (cofactors_before c.look.ensures.reads c.requires.polynomial c.requires.points c.cut-cofactors.ensures.cofactors)
 

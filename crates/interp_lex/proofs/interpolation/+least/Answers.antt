@@ -1,8 +1,8 @@
 use Rattle.std.proofs.Common.{ℕ, arith, Ok}
 use Rattle.node_store.proofs.StoreLaws.{failed, then_call}
-use Rattle.set_algebra.proofs.Calls.{call_failed, failed_points}
+use Rattle.set_algebra.proofs.Calls.{call_failed, failed_points, hands_fall}
 use Rattle.interp_lex.proofs.LeastStep.{Cut, told, no_ones_gives, no_zeros_gives, looked_gives, kept_result, some_node, cut_at}
-use Rattle.interp_lex.proofs.LeastStep.{upper_planned, upper_found, next_falls, high_asked, high_found, lower_asked, lower_found, low_asked}
+use Rattle.interp_lex.proofs.LeastStep.{upper_planned, upper_found, high_asked, high_found, lower_asked, lower_found, low_asked}
 use Rattle.interp_lex.proofs.LeastStep.{node}
 use Rattle.interp_lex.proofs.interpolation.+least.Goals as goal
 use Rattle.interp_lex.proofs.interpolation.+least.Goals.{After-cut-c}
@@ -47,7 +47,7 @@ pub least-requires : goal.least-requires
 least-requires g t c κs within =
     let cut = at_cut g t (goal.at.least-requires g t c).After-cut-c in let k = upper_found cut c.in_ok-upper.ensures.result in
     let next = high_asked cut c.in_ok-upper.ensures.result c.in_ok-upper.ensures.ready in (
-      omega (arith, next_falls _ k k.here.0 k.here.1.0 _ _ cut.are.top, c.decreases),
+      omega (arith, hands_fall _ _ k k.here.0 k.here.1.0 cut.are.top, c.decreases),
       (within.0, (within.1, (next.zeros, (next.ones, (next.disjoint, (next.planned, next.ready)))))),
     )
 
@@ -73,7 +73,7 @@ least-requires-2 g t c κs within =
     c.in_ok-lower.ensures.result in
     let next = low_asked cut c.in_ok-upper.ensures.result (g.met.S.Store.sound c.least.new.store) c.in_ok-h.ensures.result
     c.in_ok-lower.ensures.result c.in_ok-lower.ensures.ready in (
-      omega (arith, next_falls _ k k.here.0 k.here.1.0 _ _ cut.are.top, c.decreases),
+      omega (arith, hands_fall _ _ k k.here.0 k.here.1.0 cut.are.top, c.decreases),
       (within.0, (within.1, (next.zeros, (next.ones, (next.disjoint, (next.planned, next.ready)))))),
     )
 
