@@ -8,6 +8,7 @@ ghost use Rattle.computed_cache.specs.Cached.{cached_state};
 ghost use Rattle.fork_branches.specs.Branches.{Combines, CombinesBoth, ForksCombining};
 ghost use Rattle.fork_branches.specs.Branches.{IsForkedCombining};
 
+use crate::fork::Fork;
 use crate::pairs::pair_of;
 use computed_cache::CachedPass;
 use lattice::Op;
@@ -34,8 +35,7 @@ fn combine_in_row(store: &mut CachedPass, op: Op, c: Cofactors) -> Result<(Handl
 // both know once they have ended, also where one of them is Full.
 #[cycle(combined)]
 fn combine_both<R: Threads + Sync, G: Gate + Sync>(
-    rt: &R,
-    gate: &G,
+    fork: &Fork<R, G>,
     workers: u32,
     store: &mut CachedPass,
     op: Op,
@@ -50,6 +50,7 @@ fn combine_both<R: Threads + Sync, G: Gate + Sync>(
     ensures forks { ForksCombining op (cached_state store.old) (cached_state store.new) c.a_low
         c.b_low c.a_high c.b_high result }
 {
+    let (rt, gate) = (fork.rt, fork.gate);
     let table = store.table();
     let first = store.split().end().end();
     let second = store.split().end().end();
@@ -63,7 +64,7 @@ fn combine_both<R: Threads + Sync, G: Gate + Sync>(
             × Combines op (token_state first) (token_state result.0) a_low b_low result.1 }
     {
         gate.enter(0);
-        combine_on(rt, gate, more, table, first, op, a_low, b_low)
+        combine_on(&Fork { rt, gate }, more, table, first, op, a_low, b_low)
     };
     let back = move || -> (Token, Result<Handle, Full>)
         requires { IsSync R.row × IsSync G.row × (1 ≤ fewer) × (is_pointwise op ≡ true)
@@ -72,7 +73,7 @@ fn combine_both<R: Threads + Sync, G: Gate + Sync>(
             × Combines op (token_state second) (token_state result.0) a_high b_high result.1 }
     {
         gate.enter(1);
-        combine_on(rt, gate, fewer, table, second, op, a_high, b_high)
+        combine_on(&Fork { rt, gate }, fewer, table, second, op, a_high, b_high)
     };
     let ((first, lo), (second, hi)) = join(rt, front, back);
     store.join(CachedPass::new(table.pass(first)));
@@ -83,8 +84,7 @@ fn combine_both<R: Threads + Sync, G: Gate + Sync>(
 // What a branch runs.
 #[cycle(combined)]
 fn combine_on<R: Threads + Sync, G: Gate + Sync>(
-    rt: &R,
-    gate: &G,
+    fork: &Fork<R, G>,
     workers: u32,
     table: &Shared,
     token: Token,
@@ -101,7 +101,7 @@ fn combine_on<R: Threads + Sync, G: Gate + Sync>(
 {
     let mut pass = CachedPass::new(table.pass(token));
     let mut first = u32::MAX;
-    let r = combine_in(rt, gate, workers, &mut first, &mut pass, op, a, b);
+    let r = combine_in(fork, workers, &mut first, &mut pass, op, a, b);
     (pass.end().end(), r)
 }
 
@@ -109,8 +109,7 @@ fn combine_on<R: Threads + Sync, G: Gate + Sync>(
 // a later variable, and else one after the other.
 #[cycle(combined)]
 fn combine_halves<R: Threads + Sync, G: Gate + Sync>(
-    rt: &R,
-    gate: &G,
+    fork: &Fork<R, G>,
     workers: u32,
     first: &mut u32,
     store: &mut CachedPass,
@@ -132,15 +131,14 @@ fn combine_halves<R: Threads + Sync, G: Gate + Sync>(
         return combine_in_row(store, op, c);
     }
     *first = c.var;
-    combine_both(rt, gate, workers, store, op, c)
+    combine_both(fork, workers, store, op, c)
 }
 
 /// The result of a pointwise operation, by as many workers. It forks where its first variable is
 /// before `first`, which it lowers to that variable then.
 #[cycle(combined)]
 pub(crate) fn combine_in<R: Threads + Sync, G: Gate + Sync>(
-    rt: &R,
-    gate: &G,
+    fork: &Fork<R, G>,
     workers: u32,
     first: &mut u32,
     store: &mut CachedPass,
@@ -159,7 +157,7 @@ pub(crate) fn combine_in<R: Threads + Sync, G: Gate + Sync>(
     match begin(store, op, a, b) {
         Begun::Done(r) => Ok(r),
         Begun::Halves(halved) => {
-            let (lo, hi) = combine_halves(rt, gate, workers, first, store, op, halved.cofactors)?;
+            let (lo, hi) = combine_halves(fork, workers, first, store, op, halved.cofactors)?;
             finish(store, op, halved, lo, hi)
         }
     }

@@ -7,6 +7,7 @@ ghost use Rattle.fork_branches.specs.Work.{MayWork, Works, WorkedBy, GoesOnDrawi
 ghost use Rattle.fork_branches.specs.Work.{IsSent, IsBack, answers_of, job_workers_of};
 
 use crate::crew::Crew;
+use crate::fork::Fork;
 use crate::forked::Forked;
 use crate::jobs::Jobs;
 use crate::work::work;
@@ -31,8 +32,7 @@ pub struct Branch {
 // start, and take in what both have once they have ended, also where one of them is Full.
 #[cycle(crews)]
 fn work_both<R: Threads + Sync, J: Jobs>(
-    rt: &R,
-    gate: &Rendezvous,
+    fork: &Fork<R, Rendezvous>,
     counter: &Counter,
     jobs: &J,
     pass: &mut CachedPass,
@@ -54,6 +54,7 @@ fn work_both<R: Threads + Sync, J: Jobs>(
         (job_workers_of first.value + job_workers_of second.value) (cached_state pass.old)
         (cached_state pass.new) }
 {
+    let (rt, gate) = (fork.rt, fork.gate);
     let table = pass.table();
     let one = pass.split().end().end();
     let two = pass.split().end().end();
@@ -65,7 +66,7 @@ fn work_both<R: Threads + Sync, J: Jobs>(
         ensures { IsBack (J.tasks jobs.entry.now) table.entry.now one mine first.value result }
     {
         gate.enter(0);
-        work_on(rt, gate, counter, table, jobs, one, mine, first)
+        work_on(&Fork { rt, gate }, counter, jobs, table, one, mine, first)
     };
     let back = move || -> Branch
         requires { IsSync R.row × IsSent (J.tasks jobs.now) table.now counter.now two other
@@ -73,7 +74,7 @@ fn work_both<R: Threads + Sync, J: Jobs>(
         ensures { IsBack (J.tasks jobs.entry.now) table.entry.now two other second.value result }
     {
         gate.enter(1);
-        work_on(rt, gate, counter, table, jobs, two, other, second)
+        work_on(&Fork { rt, gate }, counter, jobs, table, two, other, second)
     };
     let (front, back) = join(rt, front, back);
     pass.join(CachedPass::new(table.pass(front.token)));
@@ -86,11 +87,10 @@ fn work_both<R: Threads + Sync, J: Jobs>(
 // What a branch runs.
 #[cycle(crews)]
 fn work_on<R: Threads + Sync, J: Jobs>(
-    rt: &R,
-    gate: &Rendezvous,
+    fork: &Fork<R, Rendezvous>,
     counter: &Counter,
-    table: &Shared,
     jobs: &J,
+    table: &Shared,
     token: Token,
     drawer: Drawer,
     crew: Box<Crew>,
@@ -101,7 +101,7 @@ fn work_on<R: Threads + Sync, J: Jobs>(
     let mut drawer = drawer;
     let mut crew = crew;
     let mut pass = CachedPass::new(table.pass(token));
-    let result = work_in(rt, gate, counter, jobs, &mut pass, &mut drawer, &mut crew);
+    let result = work_in(fork, counter, jobs, &mut pass, &mut drawer, &mut crew);
     let token = pass.end().end();
     Branch {
         token,
@@ -115,8 +115,7 @@ fn work_on<R: Threads + Sync, J: Jobs>(
 /// full.
 #[cycle(crews)]
 pub fn work_in<R: Threads + Sync, J: Jobs>(
-    rt: &R,
-    gate: &Rendezvous,
+    fork: &Fork<R, Rendezvous>,
     counter: &Counter,
     jobs: &J,
     pass: &mut CachedPass,
@@ -137,14 +136,14 @@ pub fn work_in<R: Threads + Sync, J: Jobs>(
         Crew::Away => Ok(()),
         Crew::One(worker) => {
             let mut worker = worker;
-            let mut ops = Forked::new(rt, gate, worker.workers);
+            let mut ops = Forked::new(fork.rt, fork.gate, worker.workers);
             let result = work(counter, jobs, &mut ops, pass, drawer, &mut worker.answers);
             *crew = Crew::One(worker);
             result
         }
         Crew::Two(first, second) => {
             let (first, second, result) = work_both(
-                rt, gate, counter, jobs, pass, drawer, first, second,
+                fork, counter, jobs, pass, drawer, first, second,
             );
             *crew = Crew::Two(first, second);
             result

@@ -2,6 +2,7 @@
 ghost use Rattle.std.specs.Prelude.{◌≤◌};
 
 use crate::combined::combine_in;
+use crate::fork::Fork;
 use crate::ones::ones_in;
 use bool_poly::SetOps;
 use computed_cache::CachedPass;
@@ -21,8 +22,7 @@ use std::thread::Threads;
 /// first: place 0 in the first branch, and place 1 in the second. It takes no memory.
 #[derive(Drop)]
 pub struct Forked<'g, R> {
-    rt: &'g R,
-    gate: &'g Rendezvous,
+    fork: Fork<'g, R, Rendezvous>,
     workers: u32,
     first: u32,
     ghost some: { 1 ≤ workers },
@@ -39,8 +39,7 @@ impl<'g, R: Threads + Sync> Forked<'g, R> {
         ensures first { forks_before result ≡ 4294967295 }
     {
         Forked {
-            rt,
-            gate,
+            fork: Fork { rt, gate },
             workers,
             first: u32::MAX,
         }
@@ -75,8 +74,7 @@ impl<'g, 't, R: Threads + Sync> SetOps<CachedPass<'t>> for Forked<'g, R> {
         ensures first { forks_before self.new ≤ forks_before self.old }
     {
         combine_in(
-            self.rt,
-            self.gate,
+            &self.fork,
             self.workers,
             &mut self.first,
             store,
@@ -101,8 +99,7 @@ impl<'g, 't, R: Threads + Sync> SetOps<CachedPass<'t>> for Forked<'g, R> {
         ensures first { forks_before self.new ≤ forks_before self.old }
     {
         combine_in(
-            self.rt,
-            self.gate,
+            &self.fork,
             self.workers,
             &mut self.first,
             store,
@@ -127,8 +124,7 @@ impl<'g, 't, R: Threads + Sync> SetOps<CachedPass<'t>> for Forked<'g, R> {
         ensures first { forks_before self.new ≤ forks_before self.old }
     {
         combine_in(
-            self.rt,
-            self.gate,
+            &self.fork,
             self.workers,
             &mut self.first,
             store,
@@ -153,8 +149,7 @@ impl<'g, 't, R: Threads + Sync> SetOps<CachedPass<'t>> for Forked<'g, R> {
         ensures first { forks_before self.new ≤ forks_before self.old }
     {
         combine_in(
-            self.rt,
-            self.gate,
+            &self.fork,
             self.workers,
             &mut self.first,
             store,
@@ -178,14 +173,6 @@ impl<'g, 't, R: Threads + Sync> SetOps<CachedPass<'t>> for Forked<'g, R> {
         ensures workers { workers_for self.new ≡ workers_for self.old }
         ensures first { forks_before self.new ≤ forks_before self.old }
     {
-        ones_in(
-            self.rt,
-            self.gate,
-            self.workers,
-            &mut self.first,
-            store,
-            a,
-            b,
-        )
+        ones_in(&self.fork, self.workers, &mut self.first, store, a, b)
     }
 }

@@ -4,6 +4,7 @@
 mod combined;
 mod crew;
 mod crews;
+mod fork;
 mod forked;
 mod jobs;
 mod ones;

@@ -7,6 +7,7 @@ ghost use Rattle.computed_cache.specs.Cached.{cached_state};
 ghost use Rattle.fork_branches.specs.Branches.{FindsOnes, FindsWith, FindsBoth, ForksFinding};
 ghost use Rattle.fork_branches.specs.Branches.{IsForkedFinding};
 
+use crate::fork::Fork;
 use crate::pairs::pair_of;
 use bool_poly::{begin_ones, finish_ones, ones_of, part_with};
 use computed_cache::CachedPass;
@@ -33,8 +34,7 @@ fn ones_in_row(store: &mut CachedPass, c: Cofactors) -> Result<(Handle, Handle),
 // both know once they have ended, also where one of them is Full.
 #[cycle(ones)]
 fn ones_both<R: Threads + Sync, G: Gate + Sync>(
-    rt: &R,
-    gate: &G,
+    fork: &Fork<R, G>,
     workers: u32,
     store: &mut CachedPass,
     c: Cofactors,
@@ -47,6 +47,7 @@ fn ones_both<R: Threads + Sync, G: Gate + Sync>(
     ensures forks { ForksFinding (cached_state store.old) (cached_state store.new) c.a_low c.b_low
         c.a_high c.b_high result }
 {
+    let (rt, gate) = (fork.rt, fork.gate);
     let table = store.table();
     let first = store.split().end().end();
     let second = store.split().end().end();
@@ -60,7 +61,7 @@ fn ones_both<R: Threads + Sync, G: Gate + Sync>(
             × FindsOnes (token_state first) (token_state result.0) a_low b_low result.1 }
     {
         gate.enter(0);
-        ones_on(rt, gate, more, table, first, a_low, b_low)
+        ones_on(&Fork { rt, gate }, more, table, first, a_low, b_low)
     };
     let back = move || -> (Token, Result<Handle, Full>)
         requires { IsSync R.row × IsSync G.row × (1 ≤ fewer) × IsOf second table.now
@@ -69,7 +70,15 @@ fn ones_both<R: Threads + Sync, G: Gate + Sync>(
             × FindsWith (token_state second) (token_state result.0) a_low a_high b_high result.1 }
     {
         gate.enter(1);
-        with_on(rt, gate, fewer, table, second, a_low, a_high, b_high)
+        with_on(
+            &Fork { rt, gate },
+            fewer,
+            table,
+            second,
+            a_low,
+            a_high,
+            b_high,
+        )
     };
     let ((first, lo), (second, hi)) = join(rt, front, back);
     store.join(CachedPass::new(table.pass(first)));
@@ -80,8 +89,7 @@ fn ones_both<R: Threads + Sync, G: Gate + Sync>(
 // What the first branch runs: the points without the variable.
 #[cycle(ones)]
 fn ones_on<R: Threads + Sync, G: Gate + Sync>(
-    rt: &R,
-    gate: &G,
+    fork: &Fork<R, G>,
     workers: u32,
     table: &Shared,
     token: Token,
@@ -96,7 +104,7 @@ fn ones_on<R: Threads + Sync, G: Gate + Sync>(
 {
     let mut pass = CachedPass::new(table.pass(token));
     let mut first = u32::MAX;
-    let r = ones_in(rt, gate, workers, &mut first, &mut pass, h, set);
+    let r = ones_in(fork, workers, &mut first, &mut pass, h, set);
     (pass.end().end(), r)
 }
 
@@ -104,8 +112,7 @@ fn ones_on<R: Threads + Sync, G: Gate + Sync>(
 // polynomial is 1.
 #[cycle(ones)]
 fn with_on<R: Threads + Sync, G: Gate + Sync>(
-    rt: &R,
-    gate: &G,
+    fork: &Fork<R, G>,
     workers: u32,
     table: &Shared,
     token: Token,
@@ -120,15 +127,14 @@ fn with_on<R: Threads + Sync, G: Gate + Sync>(
     ensures finds { FindsWith (token_state token) (token_state result.0) low high points result.1 }
 {
     let mut pass = CachedPass::new(table.pass(token));
-    let r = with_in(rt, gate, workers, &mut pass, low, high, points);
+    let r = with_in(fork, workers, &mut pass, low, high, points);
     (pass.end().end(), r)
 }
 
 // The points with a variable at which the sum of both parts is 1, by as many workers.
 #[cycle(ones)]
 fn with_in<R: Threads + Sync, G: Gate + Sync>(
-    rt: &R,
-    gate: &G,
+    fork: &Fork<R, G>,
     workers: u32,
     store: &mut CachedPass,
     low: Handle,
@@ -141,15 +147,14 @@ fn with_in<R: Threads + Sync, G: Gate + Sync>(
 {
     let with = part_with(store, low, high, points)?;
     let mut first = u32::MAX;
-    ones_in(rt, gate, workers, &mut first, store, with, points)
+    ones_in(fork, workers, &mut first, store, with, points)
 }
 
 // Both halves: in two branches where there are workers for them and each operation before began at
 // a later variable, and else one after the other.
 #[cycle(ones)]
 fn ones_halves<R: Threads + Sync, G: Gate + Sync>(
-    rt: &R,
-    gate: &G,
+    fork: &Fork<R, G>,
     workers: u32,
     first: &mut u32,
     store: &mut CachedPass,
@@ -169,15 +174,14 @@ fn ones_halves<R: Threads + Sync, G: Gate + Sync>(
         return ones_in_row(store, c);
     }
     *first = c.var;
-    ones_both(rt, gate, workers, store, c)
+    ones_both(fork, workers, store, c)
 }
 
 /// The points of `set` at which the polynomial `h` is 1, by as many workers. It forks where the
 /// first variable of both is before `first`, which it lowers to that variable then.
 #[cycle(ones)]
 pub(crate) fn ones_in<R: Threads + Sync, G: Gate + Sync>(
-    rt: &R,
-    gate: &G,
+    fork: &Fork<R, G>,
     workers: u32,
     first: &mut u32,
     store: &mut CachedPass,
@@ -194,7 +198,7 @@ pub(crate) fn ones_in<R: Threads + Sync, G: Gate + Sync>(
     match begin_ones(store, h, set) {
         Begun::Done(r) => Ok(r),
         Begun::Halves(halved) => {
-            let (lo, hi) = ones_halves(rt, gate, workers, first, store, halved.cofactors)?;
+            let (lo, hi) = ones_halves(fork, workers, first, store, halved.cofactors)?;
             finish_ones(store, halved, lo, hi)
         }
     }

@@ -10,6 +10,7 @@ ghost use Rattle.fork_branches.specs.Solves.{AreSolved, Refuses, AreRun, placed}
 
 use crate::crew::{Answer, Crew, make_crew};
 use crate::crews::work_in;
+use crate::fork::Fork;
 use crate::jobs::Jobs;
 use computed_cache::CachedPass;
 use job_counter::{Counter, Drawer};
@@ -113,7 +114,8 @@ pub fn solve_all<R: Threads + Sync, J: Jobs>(
         counter,
         mut drawer,
     } = prepare(alloc, count, workers)?;
-    work_in(rt, gate, &counter, jobs, pass, &mut drawer, &mut crew)?;
+    let fork = Fork { rt, gate };
+    work_in(&fork, &counter, jobs, pass, &mut drawer, &mut crew)?;
     counter.all_drawn(&mut drawer);
     put_all(&crew, handles.as_mut_slice());
     Ok(handles)
