@@ -18,12 +18,8 @@ use Rattle.pla_reader.specs.declared.refusal.TextRefusal.{TextRefusal}
 use Rattle.cube_sets.specs.Clashes.{IsClash, IsLeastOf}
 use Rattle.cube_sets.specs.declared.clash.Clash.{Clash}
 use Rattle.cube_sets.proofs.OneClash.{none_of_consistent, one_least}
-use Rattle.point_ideals.specs.Joined.{IsJointBasis, first_refused, joint_ideal}
 use Rattle.set_algebra.specs.declared.refusal.TermsRefusal.{TermsRefusal}
 use Rattle.set_algebra.specs.declared.refusal.TermsRefusal.TheVariants as stops
-use Rattle.point_ideals.specs.declared.joined.Joining.{Joining}
-use Rattle.point_ideals.specs.declared.joined.Joining.TheVariants.{Meet, Union}
-use Rattle.point_ideals.proofs.JointBases.{joint_exists, joint_unique}
 use Rattle.watch.specs.Notes.{WatcherState}
 use Rattle.program.specs.Descriptions.{IsContradiction, unread_outcome}
 use Rattle.program.specs.Duties.{Due, Duty, IsLawful, IsOwed, done, silent}
@@ -31,21 +27,25 @@ use Rattle.program.specs.Runs.{EndsWithout, Ran, due_without, no_memory}
 use Rattle.program.specs.declared.outcome.Outcome.{Outcome}
 use Rattle.program.specs.declared.outcome.Outcome.TheVariants as ends
 use Rattle.program.proofs.Endings.{clash_ends, ends_as, ran_alone, unread_ends}
+use Rattle.lattice.proofs.Polynomials.{err_is, ok_is}
 use Rattle.nf_run.specs.Answers.{IsAnswerTo, answer_to, answer_terms, query_nodes}
 use Rattle.nf_run.specs.Due.{IsDue, IsDueJoining, IsDueReducing, QueryDue, answers_text, basis_text, contradiction, contradiction_in}
 use Rattle.nf_run.specs.Due.{has_answers, has_basis, joining, no_description, no_queries, other_outputs, reducing, stopped}
 use Rattle.nf_run.specs.Due.{with_answers, with_basis}
 use Rattle.nf_run.specs.Duty.{IsAsked, query_duty}
+use Rattle.nf_run.specs.Joint.{IsJointBasis, first_refused, joint_ideal}
 use Rattle.nf_run.specs.Parts.{refused_outcome}
 use Rattle.nf_run.specs.Queries.{GivesQueries, Reading, query_reading}
 use Rattle.nf_run.specs.declared.answer.TheConstants.{MOST_TERMS}
 use Rattle.nf_run.specs.declared.ends.QueryEnd.{QueryEnd}
 use Rattle.nf_run.specs.declared.ends.QueryEnd.TheVariants.{QueryText, TwoOutputs}
+use Rattle.nf_run.specs.declared.joint.Joining.{Joining}
+use Rattle.nf_run.specs.declared.joint.Joining.TheVariants.{Meet, Union}
 use Rattle.nf_run.specs.declared.mode.QueryMode.{QueryMode}
 use Rattle.nf_run.specs.declared.mode.QueryMode.TheVariants.{Join, Reduce}
 use Rattle.nf_run.specs.declared.queries.Query.{Query}
 use Rattle.nf_run.specs.declared.queries.QueryWhy.{QueryWhy}
-use Rattle.lattice.proofs.Polynomials.{err_is, ok_is}
+use Rattle.nf_run.proofs.JointBases.{joint_exists, joint_unique}
 use Rattle.nf_run.proofs.QueryAnswers.{all_answered, answers_are, answers_count, answers_over, zip_all}
 
 -- ---- one mode, and one end of a description

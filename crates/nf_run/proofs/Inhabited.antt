@@ -19,28 +19,28 @@ use Rattle.pla_reader.specs.Reading.{rows_of, up_to_end}
 use Rattle.anf_printer.specs.Text.{line, monomial_text, sum_text, variables_of}
 use Rattle.cert_check.specs.Reading.{are_known, are_ordered, ascends_from, bare, factors_of, factors_product, is_line, is_sum, is_term}
 use Rattle.cert_check.specs.Reading.{monomial_of, monomials_of, terms_in}
-use Rattle.point_ideals.specs.Joined.{first_refused, joint_basis_of}
-use Rattle.point_ideals.specs.declared.joined.Joining.{Joining}
-use Rattle.point_ideals.specs.declared.joined.Joining.TheVariants.{Meet, Union}
-use Rattle.point_ideals.proofs.JointBases.{joint_exists}
-use Rattle.nf_run.specs.Answers.{answer_terms, answer_to, query_nodes}
 use Rattle.program.specs.Duties.{IsDueFor, done, silent, within}
 use Rattle.program.specs.Examples.{two_points}
 use Rattle.pla_reader.specs.declared.reading.TheConstants.{MOST_BYTES}
 use Rattle.program.specs.declared.outcome.Outcome.TheVariants as ends
+use Rattle.nf_run.specs.Answers.{answer_terms, answer_to, query_nodes}
 use Rattle.nf_run.specs.Due.{IsDue, IsDueJoining, IsDueReducing, QueryDue, answers_text, basis_text, joining, no_queries, other_outputs}
 use Rattle.nf_run.specs.Due.{reducing}
 use Rattle.nf_run.specs.Duty.{query_duty}
+use Rattle.nf_run.specs.Joint.{first_refused, joint_basis_of}
 use Rattle.nf_run.specs.Laws.{DueForExamples, two_outputs}
 use Rattle.nf_run.specs.Queries.{queries_on, query_fault, query_of, query_reading}
 use Rattle.nf_run.specs.Reduced.{reduced, terms_from}
 use Rattle.nf_run.specs.declared.answer.TheConstants.{MOST_TERMS}
+use Rattle.nf_run.specs.declared.ends.QueryEnd.TheVariants.{TwoOutputs}
+use Rattle.nf_run.specs.declared.joint.Joining.{Joining}
+use Rattle.nf_run.specs.declared.joint.Joining.TheVariants.{Meet, Union}
 use Rattle.nf_run.specs.declared.mode.QueryMode.{QueryMode}
 use Rattle.nf_run.specs.declared.mode.QueryMode.TheVariants.{Join, Reduce}
-use Rattle.nf_run.specs.declared.ends.QueryEnd.TheVariants.{TwoOutputs}
 use Rattle.nf_run.specs.declared.queries.Query.{Query}
 use Rattle.nf_run.specs.declared.queries.QueryWhy.TheVariants.{TermOrder}
 use Rattle.nf_run.proofs.Endings.{answers_due, basis_due}
+use Rattle.nf_run.proofs.JointBases.{joint_exists}
 
 -- ---- two points of one output, and three points, of which each of two outputs has two
 

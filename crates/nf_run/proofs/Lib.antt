@@ -2,6 +2,8 @@ mod QueryLines
 mod LeastValues
 mod QueryAnswers
 mod ReducedSteps
+mod JointBases
+mod JointSteps
 mod PrintedLines
 mod Endings
 mod Inhabited

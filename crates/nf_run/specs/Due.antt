@@ -16,15 +16,15 @@ use Rattle.anf_printer.specs.declared.lines.Left.TheVariants.{Zero, Output}
 use Rattle.program.specs.Duties.{Due, done, silent}
 use Rattle.program.specs.declared.outcome.Outcome.{Outcome}
 use Rattle.program.specs.declared.outcome.Outcome.TheVariants as ends
-use Rattle.point_ideals.specs.Joined.{IsJointBasis, first_refused}
 use Rattle.set_algebra.specs.declared.refusal.TermsRefusal.{TermsRefusal}
 use Rattle.set_algebra.specs.declared.refusal.TermsRefusal.TheVariants as stops
-use Rattle.point_ideals.specs.declared.joined.Joining.{Joining}
 use Rattle.nf_run.specs.Answers.{IsAnswerTo, query_nodes}
+use Rattle.nf_run.specs.Joint.{IsJointBasis, first_refused}
 use Rattle.nf_run.specs.Queries.{query_reading}
 use Rattle.nf_run.specs.declared.answer.TheConstants.{MOST_TERMS}
 use Rattle.nf_run.specs.declared.ends.QueryEnd.{QueryEnd}
 use Rattle.nf_run.specs.declared.ends.QueryEnd.TheVariants.{QueryText, TwoOutputs}
+use Rattle.nf_run.specs.declared.joint.Joining.{Joining}
 use Rattle.nf_run.specs.declared.mode.QueryMode.{QueryMode}
 use Rattle.nf_run.specs.declared.mode.QueryMode.TheVariants.{Join, Reduce}
 use Rattle.nf_run.specs.declared.queries.Query.{Query}

@@ -4,10 +4,10 @@ use Rattle.program.specs.Duties.{Duty}
 use Rattle.program.specs.Runs.{Ran}
 use Rattle.pla_reader.specs.declared.reading.TheConstants.{MOST_BYTES}
 use Rattle.program.specs.declared.outcome.Outcome.{Outcome}
-use Rattle.point_ideals.specs.declared.joined.Joining.TheVariants.{Meet, Union}
 use Rattle.nf_run.specs.Due.{IsDue}
 use Rattle.nf_run.specs.Ends.{end_way}
 use Rattle.nf_run.specs.declared.ends.QueryEnd.{QueryEnd}
+use Rattle.nf_run.specs.declared.joint.Joining.TheVariants.{Meet, Union}
 use Rattle.nf_run.specs.declared.mode.QueryMode.{QueryMode}
 use Rattle.nf_run.specs.declared.mode.QueryMode.TheVariants.{Join, Reduce}
 

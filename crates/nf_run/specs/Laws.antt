@@ -1,17 +1,31 @@
--- Laws of what is due. The functions of src/laws.rt have them as their contracts.
+-- Laws of joint bases and of what is due. The functions of src/laws.rt have them as their contracts.
 use Rattle.std.specs.Prelude.{◌≡◌, ◌++◌, ℕ, List, Ok, codes}
-use Rattle.pla_reader.specs.Reading.{description, reading_of}
+use Rattle.lattice.specs.Family.{Family}
+use Rattle.pla_reader.specs.Reading.{Description, description, reading_of}
 use Rattle.pla_reader.specs.declared.pla.Pla.{Pla}
-use Rattle.point_ideals.specs.declared.joined.Joining.TheVariants.{Meet, Union}
 use Rattle.program.specs.Duties.{IsDueFor, done, silent}
 use Rattle.program.specs.Examples.{two_points}
 use Rattle.program.specs.declared.outcome.Outcome.TheVariants as ends
 use Rattle.nf_run.specs.Due.{IsDue, QueryDue}
 use Rattle.nf_run.specs.Duty.{query_duty}
+use Rattle.nf_run.specs.Joint.{IsJointBasis, joint_basis_of}
 use Rattle.nf_run.specs.declared.ends.QueryEnd.TheVariants.{QueryText, TwoOutputs}
+use Rattle.nf_run.specs.declared.joint.Joining.{Joining}
+use Rattle.nf_run.specs.declared.joint.Joining.TheVariants.{Meet, Union}
 use Rattle.nf_run.specs.declared.mode.QueryMode.{QueryMode}
 use Rattle.nf_run.specs.declared.mode.QueryMode.TheVariants.{Join, Reduce}
 use Rattle.nf_run.specs.declared.queries.QueryWhy.TheVariants.{TermOrder}
+
+-- ---- joint bases
+
+-- the intersection and the sum of the ideals of two outputs' care points have a reduced basis each, and only one
+abbrev pub JointBasisExists : Type 0
+JointBasisExists = (d : Description) (joining : Joining) → IsJointBasis d joining (joint_basis_of d joining)
+
+abbrev pub JointBasisIsUnique : Type 0
+JointBasisIsUnique = (d : Description) (joining : Joining) (b c : List Family) → IsJointBasis d joining b → IsJointBasis d joining c → b ≡ c
+
+-- ---- what is due
 
 -- something is due for a mode and bytes that describe this
 abbrev pub SomeIsDue : Pla → Type 0

@@ -1,5 +1,6 @@
 pub mod Answers
 pub mod Queries
+pub mod Joint
 pub mod Reduced
 pub mod Due
 pub mod Duty

@@ -8,6 +8,7 @@ ghost use Rattle.nf_run.specs.Due.{IsDue, IsDueJoining, IsDueReducing, stopped};
 ghost use Rattle.nf_run.specs.Parts.{refused_outcome};
 
 use crate::ends::QueryEnd;
+use crate::joint::{Joining, joint_basis};
 use crate::mode::QueryMode;
 use crate::queries::QueryRefusal;
 use crate::reading::read_queries;
@@ -15,7 +16,6 @@ use crate::solving::reduce;
 use crate::texts::{answers_text, basis_text};
 use lattice::{Memory, Text};
 use pla_reader::{Pla, read};
-use point_ideals::{Joining, joint_basis};
 use program::{Outcome, behind, check_rows};
 use set_algebra::TermsRefusal;
 use std::alloc::Global;

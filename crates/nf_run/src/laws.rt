@@ -2,10 +2,22 @@
 ghost use Rattle.std.specs.Prelude.{ℕ};
 ghost use Rattle.program.specs.Duties.{OneIsDue};
 ghost use Rattle.nf_run.specs.Duty.{query_duty};
-ghost use Rattle.nf_run.specs.Laws.{DueForExamples, SomeIsDue};
+ghost use Rattle.nf_run.specs.Laws.{DueForExamples, JointBasisExists, JointBasisIsUnique};
+ghost use Rattle.nf_run.specs.Laws.{SomeIsDue};
 
 use cube_sets::conflict;
 use pla_reader::Pla;
+
+/// The intersection and the sum of the ideals of two outputs' care points have a reduced basis
+/// each.
+pub fn joint_basis_exists()
+    ensures { JointBasisExists }
+{}
+
+/// They have only one.
+pub fn joint_basis_is_unique()
+    ensures { JointBasisIsUnique }
+{}
 
 /// For a mode and bytes one outcome, with its text, is due at most.
 pub fn one_is_due()

@@ -1,12 +1,15 @@
-//! Normal forms of given polynomials on the care points of a description, and the top call of the
-//! program that finds them.
+//! Normal forms of given polynomials on the care points of a description, the reduced bases of the
+//! sum and the intersection of two outputs' ideals, and the top call of the program that finds
+//! these.
 #![tactic(auto)]
 
 mod answer;
 mod answering;
 mod ends;
+mod joint;
 pub mod laws;
 mod mode;
+mod phases;
 mod queries;
 mod reading;
 mod reduction;
@@ -16,6 +19,7 @@ mod top;
 
 pub use crate::answering::answer_queries;
 pub use crate::ends::QueryEnd;
+pub use crate::joint::{Joining, joint_basis};
 pub use crate::mode::QueryMode;
 pub use crate::queries::{Queries, Query, QueryRefusal, QueryWhy};
 pub use crate::reading::read_queries;

@@ -2,8 +2,8 @@
 ghost use Rattle.std.specs.Prelude.{IfSome, IsNone};
 ghost use Rattle.nf_run.specs.Duty.{IsAsked, IsRefused};
 
+use crate::joint::Joining;
 use lattice::Words;
-use point_ideals::Joining;
 
 /// What a run does with a description.
 #[derive(Clone, Copy, Debug, PartialEq, Eq)]

@@ -1,7 +1,5 @@
-//! Tests of the query program and of ideals of points, with a module for each crate that is tested.
+//! Tests of the query program: of its parts as a library, and of whole runs.
 #![tactic(auto)]
 
 #[cfg(test)]
 mod of_nf_run;
-#[cfg(test)]
-mod of_point_ideals;

@@ -1,3 +1,5 @@
+mod joint;
+
 ghost use Rattle.std.specs.Prelude.{◌<◌, length};
 
 use lattice::{Mono, MonoLists, Words};

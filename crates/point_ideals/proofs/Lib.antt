@@ -1,2 +1,0 @@
-mod JointSteps
-pub mod JointBases

@@ -1,7 +1,0 @@
-use Rattle.point_ideals.proofs.JointSteps.{Elements}
-use Rattle.point_ideals.proofs.phases.elements.Given as goal
-
--- the elements of the leads before the rest
-abbrev pub invariant-loop-lead : goal.invariant-loop-lead
-invariant-loop-lead g l =
-    Elements (g.S.Store.state l.fn.store) (g.S.Store.state l.store) l.points l.leads l.lead-iterator.iter.rest.now l.found.items
