@@ -1,6 +1,6 @@
 -- How a run ends, from what its steps found: words ask for one mode at most, and exactly one thing is due for a mode and bytes that have
 -- a description.
-use Rattle.std.proofs.Common.{◌≡◌, ◌≢◌, ◌⊎◌, ◌∙◌, ℕ, List, drop, map, ap, arith, inl, inr, refl, length, ◌<◌, ◌^◌, ◌≤◌, subst}
+use Rattle.std.proofs.Common.{◌≡◌, ◌≢◌, ◌⊎◌, ℕ, List, drop, map, ap, arith, inl, inr, refl, ◌<◌, ◌^◌, ◌≤◌, subst}
 use Rattle.std.proofs.Common.{Option, Some, None, []}
 use Rattle.std.specs.Prelude.{Ok, Err}
 use Rattle.std.specs.List.{AllZip, All}
@@ -38,7 +38,7 @@ use Rattle.nf_run.specs.Parts.{refused_outcome}
 use Rattle.nf_run.specs.Queries.{GivesQueries, Reading, query_reading}
 use Rattle.nf_run.specs.declared.answer.TheConstants.{MOST_TERMS}
 use Rattle.nf_run.specs.declared.ends.QueryEnd.{QueryEnd}
-use Rattle.nf_run.specs.declared.ends.QueryEnd.TheVariants.{QueryText, TwoOutputs}
+use Rattle.nf_run.specs.declared.ends.QueryEnd.TheVariants.{QueryText}
 use Rattle.nf_run.specs.declared.joint.Joining.{Joining}
 use Rattle.nf_run.specs.declared.joint.Joining.TheVariants.{Meet, Union}
 use Rattle.nf_run.specs.declared.mode.QueryMode.{QueryMode}
@@ -46,7 +46,8 @@ use Rattle.nf_run.specs.declared.mode.QueryMode.TheVariants.{Join, Reduce}
 use Rattle.nf_run.specs.declared.queries.Query.{Query}
 use Rattle.nf_run.specs.declared.queries.QueryWhy.{QueryWhy}
 use Rattle.nf_run.proofs.JointBases.{joint_exists, joint_unique}
-use Rattle.nf_run.proofs.QueryAnswers.{all_answered, answers_are, answers_count, answers_over, zip_all}
+use Rattle.nf_run.proofs.Found.{zip_all}
+use Rattle.nf_run.proofs.QueryAnswers.{all_answered, answers_are, answers_count, answers_over}
 
 -- ---- one mode, and one end of a description
 

@@ -4,7 +4,8 @@ use Rattle.lattice.specs.Words.{Ideal, IsReducedBasis, basis_element_of, reduced
 use Rattle.lattice.proofs.Polynomials.{IsFamily-care_set, IsFamily-combine, IsReducedBasis-unique, basis_same, intersection_law}
 use Rattle.lattice.proofs.Polynomials.{reduced_basis_exists, sum_law}
 use Rattle.pla_reader.specs.Reading.{Description}
-use Rattle.nf_run.specs.Joint.{IsJointBasis, joint_basis_of, joint_ideal, joint_leads, joint_points, output_points}
+use Rattle.nf_run.specs.Found.{output_points}
+use Rattle.nf_run.specs.Joint.{IsJointBasis, joint_basis_of, joint_ideal, joint_leads, joint_points}
 use Rattle.nf_run.specs.declared.joint.Joining.{Joining}
 use Rattle.nf_run.specs.declared.joint.Joining.TheVariants.{Meet, Union}
 

@@ -1,36 +1,31 @@
 -- The care points of two outputs put together, their leads, the elements of their reduced basis, and the limits that these pass.
-use Rattle.std.proofs.Common.{◌≡◌, ◌∙◌, ◌++◌, ◌∷◌, ℕ, [], Ok, refl, ◌<◌, ◌^◌, List, ap, ap₂, append-nil, append_assoc, arith, length}
+use Rattle.std.proofs.Common.{◌≡◌, ◌∙◌, ◌++◌, ◌∷◌, ℕ, [], Ok, refl, ◌<◌, ◌^◌, List, ap, append-nil, append_assoc, arith, length}
 use Rattle.std.proofs.Common.{reverse, subst, sym, true, ◌≢◌, None, Option, Some, map, Err, Result, ◌≤◌}
-use Rattle.std.specs.List.{All, sum_by}
+use Rattle.std.specs.List.{All}
 use Rattle.std.proofs.lemmas.Grind.{flat_map-append}
-use Rattle.std.proofs.lemmas.List.{flat_map_more, map_push, nil_from_length, reverse-append, length-map}
-use Rattle.std.proofs.lemmas.List.Elements.{All-nil, All-push}
-use Rattle.std.specs.Prelude.{IfErr, IfOk, IsErrAnd}
+use Rattle.std.proofs.lemmas.List.{nil_from_length, reverse-append, length-map}
+use Rattle.std.specs.Prelude.{IfErr, IfOk}
 use Rattle.std.proofs.lemmas.Bool.Decides.{nat_tests}
-use Rattle.std.proofs.lemmas.List.Folds.{fold-map}
-use Rattle.std.proofs.lemmas.Result.{err_from_is_err_and}
 use Rattle.lattice.specs.Words.{leads_of, standard_of, IsLead, basis_element_of, Covers, Family, has, working_set, basis_element_list}
-use Rattle.lattice.proofs.Diagrams.{covers_append, covers_head, covers_left, covers_right, covers_nil}
+use Rattle.lattice.proofs.Diagrams.{covers_append, covers_head, covers_left, covers_right}
 use Rattle.lattice.proofs.Polynomials.{All-from_has, All-has, has-append, has_head, leads_are_minimal}
 use Rattle.node_store.specs.Stores.{Builds, Gives, Grows, IsPlanned, State, family, Knows}
 use Rattle.node_store.specs.declared.store.Full.{Full}
 use Rattle.node_store.specs.declared.store.Handle.{Handle}
-use Rattle.node_store.proofs.StoreLaws.{Denotes-family, Denotes-knows, Grows-family, Grows-knows, Grows-refl, Grows-trans}
-use Rattle.node_store.proofs.StoreLaws.{All_known-later, builds_gives, families_later, found_gives, reads_one}
+use Rattle.node_store.proofs.StoreLaws.{Denotes-family, Grows-family, Grows-knows, Grows-refl, Grows-trans}
+use Rattle.node_store.proofs.StoreLaws.{builds_gives, found_gives, reads_one}
 use Rattle.pla_reader.specs.Reading.{Description}
-use Rattle.set_algebra.specs.Terms.{terms_of}
-use Rattle.set_algebra.specs.Refusals.{unlisted_refusal}
 use Rattle.set_algebra.specs.declared.refusal.TermsRefusal.{TermsRefusal}
 use Rattle.set_algebra.specs.declared.refusal.TermsRefusal.TheVariants as stops
-use Rattle.set_algebra.specs.declared.counted.WalkRefusal.{WalkRefusal}
-use Rattle.set_algebra.specs.declared.counted.WalkRefusal.TheVariants as unlisted
 use Rattle.std_monomials.specs.PointLeads.{point_leads_list}
 use Rattle.cube_build.specs.CarePoints.{points_list}
+use Rattle.nf_run.specs.Found.{output_points}
 use Rattle.nf_run.specs.Joint.{HoldsJoint, first_phase_list, joined, joint_points, joint_points_list, HoldsBasis}
 use Rattle.nf_run.specs.Joint.{HoldsElements, elements_list, joint_leads, second_phase_list, FindsBasis, FindsLeads, IsJointBasis}
-use Rattle.nf_run.specs.Joint.{first_nodes, first_refused, joint_basis_of, output_points, PhaseGives}
+use Rattle.nf_run.specs.Joint.{first_nodes, first_refused, joint_basis_of}
 use Rattle.nf_run.specs.declared.joint.Joining.{Joining}
 use Rattle.nf_run.specs.declared.phases.Joint.{Joint}
+use Rattle.nf_run.proofs.Found.{found_families, found_known, none_found, one_found}
 use Rattle.nf_run.proofs.JointBases.{basis_listed, joint_fits, joint_exists, joint_unique}
 
 -- ---- the points; s is the state at the call, t the one after the points of output 1, u after those of output 2
@@ -107,7 +102,7 @@ pub record Elements (s t : State) (points : Handle) (leads rest : List ℕ) (fou
   pub done : List ℕ
   pub split : reverse leads ≡ done ++ reverse rest
   pub grows : Grows s t
-  pub holds : HoldsElements t (family s points) done found
+  pub holds : HoldsElements t s.vars (family s points) done found
 
 module _ (s : State) (points : Handle) (leads : List ℕ) where
   abbrev P : Family
@@ -118,7 +113,7 @@ module _ (s : State) (points : Handle) (leads : List ℕ) where
     done = [];
     split = ap reverse (sym is);
     grows = Grows-refl s;
-    holds = record { known = All-nil (Knows s); are = refl; held = covers_nil s.vars s.held };
+    holds = none_found s;
   }
 
   -- m is the least of the rest, and t the state before its element
@@ -162,28 +157,17 @@ module _ (s : State) (points : Handle) (leads : List ℕ) where
       done = so_far.done ++ m ∷ [];
       split = turned ∙ sym (append_assoc so_far.done (m ∷ []) (reverse left));
       grows = Grows-trans s t u so_far.grows gives.grows;
-      holds = record {
-        known = rw items (All-push (Knows u) found h (All_known-later t u found gives.grows so_far.holds.known)
-            (Denotes-knows u h _ gives.ok));
-        are = rw (items, gives.grows.vars) (map_push (family u) found h
-            ∙ (ap₂ (λ (xs : List Family) (x : Family). xs ++ x ∷ [])
-            (families_later t u found gives.grows so_far.holds.known ∙ so_far.holds.are)
-            (Denotes-family u h _ gives.ok ∙ ap (basis_element_of t.vars m) same_points)
-            ∙ sym (map_push (λ k. basis_element_of t.vars k P) so_far.done m)));
-        held = subst (λ list. Covers u.held (working_set u.vars list)) (flat_map_more (λ k. basis_element_list u.vars k P) [] so_far.done m)
-            (covers_append u.vars u.held (elements_list u.vars P so_far.done) (basis_element_list u.vars m P)
-            (rw gives.grows.vars (λ f i. gives.grows.held f (so_far.holds.held f i)))
-            (rw gives.grows.vars (rw same_points at gives.held)));
-      };
+      holds = one_found m gives.grows so_far.holds (rw (so_far.grows.vars, same_points) at gives.ok)
+          (rw (so_far.grows.vars, same_points) at gives.held) items;
     }
 
   -- after the last one
   pub all_elements : {t : State} {rest : List ℕ} {found : List Handle} → length rest ≡ 0 → Elements s t points leads rest found
-      → HoldsElements t P (reverse leads) found
+      → HoldsElements t s.vars P (reverse leads) found
   all_elements {t = t} {rest = rest} {found = found} none so_far =
       let all : reverse leads ≡ so_far.done = so_far.split
       ∙ (ap (λ r. so_far.done ++ reverse r) (nil_from_length rest none) ∙ append-nil so_far.done) in
-      subst (λ ms. HoldsElements t P ms found) (sym all) so_far.holds
+      subst (λ ms. HoldsElements t s.vars P ms found) (sym all) so_far.holds
 
 -- ---- phase 2; s is the state at the call, and t the one after phase 1
 
@@ -210,22 +194,15 @@ module _ (s : State) (d : Description) (joining : Joining)
         (λ m i. (leads_are_minimal d.inputs C (joint_fits d joining) m).0 i))
 
     pub basis_held : {u : State} {elements : List Handle} → Grows t u
-        → HoldsElements u (family t found.points) (reverse leads) elements → HoldsBasis u d joining elements
+        → HoldsElements u t.vars (family t found.points) (reverse leads) elements → HoldsBasis u d joining elements
     basis_held {u = u} {elements = elements} two holds =
-        let u_vars : u.vars ≡ d.inputs = two.vars ∙ (one.vars ∙ vars_are) in
+        let are = found_families holds in
         record {
-          known = holds.known;
-          are = rw (points_are, leads_are, u_vars) at holds.are ∙ basis_listed d joining;
+          known = found_known holds;
+          are = rw (points_are, leads_are, one.vars, vars_are) at are ∙ basis_listed d joining;
           held = covers_append d.inputs u.held (first_phase_list d joining) (elements_list d.inputs C (joint_leads d joining))
-              (λ f i. two.held f (is.held f i)) (rw (points_are, leads_are, u_vars) at holds.held);
+              (λ f i. two.held f (is.held f i)) (rw (points_are, leads_are, one.vars, vars_are) at holds.held);
         }
-
--- ---- what is counted of a reduced basis, and the first limit that it passes
-
--- the elements in a store have the terms of the basis
-pub elements_counted : (t : State) (d : Description) (joining : Joining) (found : List Handle) → HoldsBasis t d joining found
-    → terms_of t found ≡ sum_by length (joint_basis_of d joining)
-elements_counted t d joining found is = sym (fold-map _ (family t) 0 found) ∙ ap (sum_by length) is.are
 
 -- ---- the first limit that is passed
 
@@ -314,24 +291,6 @@ module _ (d : Description) (joining : Joining) {slots others limit : ℕ} (is : 
 
   pub basis_by : {r : Result (List Family) TermsRefusal} → FindsBasis slots limit d joining r → FindsBasis others limit d joining r
   basis_by found = rw (← is) found
-
--- ---- what a phase gives
-
-module _ {T : Type 0} (slots limit planned nodes count : ℕ) (IsAnswer : T → Type 0) (r : Result T TermsRefusal) where
-  -- where all were listed
-  pub phase_listed : {x : T} → r ≡ Ok x → IsAnswer x → nodes ≤ slots → count ≤ limit
-      → PhaseGives slots limit planned nodes count IsAnswer r
-  phase_listed is answer fits few = rw is (record { answer = answer; fits = fits; few = few; exhausted = λ e. cc; terms = λ e. cc })
-
-  -- where there were too many members, or memory ran out
-  pub phase_unlisted : (x : WalkRefusal) → IsErrAnd r (λ e. e ≡ unlisted_refusal x) → nodes ≤ slots → (x ≡ unlisted.Over → limit < count)
-      → PhaseGives slots limit planned nodes count IsAnswer r
-  phase_unlisted unlisted.Over named fits over =
-      let p = err_from_is_err_and r named in
-      rw (p.1, p.2) (record { answer = tt; fits = tt; few = tt; exhausted = λ e. cc; terms = λ _. (fits, over refl) })
-  phase_unlisted unlisted.Memory named fits over =
-      let p = err_from_is_err_and r named in
-      rw (p.1, p.2) (record { answer = tt; fits = tt; few = tt; exhausted = λ e. cc; terms = λ e. cc })
 
 -- ---- what the elements use
 

@@ -1,3 +1,4 @@
+mod Found
 mod QueryLines
 mod LeastValues
 mod QueryAnswers

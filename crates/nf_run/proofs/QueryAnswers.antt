@@ -1,39 +1,30 @@
 -- The care points of the outputs and the answers to queries, one after the other.
-use Rattle.std.proofs.Common.{◌≡◌, ℕ, zero, suc, ◌+◌, ◌-◌, ◌<◌, ◌≤◌, Ok, Bool, true, List, [], ◌∷◌, ◌++◌, length, take, get_or, ◌^◌, ◌||◌}
+use Rattle.std.proofs.Common.{◌≡◌, ℕ, zero, suc, ◌+◌, ◌-◌, ◌<◌, Ok, Bool, true, List, [], ◌∷◌, ◌++◌, length, take, get_or, ◌^◌, ◌||◌}
 use Rattle.std.proofs.Common.{map, reverse, refl, sym, ◌∙◌, ap, subst, arith}
 use Rattle.std.specs.Prelude.{◌==◌}
 use Rattle.std.specs.List.{All, AllZip, list_any, sum_by}
 use Rattle.std.proofs.lemmas.Bool.{eqb-true}
-use Rattle.std.proofs.lemmas.List.{flat_map_more, get_or_append_left, get_or_push, length_push, map-id, take_more}
-use Rattle.std.proofs.lemmas.List.Elements.{All-cons, All-map, All-nil}
+use Rattle.std.proofs.lemmas.List.{get_or_append_left, get_or_push, length_push, map-id, take_more}
+use Rattle.std.proofs.lemmas.List.Elements.{All-map}
 use Rattle.std.proofs.lemmas.List.Folds.{Any-from_list_any, fold-map}
-use Rattle.std.proofs.lemmas.Slice.Zip.{all_zipped_more}
 use borrow.Author.Count.{below_more}
 use Rattle.lattice.specs.Words.{Covers, Family, IsFamily, working_set, care_ones, care_zeros}
-use Rattle.lattice.proofs.Diagrams.{Has-append_left, Has-append_right, covers_append, covers_left, covers_nil, covers_part, covers_right}
-use Rattle.lattice.proofs.Polynomials.{IsFamily-combine, terms_below, zip_fold, zip_weaker}
+use Rattle.lattice.proofs.Diagrams.{Has-append_left, Has-append_right, covers_append, covers_left, covers_part, covers_right}
+use Rattle.lattice.proofs.Polynomials.{IsFamily-combine, terms_below}
 use Rattle.set_algebra.specs.Terms.{terms_of}
-use Rattle.node_store.proofs.StoreLaws.{fits}
-use Rattle.nf_run.proofs.LeastValues.{reduced_is, reduced_once}
-use Rattle.node_store.specs.Stores.{Denotes, Gives, Grows, IsSound, Knows, State, family, no_handle}
+use Rattle.node_store.specs.Stores.{Gives, Grows, State, family, no_handle}
 use Rattle.node_store.specs.declared.store.Handle.{Handle}
-use Rattle.node_store.proofs.StoreLaws.{Denotes-family, Denotes-knows, Grows-refl, Grows-trans}
+use Rattle.node_store.proofs.StoreLaws.{Denotes-family, Grows-refl, Grows-trans}
 use Rattle.pla_reader.specs.Reading.{Description}
 use Rattle.cube_build.specs.CarePoints.{HoldsPoints, points_list}
 use Rattle.cube_build.proofs.CareNeeds.{points_later}
 use Rattle.nf_run.specs.Answers.{AreAnswered, HoldsAll, IsAnswerTo, answer_terms, answer_to, points_of, queries_list}
-use Rattle.nf_run.specs.Answers.{query_list, query_nodes}
+use Rattle.nf_run.specs.Answers.{query_list}
 use Rattle.nf_run.specs.Queries.{IsQueryOver}
 use Rattle.nf_run.specs.Reduced.{reduced, reduced_list, sum_of_terms}
 use Rattle.nf_run.specs.declared.queries.Query.{Query}
-
-pub zip_all : {X Y : Type 0} (R : X → Y → Type 0) (P : Y → Type 0) → ((x : X) (y : Y) → R x y → P y) → (xs : List X) (ys : List Y)
-    → AllZip R xs ys → All P ys
-zip_all R P each = zip_fold R (λ _. All P) (All-nil P) (λ x xs y ys r p. All-cons P y ys (each x y r) p)
-
-zip_map : {X Y Z : Type 0} {R : X → Y → Type 0} (f : X → Z) (g : Y → Z) → ((x : X) (y : Y) → R x y → g y ≡ f x)
-    → (xs : List X) (ys : List Y) → AllZip R xs ys → map g ys ≡ map f xs
-zip_map {R = R} f g same = zip_fold R (λ xs ys. map g ys ≡ map f xs) refl (λ x xs y ys r p. cc (same x y r))
+use Rattle.nf_run.proofs.Found.{found_families, none_found, one_found, terms_counted, zip_map}
+use Rattle.nf_run.proofs.LeastValues.{reduced_is, reduced_once}
 
 zip_from : {X Y Z : Type 0} (R : X → Y → Type 0) (f : X → Z) (g : Y → Z) → ((x : X) (y : Y) → g y ≡ f x → R x y)
     → (xs : List X) (ys : List Y) → map g ys ≡ map f xs → AllZip R xs ys
@@ -102,7 +93,7 @@ module _ (d : Description) (queries : List Query) where
     pub are : AreAnswered t d (take i queries) found
 
   pub no_answers : (s : State) → Answers s s 0 []
-  no_answers s = record { grows = Grows-refl s; are = record { each = tt; held = covers_nil d.inputs s.held } }
+  no_answers s = record { grows = Grows-refl s; are = none_found s }
 
   module _ (s : State) (vars_are : s.vars ≡ d.inputs) (planned : Planned s.plan) (points : List Handle)
       (holds : HoldsAll s d queries points) (i : ℕ) (less : i < length queries) (q : Query) (is : q ≡ get_or queries i q) (here : Handle)
@@ -131,18 +122,11 @@ module _ (d : Description) (queries : List Query) where
     one_answer {u = u} {h = h} {more = more} gives items =
         let next : take (i + 1) queries ≡ take i queries ++ q ∷ [] =
         take_more queries i q less ∙ ap (λ r. take i queries ++ r ∷ []) (sym is) in
+        let held = covers_append d.inputs u.held (points_list d q.output) (reduced_list d.inputs q.terms (points_of d q))
+        (λ f j. gives.grows.held f (later_points.held f j)) (rw list_is at gives.held) in
         record {
           grows = Grows-trans s t u so_far.grows gives.grows;
-          are = record {
-            each = rw (next, items) (all_zipped_more (λ r k. Denotes u k (answer_to d r)) (take i queries) answers q h
-                (zip_weaker (λ r k. Denotes t k (answer_to d r)) (λ r k. Denotes u k (answer_to d r)) (λ r k h. gives.grows.known k.0 _ h)
-                (take i queries) answers so_far.are.each) (rw (t_vars, points_are) at gives.ok));
-            held = rw (next, sym (flat_map_more (query_list d) [] (take i queries) q))
-                (covers_append d.inputs u.held (queries_list d (take i queries)) (query_list d q)
-                (λ f j. gives.grows.held f (so_far.are.held f j))
-                (covers_append d.inputs u.held (points_list d q.output) (reduced_list d.inputs q.terms (points_of d q))
-                (λ f j. gives.grows.held f (later_points.held f j)) (rw list_is at gives.held)));
-          };
+          are = rw next (one_found q gives.grows so_far.are (rw (t_vars, points_are) at gives.ok) held items);
         }
 
 -- ---- what is counted and printed
@@ -178,23 +162,14 @@ module _ (d : Description) where
 
 -- t is the state after the answers
 
-module _ {t : State} {d : Description} {queries : List Query} {found : List Handle} (are : AreAnswered t d queries found) where
-  pub handles_known : All (Knows t) found
-  handles_known = zip_all (λ q h. Denotes t h (answer_to d q)) (Knows t) (λ q h. Denotes-knows t h (answer_to d q)) queries found are.each
-
-  families_are : map (family t) found ≡ map (answer_to d) queries
-  families_are = zip_map (answer_to d) (family t) (λ q h. Denotes-family t h (answer_to d q)) queries found are.each
-
+module _ {t : State} (d : Description) {queries : List Query} {found : List Handle} (are : AreAnswered t d queries found) where
   pub terms_are : terms_of t found ≡ answer_terms d queries
-  terms_are = sym (fold-map _ (family t) 0 found) ∙ (ap (sum_by length) families_are ∙ answers_count d queries)
+  terms_are = terms_counted t found (found_families are) ∙ answers_count d queries
 
   pub lists_right : (lists : List (List ℕ)) → map reverse lists ≡ map (family t) found
       → AllZip (λ q terms. IsAnswerTo d q (reverse terms)) queries lists
   lists_right lists e = zip_from (λ q terms. IsAnswerTo d q (reverse terms)) (answer_to d) reverse
-      (λ q terms e. rw e (answer_right d q)) queries lists (e ∙ families_are)
-
-  pub nodes_fit : IsSound t → query_nodes d queries ≤ t.capacity
-  nodes_fit sound = fits t d.inputs (queries_list d queries) sound are.held
+      (λ q terms e. rw e (answer_right d q)) queries lists (e ∙ found_families are)
 
 -- ---- what the care points use
 

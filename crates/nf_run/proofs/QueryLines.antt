@@ -9,7 +9,6 @@ use Rattle.pla_reader.specs.Parts.{Stops, text_refusal}
 use Rattle.pla_reader.specs.declared.refusal.LineRefusal.{LineRefusal}
 use Rattle.pla_reader.specs.declared.refusal.LineRefusal.TheVariants as line_refusals
 use Rattle.cert_check.specs.Reading.{bare, words}
-use Rattle.cert_check.specs.declared.refusal.AnswerWhy.TheVariants as answers
 use Rattle.nf_run.specs.Queries.{GivesQueries, IsQueryOver, queries_on, query_fault, query_of}
 use Rattle.nf_run.specs.declared.queries.Query.{Query}
 use Rattle.nf_run.specs.declared.queries.QueryWhy.{QueryWhy}

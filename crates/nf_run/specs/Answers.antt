@@ -1,18 +1,20 @@
 -- The answers to queries on a description, and what finding them needs.
-use Rattle.std.specs.Prelude.{ℕ, ◌-◌, List, ◌++◌, length, sum_by, slice_index_or}
+use Rattle.std.specs.Prelude.{ℕ, ◌-◌, List, ◌++◌, Result, length, reverse, sum_by, slice_index_or}
 use Rattle.std.specs.List.{All, AllZip, flat_map}
-use Rattle.lattice.specs.Family.{Covers, Family}
-use Rattle.lattice.specs.WorkingLists.{care_set, working_set}
-use Rattle.node_store.specs.Stores.{Denotes, State, no_handle}
+use Rattle.lattice.specs.Family.{Family}
+use Rattle.lattice.specs.WorkingLists.{working_set}
+use Rattle.node_store.specs.Stores.{State, no_handle}
 use Rattle.node_store.specs.declared.store.Handle.{Handle}
 use Rattle.pla_reader.specs.Reading.{Description}
+use Rattle.set_algebra.specs.declared.refusal.TermsRefusal.{TermsRefusal}
 use Rattle.cube_build.specs.CarePoints.{HoldsPoints, points_list}
+use Rattle.nf_run.specs.Found.{AreFound, SearchGives, output_points}
 use Rattle.nf_run.specs.Reduced.{IsReduced, reduced, reduced_list, sum_of_terms}
 use Rattle.nf_run.specs.declared.queries.Query.{Query}
 
 -- all care points of the output of a query
 abbrev pub points_of : Description → Query → Family
-points_of d q = care_set d.inputs d.kind d.rows q.output
+points_of d q = output_points d q.output
 
 -- p is the answer to the query: the least polynomial that has its values at the care points of its output
 abbrev pub IsAnswerTo : Description → Query → Family → Type 0
@@ -44,6 +46,10 @@ abbrev pub HoldsAll : State → Description → List Query → List Handle → T
 HoldsAll s d queries points = All (λ q. HoldsPoints s d q.output (slice_index_or points (q.output - 1) no_handle)) queries
 
 -- the handles of the answers, and what they needed is held
-pub record AreAnswered (s : State) (d : Description) (queries : List Query) (answers : List Handle) : Type 0 where
-  pub each : AllZip (λ q h. Denotes s h (answer_to d q)) queries answers
-  pub held : Covers s.held (working_set d.inputs (queries_list d queries))
+abbrev pub AreAnswered : State → Description → List Query → List Handle → Type 0
+AreAnswered s d = AreFound s d.inputs (answer_to d) (query_list d)
+
+-- the terms of the answers are given, each from the greatest to the least
+abbrev pub FindsAnswers : (slots limit : ℕ) → Description → List Query → Result (List Family) TermsRefusal → Type 0
+FindsAnswers slots limit d queries = let nodes = query_nodes d queries in
+    SearchGives slots limit nodes nodes (answer_terms d queries) (AllZip (λ q terms. IsAnswerTo d q (reverse terms)) queries)

@@ -1,11 +1,10 @@
 -- The ideals of the care points of two outputs put together, the reduced basis of what comes out, and what finding it needs.
-use Rattle.std.specs.Prelude.{◌≡◌, ◌<◌, ◌≤◌, ℕ, ◌^◌, ◌++◌, ◌∷◌, List, [], Option, Some, None, if◌then◌else◌, length, map, nat_lt, reverse, sum_by}
-use Rattle.std.specs.Prelude.{IfOk, IsErrOf, OnOk, Result}
+use Rattle.std.specs.Prelude.{◌≡◌, ℕ, ◌^◌, ◌++◌, ◌∷◌, List, [], Option, Some, None, Result, if◌then◌else◌, length, map, nat_lt, reverse, sum_by}
 use Rattle.std.specs.List.{All, flat_map}
 use Rattle.lattice.specs.Basis.{basis_element_of, leads_of, reduced_basis_of, standard_of}
 use Rattle.lattice.specs.Family.{Covers, Family, inter_of, union_of}
 use Rattle.lattice.specs.Ideals.{Ideal, Intersection, IsReducedBasisOf, Polynomials, Sum}
-use Rattle.lattice.specs.WorkingLists.{basis_element_list, care_set, working_set}
+use Rattle.lattice.specs.WorkingLists.{basis_element_list, working_set}
 use Rattle.node_store.specs.Stores.{Denotes, Knows, State, family}
 use Rattle.node_store.specs.declared.store.Handle.{Handle}
 use Rattle.pla_reader.specs.Reading.{Description}
@@ -13,13 +12,10 @@ use Rattle.set_algebra.specs.declared.refusal.TermsRefusal.{TermsRefusal}
 use Rattle.set_algebra.specs.declared.refusal.TermsRefusal.TheVariants.{Full, Over}
 use Rattle.std_monomials.specs.PointLeads.{point_leads_list}
 use Rattle.cube_build.specs.CarePoints.{points_list}
+use Rattle.nf_run.specs.Found.{AreFound, SearchGives, output_points}
 use Rattle.nf_run.specs.declared.joint.Joining.{Joining}
 use Rattle.nf_run.specs.declared.joint.Joining.TheVariants.{Meet, Union}
 use Rattle.nf_run.specs.declared.phases.Joint.{Joint}
-
--- the care points of an output
-abbrev pub output_points : Description → ℕ → Family
-output_points d output = care_set d.inputs d.kind d.rows output
 
 -- of the polynomials that vanish at the care points of output 1 and of those that vanish at the care points of output 2: the common
 -- ones, or the sums of one of the former and one of the latter
@@ -94,10 +90,8 @@ pub record HoldsJoint (s : State) (d : Description) (joining : Joining) (found :
   pub held : Covers s.held (working_set d.inputs (first_phase_list d joining))
 
 -- the handles are of the elements with these leads, and what they needed is held
-pub record HoldsElements (s : State) (points : Family) (leads : List ℕ) (elements : List Handle) : Type 0 where
-  pub known : All (Knows s) elements
-  pub are : map (family s) elements ≡ map (λ m. basis_element_of s.vars m points) leads
-  pub held : Covers s.held (working_set s.vars (elements_list s.vars points leads))
+abbrev pub HoldsElements : State → ℕ → Family → List ℕ → List Handle → Type 0
+HoldsElements s n points = AreFound s n (λ m. basis_element_of n m points) (λ m. basis_element_list n m points)
 
 -- phase 2 was done
 pub record HoldsBasis (s : State) (d : Description) (joining : Joining) (found : List Handle) : Type 0 where
@@ -105,23 +99,14 @@ pub record HoldsBasis (s : State) (d : Description) (joining : Joining) (found :
   pub are : map (family s) found ≡ joint_basis_of d joining
   pub held : Covers s.held (working_set d.inputs (second_phase_list d joining))
 
--- ---- what a phase gives that needs so many nodes, in a store with so many planned families, and counts so many leads or terms: an
--- answer, where the nodes and the count are no more than the slots and the limit, or the refusal of the first that is more, or want of
--- memory. Where more than the needed families are planned, it may be full of those.
-pub record PhaseGives {T : Type 0} (slots limit planned nodes count : ℕ) (IsAnswer : T → Type 0) (result : Result T TermsRefusal)
-    : Type 0 where
-  pub answer : IfOk result IsAnswer
-  pub fits : OnOk result (nodes ≤ slots)
-  pub few : OnOk result (count ≤ limit)
-  pub exhausted : IsErrOf result Full → slots < planned
-  pub terms : IsErrOf result Over → (nodes ≤ slots) × (limit < count)
+-- ---- what a phase gives
 
 -- phase 1: the leads, from the greatest to the least
 abbrev pub FindsLeads : (planned slots limit : ℕ) → Description → Joining → Result Family TermsRefusal → Type 0
-FindsLeads planned slots limit d joining = PhaseGives slots limit planned (first_nodes d joining) (length (joint_leads d joining))
+FindsLeads planned slots limit d joining = SearchGives slots limit planned (first_nodes d joining) (length (joint_leads d joining))
     (λ leads. reverse leads ≡ joint_leads d joining)
 
 -- phase 2: the basis, with the terms of each element from the greatest to the least
 abbrev pub FindsBasis : (slots limit : ℕ) → Description → Joining → Result (List Family) TermsRefusal → Type 0
 FindsBasis slots limit d joining = let nodes = last_nodes d joining in
-    PhaseGives slots limit nodes nodes (sum_by length (joint_basis_of d joining)) (λ lists. map reverse lists ≡ joint_basis_of d joining)
+    SearchGives slots limit nodes nodes (sum_by length (joint_basis_of d joining)) (λ lists. map reverse lists ≡ joint_basis_of d joining)

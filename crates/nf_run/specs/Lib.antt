@@ -1,5 +1,6 @@
 pub mod Answers
 pub mod Queries
+pub mod Found
 pub mod Joint
 pub mod Reduced
 pub mod Due
@@ -7,3 +8,4 @@ pub mod Duty
 pub mod Ends
 pub mod Laws
 pub mod Parts
+pub mod Sought

@@ -5,7 +5,6 @@ ghost use Rattle.std.specs.Prelude.{length, reverse};
 ghost use Rattle.lattice.specs.Family.{Covers, Family};
 ghost use Rattle.lattice.specs.WorkingLists.{working_set};
 ghost use Rattle.lattice.specs.declared.limits.TheConstants.{MIN_BITS, MAX_BITS};
-ghost use Rattle.lattice.proofs.Diagrams.{working_set_is_node_list};
 ghost use Rattle.node_store.specs.Stores.{Grows};
 ghost use Rattle.pla_reader.specs.Reading.{description};
 ghost use Rattle.set_algebra.specs.declared.refusal.TermsRefusal.TheVariants as refusals;
@@ -14,9 +13,10 @@ ghost use Rattle.nf_run.specs.Joint.{first_phase_list, first_refused, joint_lead
 ghost use Rattle.nf_run.specs.Joint.{second_phase_list};
 
 use crate::phases::{first_phase, second_phase};
+use crate::plans::{Sought, plan_for};
 use computed_cache::CachedPass;
 use cube_build::{first_bits, next_bits};
-use lattice::{Mono, MonoLists, Monos, Plan, Planned, plan_of};
+use lattice::{Mono, MonoLists, Monos};
 use node_store::Store;
 use pla_reader::Pla;
 use set_algebra::{TermsRefusal, lists_upto, walk_upto};
@@ -32,46 +32,6 @@ pub enum Joining {
     /// The common ones. What vanishes there is a sum of what vanishes at the points of the one and
     /// what does at those of the other.
     Meet,
-}
-
-/// Phase 1 on a description.
-#[derive(Drop)]
-struct FirstPhase<'a>(&'a Pla, Joining);
-
-impl Planned for FirstPhase<'_> {
-    ghost families = { λ r. working_set r.0.now.inputs
-        (first_phase_list (description r.0.now) r.1) };
-
-    ghost node_list = { λ r. working_set_is_node_list r.0.now.inputs
-        (first_phase_list (description r.0.now) r.1) };
-}
-
-/// Phase 2 on a description.
-#[derive(Drop)]
-struct SecondPhase<'a>(&'a Pla, Joining);
-
-impl Planned for SecondPhase<'_> {
-    ghost families = { λ r. working_set r.0.now.inputs
-        (second_phase_list (description r.0.now) r.1) };
-
-    ghost node_list = { λ r. working_set_is_node_list r.0.now.inputs
-        (second_phase_list (description r.0.now) r.1) };
-}
-
-/// The plan of phase 1: its working set. It does nothing at run time.
-fn first_plan(p: &Pla, joining: Joining) -> Plan
-    ensures { result.families ≡ working_set p.now.inputs
-        (first_phase_list (description p.now) joining) }
-{
-    plan_of(&FirstPhase(p, joining))
-}
-
-/// The plan of phase 2: its working set. It does nothing at run time.
-fn second_plan(p: &Pla, joining: Joining) -> Plan
-    ensures { result.families ≡ working_set p.now.inputs
-        (second_phase_list (description p.now) joining) }
-{
-    plan_of(&SecondPhase(p, joining))
 }
 
 /// Phase 1 in a store whose plan has its families: the leads, from the greatest to the least.
@@ -128,7 +88,8 @@ fn leads_on(
     ensures { FindsLeads (first_nodes (description p.now) joining) (2 ^ bits) limit
         (description p.now) joining result }
 {
-    let (table, token) = Shared::make(alloc, bits, p.inputs, first_plan(p, joining))?;
+    let plan = plan_for(p, &Sought::Leads(joining));
+    let (table, token) = Shared::make(alloc, bits, p.inputs, plan)?;
     let mut pass = CachedPass::new(table.pass(token));
     leads_in(alloc, &mut pass, p, joining, limit)
 }
@@ -147,7 +108,8 @@ fn basis_on(
     requires leads { reverse leads.now ≡ joint_leads (description p.now) joining }
     ensures { FindsBasis (2 ^ bits) limit (description p.now) joining result }
 {
-    let (table, token) = Shared::make(alloc, bits, p.inputs, second_plan(p, joining))?;
+    let plan = plan_for(p, &Sought::Elements(joining));
+    let (table, token) = Shared::make(alloc, bits, p.inputs, plan)?;
     let mut pass = CachedPass::new(table.pass(token));
     basis_in(alloc, &mut pass, p, joining, leads, limit)
 }
@@ -195,7 +157,8 @@ fn joint_basis_at_once(
         → IsJointBasis (description p.now) joining basis
         → first_refused bits limit (description p.now) joining basis ≡ Some e) }
 {
-    let (table, token) = Shared::make(alloc, bits, p.inputs, second_plan(p, joining))?;
+    let plan = plan_for(p, &Sought::Elements(joining));
+    let (table, token) = Shared::make(alloc, bits, p.inputs, plan)?;
     let mut pass = CachedPass::new(table.pass(token));
     let leads = leads_in(alloc, &mut pass, p, joining, limit)?;
     basis_in(alloc, &mut pass, p, joining, leads.as_slice(), limit)

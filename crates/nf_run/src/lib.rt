@@ -10,6 +10,7 @@ mod joint;
 pub mod laws;
 mod mode;
 mod phases;
+mod plans;
 mod queries;
 mod reading;
 mod reduction;

@@ -98,8 +98,8 @@ fn elements<S: Store>(
         (elements_list s.vars (family s points) (reverse leads.now))) }
     ensures grows { Grows (S.state store.old) (S.state store.new) }
     ensures elements { IfOk result
-        (λ found. HoldsElements (S.state store.new) (family (S.state store.old) points)
-        (reverse leads.now) found.items) }
+        (λ found. let s = S.state store.old in HoldsElements (S.state store.new) s.vars
+        (family s points) (reverse leads.now) found.items) }
     ensures full { IsErrOf result SolveRefusal.Full
         → IsFull (S.state store.old) (S.state store.new) }
 {

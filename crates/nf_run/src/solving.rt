@@ -3,41 +3,22 @@ ghost use Rattle.std.specs.Prelude.{◌≡◌, ◌<◌, ◌≤◌, ◌^◌, IfOk
 ghost use Rattle.std.specs.List.{All, AllZip};
 ghost use Rattle.lattice.specs.WorkingLists.{working_set};
 ghost use Rattle.lattice.specs.declared.limits.TheConstants.{MIN_BITS, MAX_BITS};
-ghost use Rattle.lattice.proofs.Diagrams.{working_set_is_node_list};
 ghost use Rattle.pla_reader.specs.Reading.{description};
-ghost use Rattle.nf_run.specs.Answers.{IsAnswerTo, answer_terms, queries_list, query_nodes};
+ghost use Rattle.nf_run.specs.Answers.{FindsAnswers, IsAnswerTo, answer_terms, queries_list};
+ghost use Rattle.nf_run.specs.Answers.{query_nodes};
 ghost use Rattle.nf_run.specs.Queries.{IsQueryOver};
 
 use crate::answering::answer_queries;
+use crate::plans::{Sought, plan_for};
 use crate::queries::Query;
 use computed_cache::CachedPass;
 use cube_build::{SMALL_BITS, first_bits, next_bits};
-use lattice::{MonoLists, Plan, Planned, plan_of};
+use lattice::MonoLists;
 use node_store::Store;
 use pla_reader::Pla;
-use set_algebra::{TermsRefusal, lists_of};
+use set_algebra::{TermsRefusal, lists_upto};
 use std::alloc::Global;
 use unique_table::Shared;
-
-/// Queries on a description.
-#[derive(Drop)]
-struct QueryRun<'a>(&'a Pla, &'a [Query]);
-
-impl Planned for QueryRun<'_> {
-    ghost families = { λ r. working_set r.0.now.inputs
-        (queries_list (description r.0.now) r.1.now) };
-
-    ghost node_list = { λ r. working_set_is_node_list r.0.now.inputs
-        (queries_list (description r.0.now) r.1.now) };
-}
-
-/// The plan of queries: the working set of their families. It does nothing at run time.
-fn query_plan(p: &Pla, queries: &[Query]) -> Plan
-    ensures { result.families ≡ working_set p.now.inputs
-        (queries_list (description p.now) queries.now) }
-{
-    plan_of(&QueryRun(p, queries))
-}
 
 /// The answers' terms, each from the greatest to the least, found in a store with the plan of the
 /// queries.
@@ -52,20 +33,11 @@ fn reduce_in<S: Store>(
     requires vars { (S.state store.old).vars ≡ p.now.inputs }
     requires plan { (S.state store.old).plan
         ≡ working_set p.now.inputs (queries_list (description p.now) queries.now) }
-    ensures answers { IfOk result
-        (AllZip (λ q terms. IsAnswerTo (description p.now) q (reverse terms)) queries.now) }
-    ensures fits { OnOk result (query_nodes (description p.now) queries.now
-        ≤ (S.state store.old).capacity) }
-    ensures few { OnOk result (answer_terms (description p.now) queries.now ≤ limit) }
-    ensures exhausted { IsErrOf result TermsRefusal.Full
-        → (S.state store.old).capacity < query_nodes (description p.now) queries.now }
-    ensures terms { IsErrOf result TermsRefusal.Over
-        → (query_nodes (description p.now) queries.now ≤ (S.state store.old).capacity)
-        × (limit < answer_terms (description p.now) queries.now) }
+    ensures { FindsAnswers (S.state store.old).capacity limit (description p.now) queries.now
+        result }
 {
     let found = answer_queries(alloc, store, p, queries)?;
-    let mut left = limit;
-    Ok(lists_of(alloc, store, &found, &mut left)?)
+    Ok(lists_upto(alloc, store, &found, limit)?)
 }
 
 /// The same on a table of 2^bits slots, which all queries share.
@@ -78,17 +50,10 @@ fn reduce_on(
 ) -> Result<MonoLists, TermsRefusal>
     requires bits { (MIN_BITS ≤ bits) × (bits ≤ MAX_BITS) }
     requires over { All (IsQueryOver p.now.inputs p.now.outputs) queries.now }
-    ensures answers { IfOk result
-        (AllZip (λ q terms. IsAnswerTo (description p.now) q (reverse terms)) queries.now) }
-    ensures fits { OnOk result (query_nodes (description p.now) queries.now ≤ 2 ^ bits) }
-    ensures few { OnOk result (answer_terms (description p.now) queries.now ≤ limit) }
-    ensures exhausted { IsErrOf result TermsRefusal.Full
-        → 2 ^ bits < query_nodes (description p.now) queries.now }
-    ensures terms { IsErrOf result TermsRefusal.Over
-        → (query_nodes (description p.now) queries.now ≤ 2 ^ bits)
-        × (limit < answer_terms (description p.now) queries.now) }
+    ensures { FindsAnswers (2 ^ bits) limit (description p.now) queries.now result }
 {
-    let (table, token) = Shared::make(alloc, bits, p.inputs, query_plan(p, queries))?;
+    let plan = plan_for(p, &Sought::Answers(queries));
+    let (table, token) = Shared::make(alloc, bits, p.inputs, plan)?;
     let mut pass = CachedPass::new(table.pass(token));
     reduce_in(alloc, &mut pass, p, queries, limit)
 }

@@ -1,32 +1,27 @@
-use Rattle.std.proofs.Common.{Err, ap, arith}
-use Rattle.set_algebra.proofs.Calls.{walk_was_over}
-use Rattle.nf_run.proofs.QueryAnswers.{handles_known, lists_right, nodes_fit, terms_are}
+use Rattle.std.proofs.Common.{◌∙◌, Err, ap}
+use Rattle.pla_reader.specs.Reading.{description}
+use Rattle.set_algebra.specs.Terms.{terms_of}
+use Rattle.nf_run.proofs.Found.{found_known, search_listed, search_unlisted}
+use Rattle.nf_run.proofs.QueryAnswers.{lists_right, terms_are}
 use Rattle.nf_run.proofs.solving.reduce_in.Goals as goal
 
 pub answer_queries-requires-clause-planned : goal.answer_queries-requires-clause-planned
 answer_queries-requires-clause-planned g c = rw c.requires.plan (λ f i. i)
 
-pub lists_of-requires : goal.lists_of-requires
-lists_of-requires g c = rw c.deref.ensures.value (handles_known c.in_ok-found.ensures.answers)
+pub lists_upto-requires : goal.lists_upto-requires
+lists_upto-requires g c = rw c.deref.ensures.value (found_known c.in_ok-found.ensures.answers)
 
-pub returns-in_err-lists_of-clause-terms : goal.returns-in_err-lists_of-clause-terms
-returns-in_err-lists_of-clause-terms g c is =
-    let are = c.in_ok-found.ensures.answers in
-    let over = walk_was_over c.from_residual-in_err-lists_of.result c.in_err-lists_of.field-0.0
-    c.from_residual-in_err-lists_of.ensures.1 is in
-    let more = rw c.deref.ensures.value at (c.in_err-lists_of.ensures.over (ap Err over)) in (
-      omega (arith, nodes_fit are (g.met.S.Store.sound c.answer_queries.new.store), c.in_ok-found.ensures.grows.capacity),
-      omega (arith, terms_are are, more),
-    )
+pub returns-in_err-lists_upto : goal.returns-in_err-lists_upto
+returns-in_err-lists_upto g c =
+    let t = g.S.Store.state c.answer_queries.new.store in let is = c.in_ok-found.ensures in
+    search_unlisted is.grows (g.met.S.Store.sound c.answer_queries.new.store) _ _ is.answers.held
+    (ap (terms_of t) c.deref.ensures.value ∙ terms_are (description c.args.p.now) is.answers) c.in_err-lists_upto.field-0.0 _
+    c.from_residual-in_err-lists_upto.ensures.1 (λ e. c.in_err-lists_upto.ensures.over (ap Err e))
 
-pub returns-clause-answers : goal.returns-clause-answers
-returns-clause-answers g c =
-    lists_right c.in_ok-found.ensures.answers c.in_ok-lists_of.field-0 (rw c.deref.ensures.value at c.in_ok-lists_of.ensures.lists)
-
-pub returns-clause-fits : goal.returns-clause-fits
-returns-clause-fits g c =
-    let nodes = nodes_fit c.in_ok-found.ensures.answers (g.met.S.Store.sound c.answer_queries.new.store) in
-    omega (arith, nodes, c.in_ok-found.ensures.grows.capacity)
-
-pub returns-clause-few : goal.returns-clause-few
-returns-clause-few g c = omega (arith, terms_are c.in_ok-found.ensures.answers, rw c.deref.ensures.value at c.in_ok-lists_of.ensures.left)
+pub returns : goal.returns
+returns g c =
+    let t = g.S.Store.state c.answer_queries.new.store in let d = description c.args.p.now in let is = c.in_ok-found.ensures in
+    search_listed is.grows (g.met.S.Store.sound c.answer_queries.new.store) _ _ is.answers.held
+    (ap (terms_of t) c.deref.ensures.value ∙ terms_are d is.answers)
+    (lists_right d is.answers _ (rw c.deref.ensures.value at c.in_ok-lists_upto.ensures.lists))
+    c.in_ok-lists_upto.ensures.within
