@@ -7,16 +7,17 @@ use Rattle.std.proofs.lemmas.List.{nil_from_length, reverse-append, length-map}
 use Rattle.std.specs.Prelude.{IfErr, IfOk}
 use Rattle.std.proofs.lemmas.Bool.Decides.{nat_tests}
 use Rattle.lattice.specs.Words.{leads_of, standard_of, IsLead, basis_element_of, Covers, Family, has, working_set, basis_element_list}
-use Rattle.lattice.proofs.Diagrams.{covers_append, covers_head, covers_left, covers_right}
-use Rattle.lattice.proofs.Polynomials.{All-from_has, All-has, has-append, has_head, leads_are_minimal}
-use Rattle.node_store.specs.Stores.{Builds, Gives, Grows, IsPlanned, State, family, Knows}
+use Rattle.lattice.proofs.Diagrams.{covers_append, covers_left, covers_right}
+use Rattle.lattice.proofs.Polynomials.{IsFamily-care_set, All-from_has, All-has, has-append, has_head, leads_are_minimal}
+use Rattle.node_store.specs.Stores.{Builds, Gives, Grows, State, family, Knows}
 use Rattle.node_store.specs.declared.store.Full.{Full}
 use Rattle.node_store.specs.declared.store.Handle.{Handle}
 use Rattle.node_store.proofs.StoreLaws.{Denotes-family, Grows-family, Grows-knows, Grows-refl, Grows-trans}
-use Rattle.node_store.proofs.StoreLaws.{builds_gives, found_gives, reads_one}
+use Rattle.node_store.proofs.StoreLaws.{Reads-refl, builds_gives}
 use Rattle.pla_reader.specs.Reading.{Description}
 use Rattle.set_algebra.specs.declared.refusal.TermsRefusal.{TermsRefusal}
 use Rattle.set_algebra.specs.declared.refusal.TermsRefusal.TheVariants as stops
+use Rattle.set_algebra.proofs.Calls.{Calls, after_call, calls_start, last_call}
 use Rattle.std_monomials.specs.PointLeads.{point_leads_list}
 use Rattle.cube_build.specs.CarePoints.{points_list}
 use Rattle.nf_run.specs.Found.{output_points}
@@ -28,72 +29,61 @@ use Rattle.nf_run.specs.declared.phases.Joint.{Joint}
 use Rattle.nf_run.proofs.Found.{found_families, found_known, none_found, one_found}
 use Rattle.nf_run.proofs.JointBases.{basis_listed, joint_fits, joint_exists, joint_unique}
 
+-- a description's variables are the store's
+pub over_store : {m n : ℕ} (list : List Family) → m ≡ n → working_set n list ≡ working_set m list
+over_store list are = ap (λ n. working_set n list) (sym are)
+
 -- ---- the points; s is the state at the call, t the one after the points of output 1, u after those of output 2
 
-module _ (s : State) (d : Description) (joining : Joining)
+module _ {s : State} (d : Description) (joining : Joining) (vars_are : s.vars ≡ d.inputs)
     (planned : Covers s.plan (working_set d.inputs (joint_points_list d joining))) where
-  pub first_planned : Covers s.plan (working_set d.inputs (points_list d 1))
-  first_planned = covers_left d.inputs s.plan (points_list d 1) _ planned
+  pub joint_start : Calls s s d.inputs (joint_points_list d joining) (joint_points_list d joining) []
+  joint_start = calls_start (Reads-refl s) (omega (arith, vars_are)) (rw vars_are planned) refl tt
 
-  rest_planned : Covers s.plan (working_set d.inputs (points_list d 2 ++ joint_points d joining ∷ []))
-  rest_planned = covers_right d.inputs s.plan (points_list d 1) _ planned
+  module _ {t : State} {first : Handle} (one : Gives s t (Ok first) (output_points d 1) (working_set d.inputs (points_list d 1))) where
+    pub after_first : Calls s t d.inputs (joint_points_list d joining) (points_list d 2 ++ joint_points d joining ∷ [])
+        ((first, output_points d 1) ∷ [])
+    after_first =
+        after_call (points_list d 1) _ joint_start (over_store _ vars_are) refl (IsFamily-care_set d.inputs d.kind d.rows 1) one
 
-  pub second_planned : (t : State) → Grows s t → Covers t.plan (working_set d.inputs (points_list d 2))
-  second_planned t grows = rw grows.plan (covers_left d.inputs s.plan (points_list d 2) _ rest_planned)
+    module _ {u : State} {second : Handle} (two : Gives t u (Ok second) (output_points d 2) (working_set d.inputs (points_list d 2)))
+      where
+        pub after_second : Calls s u d.inputs (joint_points_list d joining) (joint_points d joining ∷ [])
+            ((second, output_points d 2) ∷ (first, output_points d 1) ∷ [])
+        after_second =
+            after_call (points_list d 2) _ after_first (over_store _ vars_are) refl (IsFamily-care_set d.inputs d.kind d.rows 2) two
 
-  module _ (vars_are : s.vars ≡ d.inputs) {t u : State} {first second : Handle}
-      (one : Gives s t (Ok first) (output_points d 1) (working_set d.inputs (points_list d 1)))
-      (two : Gives t u (Ok second) (output_points d 2) (working_set d.inputs (points_list d 2))) where
-    t_vars : t.vars ≡ d.inputs
-    t_vars = one.grows.vars ∙ vars_are
+        pub joined_is : joined joining u.vars (family u first) (family u second) ≡ joint_points d joining
+        joined_is = let k = after_second in rw (k.reads.grows.vars, vars_are, k.here.0.0, k.here.1.0.0) refl
 
-    joined_is : joined joining u.vars (family u first) (family u second) ≡ joint_points d joining
-    joined_is = rw (
-      two.grows.vars,
-      t_vars,
-      Denotes-family u first _ (two.grows.known first.0 _ one.ok),
-      Denotes-family u second _ two.ok,
-    ) refl
-
-    pub joined_planned : IsPlanned u (joined joining u.vars (family u first) (family u second))
-    joined_planned = rw (joined_is, two.grows.vars, t_vars, two.grows.plan, one.grows.plan)
-        (covers_head d.inputs s.plan [] (joint_points d joining) (covers_right d.inputs s.plan (points_list d 2) _ rest_planned))
-
-    pub joint_given : {v : State} {r : Result Handle Full} → Builds u v r (joined joining u.vars (family u first) (family u second))
-        → Gives s v r (joint_points d joining) (working_set d.inputs (joint_points_list d joining))
-    joint_given {v = v} {r = r} is =
-        let last = builds_gives u v r (joint_points d joining) (rw joined_is at is) in
-        let rest = found_gives t u v r (joint_points d joining) (points_list d 2) (joint_points d joining ∷ [])
-        (record { reads = reads_one two; held = rw t_vars two.held }) last in
-        subst (λ (n : ℕ). Gives s v r (joint_points d joining) (working_set n (joint_points_list d joining))) vars_are
-        (found_gives s t v r (joint_points d joining) (points_list d 1) (points_list d 2 ++ joint_points d joining ∷ [])
-        (record { reads = reads_one one; held = rw vars_are one.held }) rest)
+        pub joint_given : {v : State} (r : Result Handle Full) → Builds u v r (joined joining u.vars (family u first) (family u second))
+            → Gives s v r (joint_points d joining) (working_set d.inputs (joint_points_list d joining))
+        joint_given r is = let k = after_second in rw (over_store (joint_points_list d joining) vars_are)
+            (last_call k r (rw (joined_is, k.reads.grows.vars) refl) joined_is (builds_gives _ _ r _ is))
 
 -- ---- phase 1; t is the state after the points
 
-module _ (s : State) (d : Description) (joining : Joining)
+module _ {s : State} (d : Description) (joining : Joining) (vars_are : s.vars ≡ d.inputs)
     (planned : Covers s.plan (working_set d.inputs (first_phase_list d joining))) where
-  pub points_planned : Covers s.plan (working_set d.inputs (joint_points_list d joining))
-  points_planned = covers_left d.inputs s.plan (joint_points_list d joining) _ planned
+  phase_start : Calls s s d.inputs (first_phase_list d joining) (first_phase_list d joining) []
+  phase_start = calls_start (Reads-refl s) (omega (arith, vars_are)) (rw vars_are planned) refl tt
 
-  module _ (vars_are : s.vars ≡ d.inputs) {t : State} {points : Handle}
+  module _ {t : State} {points : Handle}
       (is : Gives s t (Ok points) (joint_points d joining) (working_set d.inputs (joint_points_list d joining))) where
-    joint_are : family t points ≡ joint_points d joining
-    joint_are = Denotes-family t points (joint_points d joining) is.ok
+    pub after_joint : Calls s t d.inputs (first_phase_list d joining) (point_leads_list d.inputs (joint_points d joining))
+        ((points, joint_points d joining) ∷ [])
+    after_joint = after_call (joint_points_list d joining) _ phase_start (over_store _ vars_are) refl (joint_fits d joining) is
 
-    pub leads_planned : Covers t.plan (working_set t.vars (point_leads_list t.vars (family t points)))
-    leads_planned = rw (joint_are, is.grows.vars, vars_are, is.grows.plan)
-        (covers_right d.inputs s.plan (joint_points_list d joining) _ planned)
+    pub leads_needs : working_set t.vars (point_leads_list t.vars (family t points))
+        ≡ working_set s.vars (point_leads_list d.inputs (joint_points d joining))
+    leads_needs = let k = after_joint in rw (k.reads.grows.vars, vars_are, k.here.0.0) refl
 
     pub phase_held : {u : State} {h : Handle} → Gives t u (Ok h) (leads_of t.vars (standard_of t.vars (family t points)))
         (working_set t.vars (point_leads_list t.vars (family t points)))
         → HoldsJoint u d joining (record { points = points; leads = h })
-    phase_held {u = u} {h = h} gives = record {
-      points = gives.grows.known points.0 _ is.ok;
-      leads = rw (joint_are, is.grows.vars, vars_are) at gives.ok;
-      held = covers_append d.inputs u.held (joint_points_list d joining) (point_leads_list d.inputs (joint_points d joining))
-          (λ f i. gives.grows.held f (is.held f i)) (rw (joint_are, is.grows.vars, vars_are) at gives.held);
-    }
+    phase_held {u = u} {h = h} gives =
+        let k = after_joint in let leads = last_call k (Ok h) leads_needs (rw (k.reads.grows.vars, vars_are, k.here.0.0) refl) gives in
+        record { points = gives.grows.known points.0 _ is.ok; leads = leads.ok; held = rw vars_are at leads.held }
 
 -- ---- the elements of the reduced basis of points, one after the other
 

@@ -1,5 +1,5 @@
 -- The care points of the outputs and the answers to queries, one after the other.
-use Rattle.std.proofs.Common.{◌≡◌, ℕ, zero, suc, ◌+◌, ◌-◌, ◌<◌, Ok, Bool, true, List, [], ◌∷◌, ◌++◌, length, take, get_or, ◌^◌, ◌||◌}
+use Rattle.std.proofs.Common.{◌≡◌, ℕ, zero, suc, ◌+◌, ◌-◌, ◌<◌, Ok, Bool, true, List, [], ◌∷◌, ◌++◌, length, take, get_or, ◌^◌}
 use Rattle.std.proofs.Common.{map, reverse, refl, sym, ◌∙◌, ap, subst, arith}
 use Rattle.std.specs.Prelude.{◌==◌}
 use Rattle.std.specs.List.{All, AllZip, list_any, sum_by}
@@ -8,9 +8,9 @@ use Rattle.std.proofs.lemmas.List.{get_or_append_left, get_or_push, length_push,
 use Rattle.std.proofs.lemmas.List.Elements.{All-map}
 use Rattle.std.proofs.lemmas.List.Folds.{Any-from_list_any, fold-map}
 use borrow.Author.Count.{below_more}
-use Rattle.lattice.specs.Words.{Covers, Family, IsFamily, working_set, care_ones, care_zeros}
+use Rattle.lattice.specs.Words.{Covers, Family, IsFamily, working_set}
 use Rattle.lattice.proofs.Diagrams.{Has-append_left, Has-append_right, covers_append, covers_left, covers_part, covers_right}
-use Rattle.lattice.proofs.Polynomials.{IsFamily-combine, terms_below}
+use Rattle.lattice.proofs.Polynomials.{IsFamily-care_set, terms_below}
 use Rattle.set_algebra.specs.Terms.{terms_of}
 use Rattle.node_store.specs.Stores.{Gives, Grows, State, family, no_handle}
 use Rattle.node_store.specs.declared.store.Handle.{Handle}
@@ -133,8 +133,7 @@ module _ (d : Description) (queries : List Query) where
 
 module _ (d : Description) where
   points_fit : (q : Query) → IsFamily d.inputs (points_of d q)
-  points_fit q = IsFamily-combine (λ a b. a || b) d.inputs (care_zeros d.inputs d.kind d.rows q.output)
-      (care_ones d.inputs d.kind d.rows q.output)
+  points_fit q = IsFamily-care_set d.inputs d.kind d.rows q.output
 
   answer_right : (q : Query) → IsAnswerTo d q (answer_to d q)
   answer_right q = reduced_is d.inputs (sum_of_terms d.inputs q.terms) (points_of d q) (points_fit q)

@@ -1,90 +1,71 @@
 -- The terms of a polynomial one after the other, and the calls that find the least one with its values.
-use Rattle.std.proofs.Common.{◌≡◌, ℕ, ◌+◌, ◌<◌, ◌≤◌, Result, Ok, Err, IfOk, Some, length, take, drop, get_or, List, [], ◌∷◌, ◌++◌}
-use Rattle.std.proofs.Common.{append_assoc, add-one, append-nil, sym, refl, ap, ◌∙◌}
+use Rattle.std.proofs.Common.{◌≡◌, ◌∙◌, ◌||◌, ℕ, ◌+◌, ◌<◌, ◌≤◌, ◌^◌, Result, Ok, Err, IfOk, Some, length, take, drop, get_or, List, []}
+use Rattle.std.proofs.Common.{◌∷◌, ◌++◌, add-one, sym, refl, ap, subst}
+use Rattle.std.specs.List.{All}
 use Rattle.std.proofs.Math.Seq.{drop-cons}
 use Rattle.std.proofs.lemmas.List.{drop_all, take_all, take_more}
 use Rattle.lattice.specs.Words.{Family, Covers, minus_of, union_of, interpolate, ones_of, interpolation_list, ones_list, working_set}
 use Rattle.lattice.specs.declared.op.Op.TheVariants.{Ones}
-use Rattle.lattice.proofs.Diagrams.{IsFamily-nil, covers_head, covers_left, covers_right, covers_tail}
-use Rattle.lattice.proofs.Polynomials.{family_where_has, listed-next}
-use Rattle.node_store.specs.Stores.{State, Builds, Denotes, Gives, IsPlanned, IsSound, Knows, family, needs_of}
+use Rattle.lattice.proofs.Diagrams.{IsFamily-nil, IsFamily-single}
+use Rattle.lattice.proofs.Polynomials.{IsFamily-family_where, IsFamily-ones_of, family_where_has, listed-next}
+use Rattle.node_store.specs.Stores.{State, Builds, Gives, IsSound, Knows, family, needs_of}
 use Rattle.node_store.specs.declared.store.Full.{Full}
 use Rattle.node_store.specs.declared.store.Handle.{Handle}
-use Rattle.node_store.proofs.StoreLaws.{Denotes-family, Found, Grows-family, found_after, found_built, found_gives, found_result}
-use Rattle.node_store.proofs.StoreLaws.{found_one, found_start, gives_as, known_after}
+use Rattle.node_store.proofs.StoreLaws.{Denotes-family, known_after}
+use Rattle.set_algebra.proofs.Calls.{Calls, after_built, after_call, after_combined, call_planned, calls_begin, found_at_hand, handle_end}
+use Rattle.set_algebra.proofs.Calls.{known_at_hand, last_call, last_planned}
 use Rattle.bool_poly.proofs.OnesLemmas.{needs_ones}
 use Rattle.nf_run.proofs.LeastValues.{reduced_is}
 use Rattle.nf_run.specs.Reduced.{IsReduced, reduced, reduced_list, sum_of_terms, terms_from, terms_list, values_list}
 
 -- ---- the terms of a polynomial; s is the state before them, t the one after i of them, whose sum is `sum`
 
-pub record SumsTerms (s t : State) (terms : List ℕ) (i : ℕ) (sum : Handle) : Type 0 where
-  pub done : List Family
-  pub split : terms_list s.vars terms ≡ done ++ terms_from s.vars (take i terms) (drop i terms)
-  pub found : Found s t done
-  pub sums : Denotes t sum (sum_of_terms s.vars (take i terms))
+abbrev pub SumsTerms : State → State → List ℕ → ℕ → Handle → Type 0
+SumsTerms s t terms i sum = Calls s t s.vars (terms_list s.vars terms) (terms_from s.vars (take i terms) (drop i terms))
+    ((sum, sum_of_terms s.vars (take i terms)) ∷ [])
 
-pub no_terms : (s : State) (terms : List ℕ) → IsSound s → SumsTerms s s terms 0 (record { 0 = 0 })
-no_terms s terms ok = record {
-  done = [];
-  split = refl;
-  found = found_start s;
-  sums = ok.empty ∙ ap Some (family_where_has s.vars [] (IsFamily-nil s.vars));
-}
+pub no_terms : {s : State} (terms : List ℕ) → Covers s.plan (working_set s.vars (terms_list s.vars terms)) → IsSound s
+    → SumsTerms s s terms 0 (record { 0 = 0 })
+no_terms {s} terms planned ok =
+    calls_begin planned ((ok.empty ∙ ap Some (family_where_has s.vars [] (IsFamily-nil s.vars)), IsFamily-family_where s.vars _), tt)
 
-module _ {s t : State} {terms : List ℕ} {i : ℕ} {sum : Handle} (so_far : SumsTerms s t terms i sum)
-    (planned : Covers s.plan (working_set s.vars (terms_list s.vars terms)))
-    (less : i < length terms) (m : ℕ) (is : m ≡ get_or terms i m) where
-  abbrev now : Family
-  now = sum_of_terms s.vars (take i terms ++ m ∷ [])
+module _ {s t : State} {sum : Handle} (terms : List ℕ) (i : ℕ) (below : All (λ m. m < 2 ^ s.vars) terms)
+    (so_far : SumsTerms s t terms i sum) (less : i < length terms) {m : ℕ} (is : m ≡ get_or terms i m) where
+  abbrev before : Family
+  before = sum_of_terms s.vars (take i terms)
 
-  next_is : take (i + 1) terms ≡ take i terms ++ m ∷ []
-  next_is = take_more terms i m less ∙ ap (λ x. take i terms ++ x ∷ []) (sym is)
+  abbrev later : List Family
+  later = terms_from s.vars (take (i + 1) terms) (drop (i + 1) terms)
 
-  split_here : terms_list s.vars terms ≡ so_far.done ++ (m ∷ []) ∷ now ∷ terms_from s.vars (take (i + 1) terms) (drop (i + 1) terms)
+  next_is : sum_of_terms s.vars (take (i + 1) terms) ≡ union_of s.vars before (m ∷ [])
+  next_is = rw (take_more terms i m less, ← is) (sym (listed-next s.vars (take i terms) m))
+
+  rest_is : terms_from s.vars (take i terms) (drop i terms) ≡ (m ∷ []) ∷ union_of s.vars before (m ∷ []) ∷ later
   unfolding terms_from
-  split_here = so_far.split ∙ rw (drop-cons terms i m less, next_is, add-one, ← is) refl
+  rest_is = rw (drop-cons terms i m less, take_more terms i m less, add-one, ← is, listed-next s.vars (take i terms) m) refl
 
-  rest_planned : Covers s.plan (working_set s.vars ((m ∷ []) ∷ now ∷ terms_from s.vars (take (i + 1) terms) (drop (i + 1) terms)))
-  rest_planned = covers_right s.vars s.plan so_far.done _ (rw split_here at planned)
-
-  pub term_planned : IsPlanned t (m ∷ [])
-  term_planned = rw (so_far.found.reads.grows.plan, so_far.found.reads.grows.vars) (covers_head s.vars s.plan _ (m ∷ []) rest_planned)
+  pub at_term : Calls s t s.vars (terms_list s.vars terms) ((m ∷ []) ∷ union_of s.vars before (m ∷ []) ∷ later) ((sum, before) ∷ [])
+  at_term = subst (λ rest. Calls s t s.vars (terms_list s.vars terms) rest ((sum, before) ∷ [])) rest_is so_far
 
   -- u is the state after the term
   module _ {u : State} {next : Handle} (one : Builds t u (Ok next) (m ∷ [])) where
-    sum_is : union_of u.vars (family u sum) (family u next) ≡ now
-    sum_is = rw (
-      one.grows.vars,
-      so_far.found.reads.grows.vars,
-      Denotes-family u sum _ (one.grows.known sum.0 _ so_far.sums),
-      Denotes-family u next _ one.ok,
-    ) (listed-next s.vars (take i terms) m)
-
-    pub sum_planned : IsPlanned u (union_of u.vars (family u sum) (family u next))
-    sum_planned = rw (sum_is, one.grows.vars, so_far.found.reads.grows.vars, one.grows.plan, so_far.found.reads.grows.plan)
-        (covers_head s.vars s.plan _ _ (covers_tail s.vars s.plan _ (m ∷ []) rest_planned))
+    pub after_term : Calls s u s.vars (terms_list s.vars terms) (union_of s.vars before (m ∷ []) ∷ later)
+        ((next, m ∷ []) ∷ (sum, before) ∷ [])
+    after_term = after_built at_term refl (IsFamily-single s.vars m (subst (λ k. k < 2 ^ s.vars) (sym is) (below i m less))) one
 
     pub one_more : {v : State} {r : Handle} → Builds u v (Ok r) (union_of u.vars (family u sum) (family u next))
         → SumsTerms s v terms (i + 1) r
-    one_more two = record {
-      done = (so_far.done ++ (m ∷ []) ∷ []) ++ now ∷ [];
-      split = simp append_assoc split_here;
-      found = found_built now (found_built (m ∷ []) so_far.found refl one) sum_is two;
-      sums = rw (next_is, ← sum_is) two.ok;
-    }
+    one_more two = let k = after_combined (λ a b. a || b) refl after_term after_term.here.1.0 after_term.here.0 two in
+        record { reads = k.reads; le = k.le; planned = k.planned; whole = k.whole; here = (rw next_is k.here.0, tt) }
 
 -- after the last term
-pub sums_whole : {s t : State} {terms : List ℕ} {i : ℕ} {sum : Handle} → SumsTerms s t terms i sum → length terms ≤ i
+pub sums_whole : {s t : State} {sum : Handle} (terms : List ℕ) (i : ℕ) → SumsTerms s t terms i sum → length terms ≤ i
     → Gives s t (Ok sum) (sum_of_terms s.vars terms) (working_set s.vars (terms_list s.vars terms))
 unfolding terms_from
-sums_whole {terms = terms} {i = i} so_far all = record {
-  grows = so_far.found.reads.grows;
-  ok = rw (take_all i terms all) at so_far.sums;
-  held = rw (so_far.split, drop_all i terms all, append-nil) so_far.found.held;
-  quiet = so_far.found.reads.quiet;
-  full = tt;
-}
+sums_whole {s} {t} {sum} terms i so_far all =
+    let k : Calls s t s.vars (terms_list s.vars terms) [] ((sum, sum_of_terms s.vars terms) ∷ []) =
+    rw (take_all i terms all, drop_all i terms all) at so_far in
+    handle_end k k.here.0
 
 -- ---- the least polynomial with the values of a given one; s is the state at the call
 
@@ -97,60 +78,63 @@ reduced_right s points terms known sound {t = t} (Ok h) gives =
     rw (Denotes-family t h _ gives.ok) (reduced_is s.vars (sum_of_terms s.vars terms) (family s points) (known_after s points sound known))
 reduced_right s points terms known sound (Err e) gives = tt
 
-module _ (s : State) (points : Handle) (terms : List ℕ) (known : Knows s points)
+module _ {s : State} (points : Handle) (terms : List ℕ) (sound : IsSound s) (known : Knows s points)
     (planned : Covers s.plan (working_set s.vars (reduced_list s.vars terms (family s points)))) where
+  abbrev P : Family
+  P = family s points
+
   abbrev R : Family
   R = sum_of_terms s.vars terms
 
   abbrev E : Family
-  E = ones_of s.vars R (family s points)
+  E = ones_of s.vars R P
 
-  abbrev ones_needs : List Family
-  ones_needs = ones_list s.vars R (family s points)
+  abbrev Z : Family
+  Z = minus_of s.vars P E
+
+  -- in t these families are still to be found, and these handles were
+  abbrev In : State → List Family → List (Handle × Family) → Type 0
+  In t rest hs = Calls s t s.vars (reduced_list s.vars terms P) rest (hs ++ (points, P) ∷ [])
+
+  pub reduced_start : In s (terms_list s.vars terms ++ values_list s.vars R P) []
+  reduced_start = calls_begin planned (known_at_hand sound known, tt)
 
   pub terms_planned : Covers s.plan (working_set s.vars (terms_list s.vars terms))
-  terms_planned = covers_left s.vars s.plan (terms_list s.vars terms) _ planned
-
-  values_planned : Covers s.plan (working_set s.vars (values_list s.vars R (family s points)))
-  values_planned = covers_right s.vars s.plan (terms_list s.vars terms) _ planned
+  terms_planned = call_planned (terms_list s.vars terms) _ reduced_start refl
 
   -- t is the state after the polynomial
   module _ {t : State} {given : Handle} (one : Gives s t (Ok given) R (working_set s.vars (terms_list s.vars terms))) where
-    ones_are : (ones_of t.vars (family t given) (family t points) ≡ E) × (needs_of t Ones given points.0 ≡ working_set t.vars ones_needs)
-    ones_are = rw (
-      needs_ones t.vars (family t given) (family t points) points.0,
-      Denotes-family t given R one.ok,
-      Grows-family s t points one.grows known,
-      one.grows.vars,
-    ) (refl, refl)
+    pub after_given : In t (values_list s.vars R P) ((given, R) ∷ [])
+    after_given = after_call (terms_list s.vars terms) _ reduced_start refl refl (IsFamily-family_where s.vars _) one
+
+    ones_needs : needs_of t Ones given points.0 ≡ working_set s.vars (ones_list s.vars R P)
+    ones_needs = let k = after_given in
+        needs_ones t.vars (family t given) (family t points) points.0 ∙ rw (k.reads.grows.vars, k.here.0.0, k.here.1.0.0) refl
 
     pub ones_planned : Covers t.plan (needs_of t Ones given points.0)
-    ones_planned = rw (ones_are.1, one.grows.vars, one.grows.plan)
-        (covers_left s.vars s.plan ones_needs (E ∷ []) (covers_left s.vars s.plan _ _ values_planned))
+    ones_planned = call_planned (ones_list s.vars R P) _ after_given ones_needs
 
     -- u is the state after the points where it is 1
-    module _ {u : State} {ones : Handle} (sound : IsSound u)
+    module _ {u : State} {ones : Handle} (okay : IsSound u)
         (two : Gives t u (Ok ones) (ones_of t.vars (family t given) (family t points)) (needs_of t Ones given points.0)) where
-      found : Found s u (terms_list s.vars terms ++ (ones_needs ++ E ∷ []))
-      found = found_after s t u _ _ (found_one s t given R _ one)
-          (found_result t u ones E ones_needs sound (gives_as ones_are.0 ones_are.1 two))
-
-      at_u : (u.vars ≡ s.vars) × (family u points ≡ family s points) × (family u ones ≡ E)
-      at_u =
-          (found.reads.grows.vars, Grows-family s u points found.reads.grows known, Denotes-family u ones E (rw ones_are.0 at two.ok))
+      pub after_values : In u (Z ∷ interpolation_list s.vars Z E) ((ones, E) ∷ (given, R) ∷ [])
+      after_values = let k = after_given in
+          let found = after_call (ones_list s.vars R P) _ k ones_needs (rw (k.reads.grows.vars, k.here.0.0, k.here.1.0.0) refl)
+          (IsFamily-ones_of s.vars R P) two in found_at_hand okay found found.here.0
 
       abbrev asked : List Family
       asked = minus_of u.vars (family u points) (family u ones)
           ∷ interpolation_list u.vars (minus_of u.vars (family u points) (family u ones)) (family u ones)
 
-      pub least_planned : Covers u.plan (working_set u.vars asked)
-      least_planned =
-          rw (at_u.1, at_u.2, at_u.0, found.reads.grows.plan) (covers_right s.vars s.plan (ones_needs ++ E ∷ []) _ values_planned)
+      least_needs : working_set u.vars asked ≡ working_set s.vars (Z ∷ interpolation_list s.vars Z E)
+      least_needs = let k = after_values in rw (k.reads.grows.vars, k.here.0.0, k.here.1.1.0.0) refl
 
-      pub reduced_given : {v : State} {r : Result Handle Full}
+      pub least_planned : Covers u.plan (working_set u.vars asked)
+      least_planned = last_planned after_values least_needs
+
+      pub reduced_given : {v : State} (r : Result Handle Full)
           → Gives u v r (interpolate u.vars (minus_of u.vars (family u points) (family u ones)) (family u ones)) (working_set u.vars asked)
-          → Gives s v r (reduced s.vars R (family s points)) (working_set s.vars (reduced_list s.vars terms (family s points)))
+          → Gives s v r (reduced s.vars R P) (working_set s.vars (reduced_list s.vars terms P))
       unfolding reduced
-      reduced_given {v = v} {r = r} three = rw (← append_assoc (terms_list s.vars terms) (ones_needs ++ E ∷ []) _)
-          (found_gives s u v r _ _ _ found
-          (gives_as (rw (at_u.1, at_u.2, at_u.0) refl) (rw (at_u.1, at_u.2, at_u.0) refl) three))
+      reduced_given r three = let k = after_values in
+          last_call k r least_needs (rw (k.reads.grows.vars, k.here.0.0, k.here.1.1.0.0) refl) three

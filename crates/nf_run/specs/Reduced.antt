@@ -40,7 +40,7 @@ terms_list n terms = terms_from n [] terms
 abbrev pub values_list : ℕ → Family → Family → List Family
 values_list n given points =
     let ones = ones_of n given points in
-    (ones_list n given points ++ ones ∷ []) ++ minus_of n points ones ∷ interpolation_list n (minus_of n points ones) ones
+    ones_list n given points ++ ones ∷ minus_of n points ones ∷ interpolation_list n (minus_of n points ones) ones
 
 abbrev pub reduced_list : ℕ → List ℕ → Family → List Family
 reduced_list n terms points = terms_list n terms ++ values_list n (sum_of_terms n terms) points

@@ -231,12 +231,6 @@ found_start s = search (Reads-refl, covers_nil)
 pub found_one : (s t : State) (h : Handle) (f : Family) (list : List Family) → Gives s t (Ok h) f (working_set s.vars list) → Found s t list
 found_one s t h f list is = assumption
 
--- after one call, its result named too
-pub found_result : (s t : State) (h : Handle) (f : Family) (list : List Family) → IsSound t
-    → Gives s t (Ok h) f (working_set s.vars list) → Found s t (list ++ f ∷ [])
-found_result s t h f list ok is =
-    search (Gives-reads s t h f _ is, covers_append, covers_one, rw is.grows.vars at (ok.subs h.0 f is.ok), is)
-
 -- some calls after others
 pub found_after : (s t u : State) (xs ys : List Family) → Found s t xs → Found t u ys → Found s u (xs ++ ys)
 found_after s t u xs ys one two = record {
