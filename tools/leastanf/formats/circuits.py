@@ -95,10 +95,11 @@ def blif(answer):
     yield ".inputs " + " \\\n ".join(groups(inputs, " "))
     yield ".outputs " + " \\\n ".join(groups(outputs, " "))
     starts = {factor: f".names {signal[input_of(factor)]}" for factor in diagram.factors}
-    for number, factor, high, low in diagram.steps():
-        one = "0" if is_complement(factor) else "1"
-        above, below = (f" {letter}{child}" if child > 1 else "" for child in (high, low))
-        yield f"{starts[factor]}{above}{below} {letter}{number}\n{table(one, min(high, 2), min(low, 2))}"
+    ones = {factor: "0" if is_complement(factor) else "1" for factor in diagram.factors}
+    names = ["", "", *(f" {letter}{number}" for number in range(2, len(diagram.nodes)))]
+    for name, (factor, high, low) in zip(names[2:], diagram.nodes[2:]):
+        rows = table(ones[factor], high if high < 2 else 2, low if low < 2 else 2)
+        yield f"{starts[factor]}{names[high]}{names[low]}{name}\n{rows}"
     for output, root in zip(outputs, roots):
         yield f".names {output}" if root < 2 else f".names {letter}{root} {output}"
         if root:

@@ -37,49 +37,43 @@ class Clauses:
     with a minus, its complement."""
 
     def __init__(self, answer, last):
-        self.inputs = {name: number for number, name in enumerate(answer.inputs, 1)}
-        self.diagram = Diagram(answer.factors())
+        inputs = {name: number for number, name in enumerate(answer.inputs, 1)}
+        factors = answer.factors()
+        self.factors = {factor: inputs.get(factor, -inputs[input_of(factor)]) for factor in factors}
+        self.diagram = Diagram(self.factors)
         self.literals = [None, None]
         self.last = last
         self.lines = []
 
     def root(self, polynomial):
-        """The node of a polynomial, whose clauses are made."""
+        """The node of a polynomial, whose clauses are made.
+
+        Of a node `low + factor*high` a new variable for the product is 1 where both are, and one for the sum fits an
+        exclusive-or.
+        """
         root = self.diagram.add(polynomial)
-        for _, factor, high, low in self.diagram.steps(len(self.literals)):
-            self.literals.append(self.literal(factor, high, low))
+        literals, lines, last = self.literals, self.lines, self.last
+        for factor, high, low in self.diagram.nodes[len(literals) :]:
+            literal = self.factors[factor]
+            if high != 1:
+                one, other = literal, literals[high]
+                literal = last = last + 1
+                lines += (f"-{last} {one} 0", f"-{last} {other} 0", f"{last} {-one} {-other} 0")
+            if low == 1:
+                literal = -literal
+            elif low:
+                one, other = literal, literals[low]
+                literal = last = last + 1
+                lines.append(f"x-{last} {one} {other} 0")
+            literals.append(literal)
+        self.last = last
         return root
-
-    def literal(self, factor, high, low):
-        """The literal of a node `low + factor*high`. A new one for the product is 1 where both are, and one for the sum
-        fits an exclusive-or."""
-        product = -self.inputs[input_of(factor)] if is_complement(factor) else self.inputs[factor]
-        if high != 1:
-            parts = product, self.literals[high]
-            product = self.new()
-            self.lines += [f"{-product} {part} 0" for part in parts]
-            self.lines.append(f"{product} {-parts[0]} {-parts[1]} 0")
-        if low == 1:
-            return -product
-        if low:
-            parts = product, self.literals[low]
-            product = self.new()
-            self.exclusive_or(-product, *parts)
-        return product
-
-    def new(self):
-        self.last += 1
-        return self.last
-
-    def exclusive_or(self, *literals):
-        """An odd number of the literals are 1."""
-        self.lines.append(f"x{' '.join(map(str, literals))} 0")
 
     def equal(self, variable, root):
         if root < 2:
             self.lines.append(f"{variable if root else -variable} 0")
         else:
-            self.exclusive_or(-variable, self.literals[root])
+            self.lines.append(f"x-{variable} {self.literals[root]} 0")
 
     def zero(self, root):
         if root == 1:
@@ -185,7 +179,7 @@ def dot(answer):
     if 0 in roots:
         yield "  0 [shape=box];"
     labels = {factor: f"[label={quoted(factor)}]" for factor in diagram.factors}
-    for number, factor, high, low in diagram.steps():
+    for number, (factor, high, low) in enumerate(diagram.nodes[2:], 2):
         dashed = f"\n  {number} -> {low} [style=dashed];" if low else ""
         yield f"  {number} {labels[factor]};\n  {number} -> {high};{dashed}"
     for place, ((name, _), root) in enumerate(zip(named, roots)):

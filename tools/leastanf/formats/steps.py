@@ -33,31 +33,32 @@ class Steps:
     def write(self):
         """The named nodes, each a name and its expression over names before it, and the expressions of the
         polynomials."""
-        language, uses = self.language, self._uses()
-        named = []
+        plus, times, brackets = self.language.plus, self.language.times, self.language.brackets
+        factors, uses, named = self.texts, self._uses(), []
         # The expression of each node, and how it binds: 0 as a sum, 1 as a product, 2 as a name.
-        texts = [(text, 2) for text in language.constants]
-        for number, factor, high, low in self.diagram.steps():
-            text, binding = self.texts[factor], 2
+        texts = [(text, 2) for text in self.language.constants]
+        for number, (factor, high, low) in enumerate(self.diagram.nodes[2:], 2):
+            text, binding = factors[factor], 2
             if high != 1:
-                times, bound = texts[high]
-                text, binding = f"{text}{language.times}{times if bound else f'({times})'}", 1
+                other, bound = texts[high]
+                text, binding = f"{text}{times}{other}" if bound else f"{text}{times}({other})", 1
             if low:
-                plus, bound = texts[low]
-                if language.brackets:
+                other, bound = texts[low]
+                if brackets:
                     text = f"({text})" if binding == 1 else text
-                    plus = f"({plus})" if bound == 1 else plus
-                text, binding = f"{text}{language.plus}{plus}", 0
+                    other = f"({other})" if bound == 1 else other
+                text, binding = f"{text}{plus}{other}", 0
             if binding < 2 and uses[number] > 1 or len(text) > MOST_CHARACTERS:
-                named.append((f"{self.letter}{self.before + len(named) + 1}", text))
-                text, binding = named[-1][0], 2
+                name = f"{self.letter}{self.before + len(named) + 1}"
+                named.append((name, text))
+                text, binding = name, 2
             texts.append((text, binding))
         return named, [texts[root][0] for root in self.roots]
 
     def _uses(self):
         """How often each node is used."""
         uses = [0] * len(self.diagram.nodes)
-        for _, _, high, low in self.diagram.steps():
+        for _, high, low in self.diagram.nodes[2:]:
             uses[high] += 1
             uses[low] += 1
         for root in self.roots:
