@@ -8,6 +8,7 @@ use anf_printer::{Shown, answer_text, poly_text};
 use lattice::{Kind, Mode, Mono, MonoLists, Monos, Name, Names};
 use pla_reader::{Pla, Rows};
 use std::alloc::{AllocError, Global};
+use std::process::Abort;
 use std::test::Fail;
 
 // An output: the monomials of its polynomial and of its basis elements, ascending, and what is
@@ -200,6 +201,10 @@ static CASES: [Case; 5] = [
     },
 ];
 
+fn expect_text(rt: &impl Abort, found: &[u8], wanted: &[u8]) {
+    assert_eq!(rt; found, wanted);
+}
+
 #[test]
 fn cases(rt: HostRuntime) -> Result<(), Fail> {
     let alloc = rt.alloc();
@@ -212,16 +217,18 @@ fn cases(rt: HostRuntime) -> Result<(), Fail> {
         for (j, output) in outputs.iter().enumerate() {
             let terms = polynomial(alloc, p.inputs, output.monomials)?;
             let text = poly_text(alloc, &p, terms.as_slice())?;
-            assert_eq!(rt; text.as_slice(), output.polynomial);
-            assert_eq!(rt;
+            expect_text(&rt, text.as_slice(), output.polynomial);
+            expect_text(
+                &rt,
                 anf.as_slice().get(j).ok_or("page")?.as_slice(),
-                output.line
+                output.line,
             );
             let mut lines = Vec::from_slice(alloc, output.line)?;
             lines.extend_from_slice(output.basis_lines)?;
-            assert_eq!(rt;
+            expect_text(
+                &rt,
                 basis.as_slice().get(j).ok_or("page")?.as_slice(),
-                lines.as_slice()
+                &lines,
             );
         }
     }

@@ -107,7 +107,7 @@ fn words_that_are_taken(rt: HostRuntime) -> Result<(), Fail> {
 // The value of the order is any text.
 #[test]
 fn orders(rt: HostRuntime) -> Result<(), Fail> {
-    let rows = [
+    let rows: &[(&str, &str)] = &[
         ("interp anf --order x2,x1", "x2,x1"),
         ("interp anf --order=x2,x1", "x2,x1"),
         ("interp --order anf anf", "anf"),
@@ -115,7 +115,7 @@ fn orders(rt: HostRuntime) -> Result<(), Fail> {
         ("interp anf --order=", ""),
         ("interp anf --order=--nodes", "--nodes"),
     ];
-    for (line, order) in rows.iter() {
+    for (line, order) in rows {
         let wanted = Wanted {
             order: Some(*order),
             ..PLAIN
@@ -128,7 +128,7 @@ fn orders(rt: HostRuntime) -> Result<(), Fail> {
 
 #[test]
 fn words_that_are_refused(rt: HostRuntime) -> Result<(), Fail> {
-    let lines = [
+    let lines: &[&str] = &[
         "interp",
         "",
         "interp ANF",
@@ -166,7 +166,7 @@ fn words_that_are_refused(rt: HostRuntime) -> Result<(), Fail> {
         "interp anf ",
         "interp -- --workers 8 anf",
     ];
-    for line in lines.iter() {
+    for line in lines {
         let refusal = read(rt.alloc(), *line)?.err();
         assert_eq!(rt; refusal, Some(WordsRefusal::Usage), "{line}");
     }

@@ -1,5 +1,6 @@
 use gen_pla::generate;
-use lattice::Kind;
+use lattice::{Kind, Row};
+use std::process::Abort;
 
 // The number, the point and the outputs that are 1, of the rows that a few lines of Python made
 // from the rule's words: they count the bits of a point by its binary text, and try each pair of
@@ -64,6 +65,15 @@ fn made_elsewhere() -> [(u64, [(usize, u64, u64); 6]); 5] {
     ]
 }
 
+// The row's line, its point, and at which of two outputs it is 1; it is 0 at the others.
+fn expect_row(rt: &impl Abort, row: &Row, line: usize, point: u64, on: u64) {
+    assert_eq!(rt;
+        (row.line as usize, row.care, row.value),
+        (line, 65535, point)
+    );
+    assert_eq!(rt; (row.on, row.off, row.dc), (on, on ^ 3, 0));
+}
+
 #[test]
 fn rows_of_seeds(rt: HostRuntime) {
     for (seed, rows) in made_elsewhere() {
@@ -73,12 +83,8 @@ fn rows_of_seeds(rt: HostRuntime) {
         let found = made.rows.as_slice();
         assert_eq!(rt; found.len(), 256);
         for (k, point, on) in rows {
-            let row = found.get(k).copied().expect(&rt, "a row");
-            assert_eq!(rt;
-                (row.line as usize, row.care, row.value),
-                (k + 1, 65535, point)
-            );
-            assert_eq!(rt; (row.on, row.off, row.dc), (on, on ^ 3, 0));
+            let row = found.get(k).expect(&rt, "a row");
+            expect_row(&rt, row, k + 1, point, on);
         }
     }
 }

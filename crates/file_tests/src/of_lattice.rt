@@ -18,12 +18,13 @@ fn values_at_points(rt: HostRuntime) {
 fn words_in_order(rt: HostRuntime) -> Result<(), Fail> {
     let mut words = Words::new(rt.alloc());
     assert_eq!(rt; words.word(0), None);
-    words.push("interp").map_err(|_e| "memory")?;
-    words.push("").map_err(|_e| "memory")?;
+    for word in ["interp", ""] {
+        words.push(word).map_err(|_e| "memory")?;
+    }
     assert_eq!(rt; words.count(), 2);
-    assert_eq!(rt; words.word(0), Some("interp"));
-    assert_eq!(rt; words.word(1), Some(""));
-    assert_eq!(rt; words.word(2), None);
+    for (i, wanted) in [(0, Some("interp")), (1, Some("")), (2, None)] {
+        assert_eq!(rt; words.word(i), wanted, "at {i}");
+    }
     Ok(())
 }
 

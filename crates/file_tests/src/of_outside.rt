@@ -5,20 +5,47 @@ use outside::{
     StdSource, SureSink, SureSource, read_up_to, write_whole,
 };
 use std::io::{Error, ErrorKind, Read, Result as IoResult, Write};
+use std::process::Abort;
 use std::test::Fail;
 use std::thread::join;
+
+// Reads once, into a buffer with room.
+fn expect_read<S: Source>(
+    rt: &impl Abort,
+    source: &mut S,
+    buf: &mut [u8],
+    wanted: Result<usize, Failed>,
+) {
+    assert!(rt; !buf.is_empty());
+    assert_eq!(rt; source.read(buf), wanted);
+}
+
+// Writes all of the bytes, or as many as the sink takes.
+fn expect_written<K: Sink>(
+    rt: &impl Abort,
+    sink: &mut K,
+    bytes: &[u8],
+    wanted: Result<(), Failed>,
+) {
+    assert_eq!(rt; write_whole(sink, bytes), wanted);
+}
+
+// Compares what was read or written.
+fn expect_bytes(rt: &impl Abort, found: &[u8], wanted: &[u8]) {
+    assert_eq!(rt; found, wanted);
+}
 
 #[test]
 fn reads_in_steps(rt: HostRuntime) -> Result<(), Fail> {
     let alloc = rt.alloc();
     let mut source = MemSource::make(alloc, b"0123456789", 4, &[2]).map_err(|_| "memory")?;
     let mut buf = [0; 8];
-    assert_eq!(rt; source.read(&mut buf), Ok(4));
-    assert_eq!(rt; source.read(&mut buf), Err(Failed));
-    assert_eq!(rt; source.read(&mut buf[..3]), Ok(3));
-    assert_eq!(rt; source.read(&mut buf), Ok(3));
-    assert_eq!(rt; &buf[..3], b"789".as_slice());
-    assert_eq!(rt; source.read(&mut buf), Ok(0));
+    expect_read(&rt, &mut source, &mut buf, Ok(4));
+    expect_read(&rt, &mut source, &mut buf, Err(Failed));
+    expect_read(&rt, &mut source, &mut buf[..3], Ok(3));
+    expect_read(&rt, &mut source, &mut buf, Ok(3));
+    expect_bytes(&rt, &buf[..3], b"789");
+    expect_read(&rt, &mut source, &mut buf, Ok(0));
     Ok(())
 }
 
@@ -27,7 +54,7 @@ fn reads_whole(rt: HostRuntime) -> Result<(), Fail> {
     let alloc = rt.alloc();
     let mut sure = SureSource::new(b"0123456789");
     let bytes = read_up_to(alloc, &mut sure, 6).map_err(|_| "memory")?;
-    assert_eq!(rt; bytes.as_slice(), b"012345".as_slice());
+    expect_bytes(&rt, &bytes, b"012345");
     let mut source = MemSource::make(alloc, b"0123456789", 4, &[3]).map_err(|_| "memory")?;
     assert!(rt; read_up_to(alloc, &mut source, 100).err() == Some(ReadStop::Fault));
     Ok(())
@@ -37,15 +64,14 @@ fn reads_whole(rt: HostRuntime) -> Result<(), Fail> {
 fn writes_whole(rt: HostRuntime) -> Result<(), Fail> {
     let alloc = rt.alloc();
     let mut sink = MemSink::make(alloc, 100, 4, &[2]).map_err(|_| "memory")?;
-    assert_eq!(rt; write_whole(&mut sink, b"f1 = x2"), Err(Failed));
-    assert_eq!(rt; sink.bytes(), b"f1 =".as_slice());
-    assert_eq!(rt; write_whole(&mut sink, b" x2"), Ok(()));
-    assert_eq!(rt; sink.bytes(), b"f1 = x2".as_slice());
+    expect_written(&rt, &mut sink, b"f1 = x2", Err(Failed));
+    expect_bytes(&rt, sink.bytes(), b"f1 =");
+    expect_written(&rt, &mut sink, b" x2", Ok(()));
+    expect_bytes(&rt, sink.bytes(), b"f1 = x2");
     let mut small = MemSink::make(alloc, 3, 4, &[]).map_err(|_| "memory")?;
-    assert_eq!(rt; write_whole(&mut small, b"f1 = x2"), Err(Failed));
-    assert_eq!(rt; small.bytes(), b"f1 ".as_slice());
-    let mut sure = SureSink::new();
-    assert_eq!(rt; write_whole(&mut sure, b"f1 = x2"), Ok(()));
+    expect_written(&rt, &mut small, b"f1 = x2", Err(Failed));
+    expect_bytes(&rt, small.bytes(), b"f1 ");
+    expect_written(&rt, &mut SureSink::new(), b"f1 = x2", Ok(()));
     Ok(())
 }
 
@@ -101,13 +127,13 @@ fn reads_from_std(rt: HostRuntime) {
         interrupts: 1000,
         left: 1,
     });
-    assert_eq!(rt; source.read(&mut buf), Ok(1));
-    assert_eq!(rt; source.read(&mut buf), Err(Failed));
+    expect_read(&rt, &mut source, &mut buf, Ok(1));
+    expect_read(&rt, &mut source, &mut buf, Err(Failed));
     let mut source = StdSource::new(Flaky {
         interrupts: 1001,
         left: 1,
     });
-    assert_eq!(rt; source.read(&mut buf), Err(Failed));
+    expect_read(&rt, &mut source, &mut buf, Err(Failed));
 }
 
 #[test]
@@ -116,13 +142,13 @@ fn writes_to_std(rt: HostRuntime) {
         interrupts: 1000,
         left: 2,
     });
-    assert_eq!(rt; write_whole(&mut sink, b"ab"), Ok(()));
-    assert_eq!(rt; write_whole(&mut sink, b"c"), Err(Failed));
+    expect_written(&rt, &mut sink, b"ab", Ok(()));
+    expect_written(&rt, &mut sink, b"c", Err(Failed));
     let mut sink = StdSink::new(Flaky {
         interrupts: 1001,
         left: 1,
     });
-    assert_eq!(rt; write_whole(&mut sink, b"a"), Err(Failed));
+    expect_written(&rt, &mut sink, b"a", Err(Failed));
 }
 
 // Takes what may go to another thread.
@@ -166,10 +192,10 @@ impl Write for Stuck {
 
 #[test]
 fn stuck_writers_fail(rt: HostRuntime) {
-    let mut sink = StdSink::new(Stuck { takes: false });
-    assert_eq!(rt; write_whole(&mut sink, b"a"), Err(Failed));
-    let mut sink = StdSink::new(Stuck { takes: true });
-    assert_eq!(rt; write_whole(&mut sink, b"a"), Err(Failed));
+    for takes in [false, true] {
+        let mut sink = StdSink::new(Stuck { takes });
+        expect_written(&rt, &mut sink, b"a", Err(Failed));
+    }
 }
 
 // A pipe that was read to its end: it gives its bytes, then none once, and a read after that fails.

@@ -4,7 +4,24 @@ use pla_reader::{
     read_order,
 };
 use std::alloc::{AllocError, Global};
+use std::process::Abort;
 use std::test::Fail;
+
+// The text is refused, for what is wrong with this line.
+fn expect_refused(rt: &impl Abort, alloc: Global, text: &[u8], line: u32, why: Why) {
+    assert!(rt; text.len() < 100_000);
+    let refusal = read(alloc, text).err();
+    assert_eq!(rt; refusal, Some(ReadRefusal::Bad(Refusal { line, why })));
+}
+
+// The description that the text is.
+fn described(alloc: Global, text: &[u8]) -> Result<Pla, Fail> {
+    if text.len() >= 100_000 {
+        return Err(Fail::new("long"));
+    }
+    let (pla, _) = read(alloc, text).map_err(|_| "a description")?;
+    Ok(pla)
+}
 
 // A text, its first bad line, and what is wrong with it.
 #[test]
@@ -52,9 +69,7 @@ fn refusals(rt: HostRuntime) {
         (b".i 2\n\n.end\n.o 1\n", 3, Why::NoSize),
     ];
     for (text, line, why) in cases {
-        assert!(rt; text.len() < 100);
-        let refusal = read(rt.alloc(), text).err();
-        assert_eq!(rt; refusal, Some(ReadRefusal::Bad(Refusal { line, why })));
+        expect_refused(&rt, rt.alloc(), text, line, why);
     }
 }
 
@@ -124,14 +139,12 @@ fn rows(rt: HostRuntime) {
 
 // Names may come after rows.
 #[test]
-fn names(rt: HostRuntime) {
+fn names(rt: HostRuntime) -> Result<(), Fail> {
     let text = b"# full adder\n.i 3\n.o 2\n.ilb a b cin\n001 10\n.ob s #c\n.e\n";
-    let refusal = read(rt.alloc(), text).err();
-    let why = Why::NameCount;
-    assert_eq!(rt; refusal, Some(ReadRefusal::Bad(Refusal { line: 6, why })));
+    expect_refused(&rt, rt.alloc(), text, 6, Why::NameCount);
 
     let text = b"# full adder\n.i 3\n.o 2\n.ilb a b cin\n001 10\n.ob s c#c\n.e\n";
-    let (pla, _) = read(rt.alloc(), text).expect(&rt, "a description");
+    let pla = described(rt.alloc(), text)?;
     assert_eq!(rt; pla.in_names.len(), 3);
     assert_eq!(rt; pla.out_names.len(), 2);
     let known = pla
@@ -143,6 +156,7 @@ fn names(rt: HostRuntime) {
     for (name, want) in known.zip(wanted) {
         assert_eq!(rt; name.as_slice(), want);
     }
+    Ok(())
 }
 
 // So many rows are read, and one more is refused.
@@ -160,12 +174,7 @@ fn most_rows(rt: HostRuntime) {
 
     text.extend_from_slice(b"1 1\n").expect(&rt, "memory");
     assert_eq!(rt; text.len(), 32782);
-    let refusal = read(rt.alloc(), &text).err();
-    let why = Why::TooManyRows;
-    assert_eq!(rt;
-        refusal,
-        Some(ReadRefusal::Bad(Refusal { line: 8195, why }))
-    );
+    expect_refused(&rt, rt.alloc(), &text, 8195, Why::TooManyRows);
 }
 
 // Three inputs and one output, of type fr, with the rows `1-0 1` and `011 0`; the names of the
@@ -174,11 +183,22 @@ fn three_inputs(alloc: Global, names: &[u8]) -> Result<Pla, Fail> {
     let mut text = Vec::from_slice(alloc, b".i 3\n.o 1\n.type fr\n.ob y\n")?;
     text.extend_from_slice(names)?;
     text.extend_from_slice(b"1-0 1\n011 0\n")?;
-    if text.len() > 100 {
-        return Err(Fail::new("long"));
+    described(alloc, &text)
+}
+
+// The order that the text asks for is the one that is wanted, or none is wanted and the text is
+// refused.
+fn expect_order(rt: &impl Abort, alloc: Global, p: &Pla, text: &[u8], wanted: &[u32]) {
+    match read_order(alloc, p, text) {
+        Ok(order) => {
+            assert!(rt; !wanted.is_empty());
+            assert_eq!(rt; order.as_slice(), wanted);
+        }
+        Err(refusal) => {
+            assert_eq!(rt; refusal, OrderRefusal::Bad);
+            assert!(rt; wanted.is_empty());
+        }
     }
-    let (pla, _) = read(alloc, &text).map_err(|_| "a description")?;
-    Ok(pla)
 }
 
 // The names that are given, an order, the masks of the two rows over its variables, and the names
@@ -264,13 +284,7 @@ fn orders(rt: HostRuntime) -> Result<(), Fail> {
     ];
     for (names, text, wanted) in cases {
         let p = three_inputs(alloc, names)?;
-        match read_order(alloc, &p, text) {
-            Ok(order) => assert_eq!(rt; order.as_slice(), wanted),
-            Err(refusal) => {
-                assert_eq!(rt; refusal, OrderRefusal::Bad);
-                assert!(rt; wanted.is_empty());
-            }
-        }
+        expect_order(&rt, alloc, &p, text, wanted);
     }
     let p = three_inputs(alloc, given)?;
     let order = file_order(alloc, &p)?;
@@ -282,14 +296,10 @@ fn orders(rt: HostRuntime) -> Result<(), Fail> {
 #[test]
 fn one_input(rt: HostRuntime) -> Result<(), Fail> {
     let alloc = rt.alloc();
-    let (p, _) = read(alloc, b".i 1\n.o 1\n1 1\n").map_err(|_| "a description")?;
-    let order = read_order(alloc, &p, b"x1").map_err(|_| "an order")?;
-    assert_eq!(rt; order.as_slice(), [1].as_slice());
-    assert_eq!(rt;
-        read_order(alloc, &p, b"x1,x1").err(),
-        Some(OrderRefusal::Bad)
-    );
-    assert_eq!(rt; read_order(alloc, &p, b"").err(), Some(OrderRefusal::Bad));
+    let p = described(alloc, b".i 1\n.o 1\n1 1\n")?;
+    expect_order(&rt, alloc, &p, b"x1", &[1]);
+    expect_order(&rt, alloc, &p, b"x1,x1", &[]);
+    expect_order(&rt, alloc, &p, b"", &[]);
     Ok(())
 }
 

@@ -4,6 +4,7 @@ ghost use Rattle.watch.specs.Notes.{states_by};
 use outside::MemSink;
 use std::alloc::{AllocError, Global};
 use std::cell::Cell;
+use std::process::Abort;
 use std::rc::Rc;
 use std::test::Fail;
 use watch::{Lines, Note, Tally, Watch, tell};
@@ -16,16 +17,17 @@ fn note(output: u32, terms: u64, basis: u64) -> Note {
     }
 }
 
+fn expect_lines(rt: &impl Abort, lines: &Lines<MemSink>, wanted: &[u8]) {
+    assert_eq!(rt; lines.sink().bytes(), wanted);
+}
+
 #[test]
 fn lines_until_patience_ends(rt: HostRuntime) -> Result<(), Fail> {
     let sink = MemSink::make(rt.alloc(), 100, 7, &[]).map_err(|_| "memory")?;
     let mut lines = Lines::new(sink, 1);
     assert!(rt; lines.note(&note(1, 3, 0)));
     assert!(rt; !lines.note(&note(2, 1, 0)));
-    assert_eq!(rt;
-        lines.sink().bytes(),
-        b"output 1: 3 terms, 0 basis\n".as_slice()
-    );
+    expect_lines(&rt, &lines, b"output 1: 3 terms, 0 basis\n");
     assert_eq!(rt; lines.terms(), 4);
     Ok(())
 }
@@ -35,10 +37,8 @@ fn the_longest_line(rt: HostRuntime) -> Result<(), Fail> {
     let sink = MemSink::make(rt.alloc(), 100, 100, &[]).map_err(|_| "memory")?;
     let mut lines = Lines::new(sink, 16);
     assert!(rt; lines.note(&note(4294967295, 18446744073709551615, 18446744073709551615)));
-    assert_eq!(rt;
-        lines.sink().bytes(),
-        b"output 4294967295: 18446744073709551615 terms, 18446744073709551615 basis\n".as_slice()
-    );
+    let wanted = b"output 4294967295: 18446744073709551615 terms, 18446744073709551615 basis\n";
+    expect_lines(&rt, &lines, wanted);
     Ok(())
 }
 
@@ -48,10 +48,7 @@ fn a_failed_write_is_ignored(rt: HostRuntime) -> Result<(), Fail> {
     let mut lines = Lines::new(sink, 2);
     assert!(rt; lines.note(&note(1, 3, 0)));
     assert!(rt; lines.note(&note(2, 1, 5)));
-    assert_eq!(rt;
-        lines.sink().bytes(),
-        b"output 2: 1 terms, 5 basis\n".as_slice()
-    );
+    expect_lines(&rt, &lines, b"output 2: 1 terms, 5 basis\n");
     assert_eq!(rt; lines.terms(), 4);
     Ok(())
 }
