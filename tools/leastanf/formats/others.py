@@ -147,7 +147,8 @@ def latex(answer):
     for element in answer.ideal or ():
         lines += latex_lines("0", write.terms(element.masks(factors)))
     yield r"\begin{align*}"
-    yield " \\\\\n".join(lines)
+    yield from (rf"{line} \\" for line in lines[:-1])
+    yield from lines[-1:]
     yield r"\end{align*}"
 
 
