@@ -238,6 +238,14 @@ class NormalForms(Folder):
                     ended = run([*ASK, mode, self.here / "f.pla"])
                     self.assertEqual((ended.status, ended.out), (0, wanted), ended)
 
+    def test_no_elements(self):
+        """A basis without elements is told, since nothing is printed of it."""
+        for mode in ("union", "meet"):
+            with self.case(mode):
+                ended = run([*ASK, mode, EXAMPLES / "full_adder.pla"])
+                said = "ask: the basis has no element: 0 alone is 0 at all of the points\n"
+                self.assertEqual((ended.status, ended.out, ended.err), (0, "", said))
+
     def test_two_of_more_outputs(self):
         file = EXAMPLES / "seven_segments.pla"
         self.assertEqual(run([*ASK, "meet", file]).status, 12)
@@ -282,6 +290,7 @@ class NormalForms(Folder):
             ([self.here / "none", "a"], 8),
             ([file, "z"], 3),
             ([file, "a", "a +"], 3),
+            ([file, "a + \x1b\n(b"], 3),
             ([file, "other = a"], 3),
             ([file, "-"], 3),
             ([EXAMPLES / "full_adder.pla", "a"], 3),

@@ -420,6 +420,12 @@ class Command(Test):
                 ended = run([*JUDGE, file], given, env={**os.environ, **programs}, cwd=self.here)
                 self.assertEqual(ended.status, status, ended)
                 self.assertIn(f"c: {word}", ended.out)
+        with self.case("as many inputs as a file may have"):
+            many = self.here / "many.pla"
+            for kind, status in (("fr", 0), ("f", UNKNOWN)):
+                many.write_text(description(1024, 1, kind, [("1" * 1024, "1")]))
+                ended = run([*JUDGE, many], "f1 = 1\n")
+                self.assertEqual(ended.status, status, ended)
         with self.case("no program"):
             ended = run([*JUDGE, file], text, env={**os.environ, "NFQ": "/no/program"})
             self.assertEqual((ended.status, ended.out), (69, ""), ended)

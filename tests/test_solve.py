@@ -276,8 +276,8 @@ class Messages(Solving):
                 ended = subprocess.run([*SOLVE, "--why", word], capture_output=True, text=True, check=False)
                 self.assertEqual((ended.returncode, ended.stderr), (0, ""))
                 self.assertGreater(len(ended.stdout), len(word) + 10)
-        ended = subprocess.run([*SOLVE, "--why", "nonsense"], capture_output=True, text=True, check=False)
-        self.assertEqual((ended.returncode, ended.stdout), (2, ""))
+        ended = subprocess.run([*SOLVE, "--why", "non\nsense"], capture_output=True, text=True, check=False)
+        self.assertEqual((ended.returncode, ended.stdout, ended.stderr.count("\n")), (2, "", 1))
         ended = subprocess.run([*SOLVE, "--why"], capture_output=True, text=True, check=False)
         for word in words:
             self.assertIn(f"\n  {word}: {command.meaning(word)}\n", ended.stdout)
@@ -370,6 +370,10 @@ class Remedies(Solving):
         rows = "".join(f"{k:016b} 1\n" for k in range(1 << 16) if bin(k).count("1") % 2)
         ended = self.solve(f".i 16\n.o 1\n.type f\n{rows}.e\n")
         self.expect(ended, 0, "f1 = " + " + ".join(f"x{k}" for k in range(1, 17)) + "\n", "parts: ")
+        product = "f1 = " + "*".join(f"x{k}" for k in range(1, 401)) + "\n"
+        self.expect(self.solve(f".i 400\n.o 1\n.type f\n{'1' * 400} 1\n"), 0, product, "parts: ")
+        ended = self.solve(f".i 1024\n.o 1\n.type f\n{'1' * 1024} 1\n")
+        self.expect(ended, 3, "", "output f1 alone has 1 rows over 1024 inputs", "the file is too large")
 
     def test_first_inputs(self):
         """In mode anf the inputs that the rows agree without are left out, and the text is the same."""

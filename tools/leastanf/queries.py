@@ -145,7 +145,7 @@ class _Parser:
             self.sign, self.place = found[1], found.end()
 
     def fail(self, why):
-        raise QueryError(f"{why}, before '{self.text[self.place:][:20]}'" if self.place < len(self.text) else why)
+        raise QueryError(f"{why}, before {self.text[self.place:][:20]!r}" if self.place < len(self.text) else why)
 
     def whole(self):
         found = self.any_of()

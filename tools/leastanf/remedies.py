@@ -149,7 +149,7 @@ def without_free_points(found):
 
 
 def count_points(cubes, width):
-    """How many points cubes have together, or None where finding it takes too many steps."""
+    """How many points cubes have together, or None where finding it takes too many steps, or is nested too deep."""
     known, steps = {}, 0
 
     def count(left, open_inputs):
@@ -171,7 +171,7 @@ def count_points(cubes, width):
 
     try:
         return count(cubes, width)
-    except OverflowError:
+    except (OverflowError, RecursionError):
         return None
 
 

@@ -27,8 +27,9 @@ LIMITS = {
 # parts.
 SECONDS = 300
 _FOR_PARTS = 0.4
-# How many parts an output has at the most.
-_MOST_PARTS = 4096
+# How many parts an output has at the most, and how many inputs: parts of parts are calls in calls, of which Python
+# takes some hundreds.
+_MOST_PARTS, _MOST_CUT_INPUTS = 4096, 400
 
 
 class Unsolved(Exception):
@@ -600,6 +601,8 @@ class _Solving:
     def complete_terms(self, place, found):
         """The terms of an output without free points: by the asked order, by other orders, with more slots, in parts,
         and with the most slots."""
+        if len(found.inputs) > _MOST_CUT_INPUTS:
+            raise self.limits(place, found)
         if not found.fits():
             return self.terms_by_parts(place, found, self.deadline)
         asked = self.asked_order(found)
@@ -682,7 +685,8 @@ class _Solving:
             for other in counts:
                 counts[other] += fixed >> (found.width - 1 - other) & 1
         at = max(counts, key=counts.get)
-        zero, one = (self.part_terms(place, remedies.cofactor(found, at, value), deadline) for value in (False, True))
+        zero = self.part_terms(place, remedies.cofactor(found, at, False), deadline)
+        one = self.part_terms(place, remedies.cofactor(found, at, True), deadline)
         bit = self.rank[at]
         terms = {*zero, *(mask | bit for mask in zero ^ one)}
         self.memo[key] = terms
@@ -690,6 +694,8 @@ class _Solving:
 
     def part_terms(self, place, part, deadline):
         """The terms of a part, as a set."""
+        if not part.cubes:
+            return set()
         found = remedies.without_unused_inputs(part)
         if found.fits():
             asked = self.asked_order(found)

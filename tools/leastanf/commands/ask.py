@@ -142,8 +142,11 @@ def print_basis(description, order, options):
             f"choose two by --outputs; they are {','.join(description.shown_output_names)}",
         )
     judging.Judge(description, order).refuse_contradictions()
-    for element in ideals.joint_basis(description, options.mode, order):
+    basis = ideals.joint_basis(description, options.mode, order)
+    for element in basis:
         print(f"0 = {element}")
+    if not basis:
+        say(NAME, "the basis has no element: 0 alone is 0 at all of the points")
 
 
 @command(NAME)

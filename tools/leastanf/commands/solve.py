@@ -309,7 +309,7 @@ def explain(named):
     for word in named:
         text = meaning(word)
         if text is None:
-            say(NAME, f"'{word}' is no cause, status, form, remedy or message; solve --why lists them")
+            say(NAME, f"{word!r} is no cause, status, form, remedy or message; solve --why lists them")
             status = WORDS
         else:
             print(f"{word}: {text}")

@@ -7,8 +7,8 @@ A node stands for the polynomial `low + factor*high`. The nodes 0 and 1 are thes
 import operator
 from functools import reduce
 
-# So many factors, the last ones that occur: sets of monomials in them are kept as the bits of one number while a diagram
-# is made.
+# So many factors, the last ones that occur: sets of monomials in them are kept as the bits of one number while a
+# diagram is made.
 LEAF_BITS = 5
 
 

@@ -56,7 +56,7 @@ class System:
         yield from self.ring(names)
         writer = Writer(self, answer, names)
         for number, output in enumerate(answer, 1):
-            yield f"{self.mark} {output.name}"
+            yield from naming.comments(self.mark, [output.name], [f"f{number}"])
             text = writer.polynomial(output.polynomial)
             yield from writer.take()
             yield self.polynomial.format(number, text)
