@@ -6,6 +6,7 @@ import multiprocessing
 import os
 import pathlib
 import random
+import re
 import shutil
 import sys
 import tempfile
@@ -156,6 +157,102 @@ class Streams(Folder):
                 line = f'exec "{tool(name)}" "$@" >&-'
                 ended = run(["sh", "-c", line, name, *words], text, cwd=self.here, env=self.environment)
                 self.expect_message(ended, name, 9, "cannot be written")
+
+
+CONTRADICTION = str(EXAMPLES / "contradiction.pla")
+# Of each command and each status that its help has, but for those of streams, a line, what it reads, and what stands
+# for nfq and interp where it is not these.
+STATUS_LINES = {
+    "judge": {
+        0: ([HALF_ADDER], ANSWER),
+        1: ([HALF_ADDER], "graph = 0\n"),
+        2: ([], ""),
+        3: ([HALF_ADDER], "graph = z\n"),
+        4: ([CONTRADICTION], "f1 = x1\n"),
+        8: (["none"], ""),
+        12: ([HALF_ADDER, "--order", "a"], ANSWER),
+        15: ([HALF_ADDER], "graph = 1\n", "echo 'more nodes are needed' >&2; exit 5"),
+        69: ([HALF_ADDER], ANSWER, None),
+    },
+    "agrees": {
+        0: ([HALF_ADDER], "graph = 1\n"),
+        1: ([HALF_ADDER], "graph = 0\n"),
+        2: ([], ""),
+        3: ([HALF_ADDER], "graph = z\n"),
+        4: ([CONTRADICTION], "f1 = x1\n"),
+        5: ([HALF_ADDER, "--relations", "1"], "", "echo 'nfq: more than 4 nodes are needed' >&2; exit 5"),
+        6: ([str(EXAMPLES / "one_hot.pla"), "--relations", "24"], ""),
+        7: ([HALF_ADDER, "--relations", "1"], "", "echo 'nfq: out of memory' >&2; exit 7"),
+        8: (["none"], ""),
+        12: ([HALF_ADDER, "--order", "a"], "graph = 1\n"),
+        14: ([HALF_ADDER, "--relations", "1", "--seconds", "1"], "", "exec sleep 20"),
+        15: ([HALF_ADDER], "graph = 1\n", "echo 'nfq: more than 4 nodes are needed' >&2; exit 5"),
+        69: ([HALF_ADDER], "graph = 1\n", None),
+    },
+    "ask": {
+        0: ([HALF_ADDER, "sum"], ""),
+        1: ([HALF_ADDER, "--holds", "sum"], ""),
+        2: ([], ""),
+        3: ([HALF_ADDER, "z"], ""),
+        4: ([CONTRADICTION, "x1"], ""),
+        5: ([HALF_ADDER, "sum"], "", "echo 'nfq: more than 4 nodes are needed' >&2; exit 5"),
+        6: ([HALF_ADDER, "sum"], "", "echo 'nfq: more than 1000000 terms' >&2; exit 6"),
+        8: (["none", "sum"], ""),
+        12: ([HALF_ADDER, "--order", "a", "sum"], ""),
+        69: ([HALF_ADDER, "sum"], "", None),
+    },
+    "answer_as": {
+        0: (["json", HALF_ADDER], ANSWER),
+        2: ([], ""),
+        3: (["json", HALF_ADDER], "graph = z\n"),
+        8: (["json", "none"], ""),
+        12: (["json", HALF_ADDER, "--order", "a"], ANSWER),
+    },
+    "describe": {
+        0: (["numbers", "-"], "3 1 2 0\n"),
+        2: ([], ""),
+        3: (["numbers", "-"], "3 1 2\n"),
+        8: (["numbers", "none"], ""),
+    },
+}
+
+
+class Statuses(Folder):
+    """Each status that the help of a command has, by an example. Those of solve are in tests/test_solve.py."""
+
+    def test_examples(self):
+        for name, lines in STATUS_LINES.items():
+            for status, (words, text, *program_text) in lines.items():
+                with self.case(f"{name} {status}"):
+                    ended = self.call_with(name, words, text, *program_text)
+                    self.assertEqual(ended.status, status, ended)
+                    if status in (0, 1, 15):
+                        self.assertEqual((ended.out != "", ended.err), (True, ""), ended)
+                    else:
+                        self.expect_message(ended, name, status, "")
+
+    def call_with(self, name, words, text, *program_text):
+        """A run of a command, where a text of a script may stand for the programs, or None for none."""
+        if not program_text:
+            return self.call(name, words, text)
+        path = self.here / "program"
+        if program_text[0] is not None:
+            path.write_text(f"#!/bin/sh\ncat > read\n{program_text[0]}\n")
+            path.chmod(0o755)
+        environment = {**self.environment, "INTERP": str(path), "NFQ": str(path)}
+        ended = run([tool(name), *words], text, cwd=self.here, env=environment)
+        path.unlink(missing_ok=True)
+        return ended
+
+    def test_every_status_is_tried(self):
+        """Status 9 is that of streams."""
+        for name, lines in STATUS_LINES.items():
+            with self.case(name):
+                told = " ".join(self.call(name, ["--help"]).out.partition("tatuses: ")[2].split())
+                found = set()
+                for first, last in re.findall(r"(?:^|; )(\d+)(?: to (\d+))? ", told):
+                    found |= set(range(int(first), int(last or first) + 1))
+                self.assertEqual(found - {9}, set(lines))
 
 
 class Words(Folder):

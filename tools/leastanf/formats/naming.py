@@ -102,8 +102,8 @@ def prefix(letter, names):
 
 
 def comments(mark, before, after):
-    """A line for each name that another one stands for. Each ends with a word of its own, as in BLIF and Singular a line
-    goes on that ends with a backslash, which a name may have as its last sign."""
+    """A line for each name that another one stands for. Each ends with a word of its own, as in BLIF and Singular a
+    line goes on that ends with a backslash, which a name may have as its last sign."""
     for old, new in zip(before, after):
         if old != new:
             yield f"{mark} {old} is {new} here"
