@@ -378,7 +378,7 @@ class Remedies(Solving):
     def test_first_inputs(self):
         """In mode anf the inputs that the rows agree without are left out, and the text is the same."""
         draws = random.Random(5)
-        for _ in range(40):
+        for _ in range(200):
             inputs = draws.randint(3, 9)
             text = scattered(inputs, draws.randint(2, 1 << inputs - 1), draws.random())
             with self.case(text):
@@ -531,6 +531,15 @@ class OnRequest(Solving):
                 self.assertEqual(ended.stdout.splitlines()[1], "high = " + "*".join(f"x{k}" for k in range(1, 21)))
                 self.assertEqual(self.repeated(ended), ended.stdout.replace("~", ""))
 
+    def test_side_by_side(self):
+        """Runs go side by side: none of the first two begins before the other one is there."""
+        waits = "for n in $(seq 300); do [ $(ls started.* | wc -l) -gt 1 ] && exec \"$real\" \"$@\"; sleep 0.1; done"
+        real = shlex.quote(self.environment["INTERP"])
+        script = f"real={real}; touch started.$$; {waits}; touch alone; exit 7"
+        ended = self.solve(".i 3\n.o 1\n.type f\n001 1\n", "--polarity", "auto", "--jobs", "2", program=script)
+        self.expect(ended, 0, "f1 = ~x1*~x2*x3\n", "polarity ~x1,~x2")
+        self.assertFalse((self.here / "alone").exists())
+
     def test_given_polarity(self):
         self.expect(self.solve(XOR, "--polarity", "b"), 0, "f1 = a + ~b + 1\n")
         self.expect(self.solve(XOR, "--polarity", "all"), 0, "f1 = ~a + ~b\n")
@@ -578,6 +587,18 @@ class Looking(Test):
                 description.rows = rows
                 with self.case(descriptions.text(description)):
                     self.compare(description, inputs)
+
+    def test_random_choice(self):
+        """Where there are many care points some of them are looked at, of each value, and they find what is wrong."""
+        for kind in descriptions.KINDS:
+            text = f".i 40\n.o 1\n.type {kind}\n1{'-' * 39} 1\n0{'-' * 39} 0\n"
+            description = descriptions.parse(text.encode(), "f")
+            with self.case(kind):
+                sample = points.sample(description, 0)
+                self.assertTrue(points.MOST_POINTS // 2 <= sample.size <= points.MOST_POINTS, sample.size)
+                self.assertTrue(sample.size // 4 < bin(sample.ones).count("1") < sample.size * 3 // 4)
+                for text, right in (("x1", True), ("x1 + x2", False), ("x1*x2 + x1", False), ("1", False)):
+                    self.assertEqual(points.fault(description, 0, text, [], description.input_names) is None, right)
 
     def compare(self, description, inputs):
         """Every polynomial that has the value of a care point is right, and no other one."""
