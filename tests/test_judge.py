@@ -511,6 +511,17 @@ class Transcripts(Test):
         with self.assertRaises(transcripts.TranscriptError):
             self.claims("p[0] = x1\np[2] = x1\n", file)
 
+    def test_outputs_with_names_of_other_programs(self):
+        """No line of an output is taken for what another program writes beside an answer."""
+        file = self.here / "f.pla"
+        for name in ("R", "short", "ring", "o1", "//", "--"):
+            file.write_text(description(1, 2, "f", [("1", "11")], results=["f", name]))
+            with self.case(name):
+                self.assertEqual(self.claims(f"f = x1\n{name} = 0\n", file)[1].polynomial, set())
+        for line in ("R = x1", "ring = x1", "short = 0", "ideal F = x1"):
+            with self.case(line), self.assertRaises(transcripts.TranscriptError):
+                self.claims(f"graph = 1\n{line}\n")
+
     def judged(self, text):
         ended = run([*JUDGE, self.file], text)
         self.assertEqual((ended.status, ended.out), (0, "graph: yes\n"), ended)

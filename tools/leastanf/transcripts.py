@@ -2,18 +2,21 @@
 
 A line gives a polynomial to an output, by its name or as `poly f2 = ..` of output 2, or it gives elements of a basis:
 `0 = ..`, `ideal I2 = .., ..` of output 2, `G[3]=..`, or polynomials alone, as `print` writes them, of the output that
-was named last. In a script, which makes a ring, f2 is output 2 too, whatever the outputs are called. Of a list of
-elements the brackets and the word before them are left out, and so are the marks o1, o2 of Macaulay2. Elements with a
-power that are 0 where x^2 is x are the polynomials of the field and are left out too. A 0 that is not on a line `0 = 0`
-says that a list has no elements, as these programs have no other way to say it. A term that stands twice in a sum of
-products is refused, as no program prints it.
+was named last. In a script, which makes a ring, f2 is output 2 too, whatever the outputs are called; in another text a
+line `NAME = ..` is that of the output, whatever else these programs begin so. Of a list of elements the brackets and
+the word before them are left out, and so are the marks o1, o2 of Macaulay2. Elements with a power that are 0 where x^2
+is x are the polynomials of the field and are left out too. A 0 that is not on a line `0 = 0` says that a list has no
+elements, as these programs have no other way to say it. A term that stands twice in a sum of products is refused, as no
+program prints it.
 """
 
 import re
 
 from . import queries
 
-_SKIPPED = re.compile(r"(//|--|#|o\d+ :|i\d+ :|ring |R = |short ?= ?0|ideal F ?=)")
+# What says nothing of an output, and what does not in the scripts that `answer_as` writes.
+_SKIPPED = re.compile(r"//|--|#|o\d+ :|i\d+ :|ring \w+ ?=|R = ZZ/2\[")
+_SKIPPED_IN_SCRIPTS = re.compile(f"{_SKIPPED.pattern}|short = 0|ideal F =")
 _LEFT = re.compile(r"(poly |ideal )?\s*([^=\s]+)\s*=\s*(.*)", re.DOTALL)
 _RING = re.compile(r"^\s*(ring r = 2,|R = ZZ/2\[)", re.MULTILINE)
 _NONE = re.compile(r"\s*0(_R)?\s*")
@@ -55,7 +58,8 @@ def parse(text, description, names):
     by_name, by_number = {**numbers, **names_of_outputs}, {**names_of_outputs, **numbers}
     is_script = _RING.search(text) is not None
     current = 0 if description.outputs == 1 else None
-    for line, part in logical_lines(text):
+    plain, skipped = ((), _SKIPPED_IN_SCRIPTS) if is_script else (names_of_outputs, _SKIPPED)
+    for line, part in logical_lines(text, plain, skipped):
         found = _LEFT.match(part)
         left, right = (found[2], found[3]) if found else (None, part)
         lefts = by_number if is_script or found and found[1] else by_name
@@ -107,14 +111,17 @@ def _parse(line, text, names):
         raise TranscriptError(line, str(error)) from None
 
 
-def logical_lines(text):
+def logical_lines(text, outputs, skipped):
     """The lines that say something, with the number of the first one of each: one goes on where it ends with a sign or
-    in a bracket."""
+    in a bracket. Those that begin with one of some outputs and = are taken as they stand, whatever is skipped."""
     first, parts, depth = 0, [], 0
     for number, line in enumerate(text.splitlines(), 1):
-        line = _BESIDE.sub("", line.strip().rstrip(";"))
-        if not parts and (not line or _SKIPPED.match(line)):
-            continue
+        line = line.strip().rstrip(";")
+        left, equals, _ = line.partition("=")
+        if parts or not equals or left.strip() not in outputs:
+            line = _BESIDE.sub("", line)
+            if not parts and (not line or skipped.match(line)):
+                continue
         first = first if parts else number
         parts.append(line)
         depth += sum(map(line.count, "([{")) - sum(map(line.count, ")]}"))
