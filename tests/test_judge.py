@@ -522,6 +522,15 @@ class Transcripts(Test):
             with self.case(line), self.assertRaises(transcripts.TranscriptError):
                 self.claims(f"graph = 1\n{line}\n")
 
+    def test_names_that_end_with_signs(self):
+        """A line as the program prints it ends where it ends, whatever signs its names have."""
+        file = self.here / "f.pla"
+        for name in ("in-", "(", "a[", "p|", "&"):
+            file.write_text(description(2, 1, "f", [("11", "1")], names=["b", name], results=["f"]))
+            with self.case(name):
+                claim = self.claims(f"f = b + {name}\n0 = b*{name}\n0 = {name}\n", file)[0]
+                self.assertEqual((claim.polynomial, claim.elements), ({2, 1}, [{3}, {1}]))
+
     def judged(self, text):
         ended = run([*JUDGE, self.file], text)
         self.assertEqual((ended.status, ended.out), (0, "graph: yes\n"), ended)

@@ -59,7 +59,14 @@ def parse(text, description, names):
     is_script = _RING.search(text) is not None
     current = 0 if description.outputs == 1 else None
     plain, skipped = ((), _SKIPPED_IN_SCRIPTS) if is_script else (names_of_outputs, _SKIPPED)
-    for line, part in logical_lines(text, plain, skipped):
+    factors = {"0", "1", *names.factor_bits()}
+
+    def is_whole(line):
+        """Whether a line is one as the program prints it, in which names may have any signs."""
+        left, equals, right = line.partition(" = ")
+        return bool(equals) and left in {"0", *plain} and factors.issuperset(re.split(r" \+ |\*", right))
+
+    for line, part in logical_lines(text, plain, skipped, is_whole):
         found = _LEFT.match(part)
         left, right = (found[2], found[3]) if found else (None, part)
         lefts = by_number if is_script or found and found[1] else by_name
@@ -111,9 +118,10 @@ def _parse(line, text, names):
         raise TranscriptError(line, str(error)) from None
 
 
-def logical_lines(text, outputs, skipped):
+def logical_lines(text, outputs, skipped, is_whole):
     """The lines that say something, with the number of the first one of each: one goes on where it ends with a sign or
-    in a bracket. Those that begin with one of some outputs and = are taken as they stand, whatever is skipped."""
+    in a bracket, and is not whole. Those that begin with one of some outputs and = are taken as they stand, whatever is
+    skipped."""
     first, parts, depth = 0, [], 0
     for number, line in enumerate(text.splitlines(), 1):
         line = line.strip().rstrip(";")
@@ -125,7 +133,7 @@ def logical_lines(text, outputs, skipped):
         first = first if parts else number
         parts.append(line)
         depth += sum(map(line.count, "([{")) - sum(map(line.count, ")]}"))
-        if depth <= 0 and not _OPEN.search(line):
+        if depth <= 0 and not _OPEN.search(line) or len(parts) == 1 and is_whole(line):
             yield first, " ".join(parts)
             parts, depth = [], 0
     if parts:
