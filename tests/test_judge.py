@@ -525,7 +525,7 @@ class Transcripts(Test):
     def test_names_that_end_with_signs(self):
         """A line as the program prints it ends where it ends, whatever signs its names have."""
         file = self.here / "f.pla"
-        for name in ("in-", "(", "a[", "p|", "&"):
+        for name in ("in-", "(", "a[", "p|", "&", "c;"):
             file.write_text(description(2, 1, "f", [("11", "1")], names=["b", name], results=["f"]))
             with self.case(name):
                 claim = self.claims(f"f = b + {name}\n0 = b*{name}\n0 = {name}\n", file)[0]

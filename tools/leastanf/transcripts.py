@@ -124,7 +124,9 @@ def logical_lines(text, outputs, skipped, is_whole):
     skipped."""
     first, parts, depth = 0, [], 0
     for number, line in enumerate(text.splitlines(), 1):
-        line = line.strip().rstrip(";")
+        line = line.strip()
+        if line.endswith(";") and not is_whole(line):
+            line = line.rstrip(";")
         left, equals, _ = line.partition("=")
         if parts or not equals or left.strip() not in outputs:
             line = _BESIDE.sub("", line)
