@@ -130,7 +130,9 @@ class Checkout:
     def start(self, name, *words, seconds=None):
         env = {**self.env, **({"RT_SECONDS": str(seconds)} if seconds else {})}
         how = {"stdin": subprocess.DEVNULL, "stdout": subprocess.PIPE, "stderr": subprocess.PIPE, "text": True}
-        return subprocess.Popen([self.top / name, *words], env=env, start_new_session=True, **how)
+        # (a shell that starts these tests in the background has all that they start ignore it)
+        hear = lambda: signal.signal(signal.SIGINT, signal.SIG_DFL)
+        return subprocess.Popen([self.top / name, *words], env=env, start_new_session=True, preexec_fn=hear, **how)
 
     def events(self, *kinds):
         """What the toolchain did, of these kinds: begins, makes or ends, the crate, when, and the words."""
