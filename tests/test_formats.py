@@ -4,6 +4,7 @@ The values that are due come from the monomials alone. Of Sage, which is not ask
 a small ring of its own.
 """
 
+import concurrent.futures
 import itertools
 import json
 import os
@@ -626,6 +627,16 @@ class Deep(Test):
                 self.assertNotEqual(given.text(name), "")
 
 
+def processor_seconds(words, given):
+    """How a command of tools/ ended on a file, and the processor time that it took."""
+    with open(given, encoding="ascii") as source:
+        how = {"stdin": source, "stdout": subprocess.DEVNULL}
+        child = subprocess.Popen([sys.executable, TOP / "tools" / words[0], *words[1:]], **how)
+    _, status, used = os.wait4(child.pid, 0)
+    child.returncode = os.waitstatus_to_exitcode(status)
+    return child.returncode, used.ru_utime + used.ru_stime
+
+
 class Large(Folder):
     """Answers of 500,000 terms over 20 and 40 inputs are written within three seconds, by the clock of a machine that
     has nothing else to do."""
@@ -656,19 +667,12 @@ class Large(Folder):
         text = description(width, 1, "fr", [("1" * width, "1")], names=inputs, results=["f"])
         file = self.write("f.pla", text)
         given = self.write("f.anf", f"f = {Monomials(inputs).polynomial(masks)}\n")
-        for name in formats.FORMATS:
-            with self.case(name), open(given, encoding="ascii") as source:
-                before = os.times()
-                ended = subprocess.run(
-                    [sys.executable, TOP / "tools/answer_as", name, file],
-                    stdin=source,
-                    stdout=subprocess.DEVNULL,
-                    check=False,
-                )
-                after = os.times()
-                self.assertEqual(ended.returncode, 0)
-                spent = after.children_user + after.children_system - before.children_user - before.children_system
-                self.assertLess(spent, self.SECONDS, name)
+        with concurrent.futures.ThreadPoolExecutor(os.cpu_count()) as pool:
+            found = pool.map(lambda name: processor_seconds(["answer_as", name, file], given), formats.FORMATS)
+            for name, (status, seconds) in zip(formats.FORMATS, found):
+                with self.case(name):
+                    self.assertEqual(status, 0)
+                    self.assertLess(seconds, self.SECONDS)
 
 
 if __name__ == "__main__":
