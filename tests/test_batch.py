@@ -234,14 +234,15 @@ class Faults(Test):
         self.assertGreater(self.fail_each("alloc", 0, "fail", is_right), 20)
 
     def test_words_are_read_once(self):
-        """Of the calls for memory that reading the words takes, a file more takes no part."""
+        """A file more takes fewer calls for memory than reading the words does, and a file that is refused takes fewer
+        than half of these."""
         count = lambda words, stream: faults().count(words, stream, Fault("alloc", 0, 1, ALL, "pass"))[1]
         of_words = count([program("batch"), "gen"], "")
         more = 100
-        for what, file in {"answered": f"{POINTS}.e\n", "refused": ".e\n"}.items():
+        for what, file, most in (("answered", f"{POINTS}.e\n", of_words), ("refused", ".e\n", of_words // 2)):
             with self.case(f"a file that is {what}"):
                 of_files = count(self.words, file * (more + 1)) - count(self.words, file)
-                self.assertLess(of_files, more * of_words)
+                self.assertLess(of_files, more * most)
 
     def test_reads(self):
         """Between the reads blocks are written."""
