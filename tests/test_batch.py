@@ -11,6 +11,7 @@ import os
 import pathlib
 import random
 import resource
+import select
 import signal
 import subprocess
 import tempfile
@@ -162,8 +163,8 @@ class Batches(Test):
     def test_memory(self):
         """One file and a buffer are held, and four files wait: not the stream."""
         stream = padded(MOST_FILE // 4) * 60
-        limit = 128 * 2**20
-        with self.case("a stream of 60 MiB in 128 MiB of address space"):
+        limit = 48 * 2**20
+        with self.case("a stream of 60 MiB in 48 MiB of address space"):
             how = {"preexec_fn": lambda: resource.setrlimit(resource.RLIMIT_AS, (limit, limit))}
             self.assertEqual(run([program("batch"), "anf"], stream, **how).status, 0)
 
@@ -173,6 +174,7 @@ class Batches(Test):
             with subprocess.Popen([program("batch"), "anf"], stdin=subprocess.PIPE, stdout=subprocess.PIPE) as child:
                 child.stdin.write(f"{POINTS}.e\n".encode())
                 child.stdin.flush()
+                self.assertTrue(select.select([child.stdout], [], [], LONGEST)[0])
                 self.assertEqual(child.stdout.read(len("file 1 0\nf1 = x2\n")), b"file 1 0\nf1 = x2\n")
                 child.stdin.close()
                 self.assertEqual(child.stdout.read(), b"")
