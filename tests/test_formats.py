@@ -638,11 +638,11 @@ def processor_seconds(words, given):
 
 
 class Large(Folder):
-    """Answers of 500,000 terms over 20 and 40 inputs are written within three seconds, by the clock of a machine that
-    has nothing else to do."""
+    """Answers of 500,000 terms over 20 and 40 inputs are written in a time that a square of their length would pass by
+    far."""
 
     TERMS = 500_000
-    # Of the processor, for machines that are slower or busy: an idle one takes a second.
+    # Of the processor, for machines that are slower or busy: an idle one takes one to two.
     SECONDS = 10
 
     def test_dense(self):
