@@ -3,9 +3,11 @@
 How many nodes each phase of a run needs, and how many terms it has, is computed without the program
 (needed_nodes.py). Ten files of examples/ are run in the modes anf and basis, again and again, with several numbers of
 workers; then small random files with each small table and several limits of terms. All these have tables on which two
-workers are the most. So last there are files on larger tables, and the threads that start are counted there.
+workers are the most. So last there are files on larger tables, and the threads that start are counted there. All are
+runs of interp, whose jobs are drawn from a counter, and of steal, whose jobs are taken from deques.
 """
 
+import itertools
 import random
 
 from tests.harness import ALL, EXAMPLES, Ended, Fault, Test, description, faults, program, run
@@ -17,6 +19,7 @@ FILES = (
     "full_adder seven_segments half_adder johnson one_hot "
     "present present_graph digits three_points written_by_abc"
 ).split()
+PROGRAMS = ("interp", "steal")
 WORKERS = (1, 3, 16)
 TIMES = 8
 RANDOM_FILES = 60
@@ -68,8 +71,9 @@ class Exact(Test):
     """Runs whose limits are near to what they need."""
 
     def expect(self, wanted, mode, text, *words):
-        ended = run([program("interp"), mode, *words], text)
-        self.assertEqual(ended, wanted, f"{mode} {' '.join(map(str, words))}")
+        for name in PROGRAMS:
+            ended = run([program(name), mode, *words], text)
+            self.assertEqual(ended, wanted, f"{name} {mode} {' '.join(map(str, words))}")
 
     def try_example(self, text, mode):
         """With the least table that has enough slots, and with half of it, again and again."""
@@ -93,11 +97,10 @@ class Exact(Test):
             whole = run([program("interp"), mode], text)
             with self.case(f"{nodes} nodes"):
                 self.assertEqual((cost.last, whole.status), (nodes, 0))
-            for bits in (13, 14):
-                for workers in (2, 4, 8, 16):
-                    with self.case(f"{nodes} nodes, {mode} --nodes {bits} --workers {workers}"):
-                        words = [program("interp"), mode, "--nodes", bits, "--workers", workers]
-                        self.try_workers(due(cost, bits, MOST_TERMS, whole), words, text, workers)
+            for name, bits, workers in itertools.product(PROGRAMS, (13, 14), (2, 4, 8, 16)):
+                with self.case(f"{nodes} nodes, {name} {mode} --nodes {bits} --workers {workers}"):
+                    words = [program(name), mode, "--nodes", bits, "--workers", workers]
+                    self.try_workers(due(cost, bits, MOST_TERMS, whole), words, text, workers)
 
     def try_workers(self, wanted, words, text, workers):
         """Again and again, with all workers at one time."""

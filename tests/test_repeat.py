@@ -1,10 +1,12 @@
 """The program prints the same run after run, with any number of workers, and where threads are refused.
 
-What is compared are the text, the lines of progress between its lines, and the status. A run on a small file begins
+The jobs are drawn from a counter by interp, and taken from deques by steal, whose runs are the same as interp's. What
+is compared are the text, the lines of progress between its lines, and the status. A run on a small file begins
 on a small table, which has two workers at most; so there are larger files too, made from a seed. How many threads
 start is counted, outside of the program.
 """
 
+import itertools
 import os
 import pathlib
 import random
@@ -17,6 +19,7 @@ import unittest
 from tests.harness import ALL, EXAMPLES, Fault, Test, description, faults, program, run
 from tests.made_descriptions import random_cube, valued
 
+PROGRAMS = ("interp", "steal")
 WORKERS = (1, 2, 4, 8, 16)
 
 # Files of examples/, each with a mode, and how many threads start in a run with two workers and more.
@@ -71,10 +74,10 @@ class Repeat(Test):
     def repeat(self, files, times):
         for what, line, text in files:
             wanted = ends(program("interp"), line, text, 1)
-            for workers in WORKERS:
-                with self.case(f"{what}, {line} --workers {workers}"):
+            for name, workers in itertools.product(PROGRAMS, WORKERS):
+                with self.case(f"{what}, {name} {line} --workers {workers}"):
                     self.assertEqual(wanted.status, 0)
-                    others = sum(ends(program("interp"), line, text, workers) != wanted for _ in range(times))
+                    others = sum(ends(program(name), line, text, workers) != wanted for _ in range(times))
                     self.assertEqual(others, 0, f"of {times} runs print other bytes")
 
     def test_small(self):
@@ -87,18 +90,18 @@ class Repeat(Test):
 class Threads(Test):
     """How many threads start."""
 
-    def count(self, line, text, workers):
-        words = [program("interp"), *line.split(), "--workers", workers]
+    def count(self, name, line, text, workers):
+        words = [program(name), *line.split(), "--workers", workers]
         ended, started = faults().count(words, text, Fault("thread", 0, 1, ALL, "pass"))
         self.assertEqual(ended.status, 0)
         return started
 
     def test_small(self):
         """On a small table a phase has two workers at most, and but for the last phase one."""
-        for name, line, text in small_files():
-            for workers in WORKERS:
-                with self.case(f"{name}, {line} --workers {workers}"):
-                    self.assertEqual(self.count(line, text, workers), SMALL[name, line] if workers > 1 else 0)
+        for what, line, text in small_files():
+            for name, workers in itertools.product(PROGRAMS, WORKERS):
+                with self.case(f"{what}, {name} {line} --workers {workers}"):
+                    self.assertEqual(self.count(name, line, text, workers), SMALL[what, line] if workers > 1 else 0)
 
     def test_large(self):
         """On the other ones the workers are as many as are asked for, and one of them is the main thread.
@@ -107,19 +110,19 @@ class Threads(Test):
         four jobs and then two, so that four threads start in any case; in mode basis each of two phases starts them.
         """
         for what, line, text in large_files():
-            for workers in WORKERS:
-                with self.case(f"{what}, {line} --workers {workers}"):
+            for name, workers in itertools.product(PROGRAMS, WORKERS):
+                with self.case(f"{what}, {name} {line} --workers {workers}"):
                     least = {"anf": workers - 1, "basis": 2 * (workers - 1), "gen": min(workers - 1, 4)}
-                    started = self.count(line, text, workers)
+                    started = self.count(name, line, text, workers)
                     self.assertGreaterEqual(started, least[line.split()[0]])
                     self.assertEqual(started == 0, workers == 1)
 
     def test_a_job_each(self):
         """Where each worker has a job, each of the two lists of jobs starts all of them, and no operation forks."""
         _, line, text = next(large_files())
-        for workers in WORKERS:
-            with self.case(f"--workers {workers}"):
-                self.assertEqual(self.count(line, text, workers), 2 * (workers - 1))
+        for name, workers in itertools.product(PROGRAMS, WORKERS):
+            with self.case(f"{name} --workers {workers}"):
+                self.assertEqual(self.count(name, line, text, workers), 2 * (workers - 1))
 
 
 class Refused(Test):
@@ -127,10 +130,10 @@ class Refused(Test):
 
     def test_each_thread(self):
         """From each thread on all are refused, and each alone."""
-        for what, line, text in large_files():
-            words = [program("interp"), *line.split(), "--workers", 16]
+        for (what, line, text), name in itertools.product(large_files(), PROGRAMS):
+            words = [program(name), *line.split(), "--workers", 16]
             wanted = run([*words[:-1], 1], text)
-            with self.case(f"{what}, {line}"):
+            with self.case(f"{what}, {name} {line}"):
                 self.assertEqual(wanted.status, 0)
                 met = sum(self.refuse(words, text, wanted, first) for first in range(1, 16))
                 self.assertGreaterEqual(met, 4)
@@ -152,11 +155,12 @@ class Refused(Test):
         if run(["sh", "-c", "true & wait"], **alone).status == 0:
             raise unittest.SkipTest("a limit of one process is not kept here")
         with tempfile.TemporaryDirectory() as folder:
-            # A copy that the user nobody can read.
+            # Copies that the user nobody can read.
             os.chmod(folder, 0o755)
-            path = pathlib.Path(folder) / "interp"
-            shutil.copyfile(program("interp"), path)
-            path.chmod(0o755)
-            for what, line, text in [*small_files(), *large_files()]:
-                with self.case(f"{what}, {line}"):
-                    self.assertEqual(ends(path, line, text, 16, **alone), ends(path, line, text, 1))
+            for name in PROGRAMS:
+                path = pathlib.Path(folder) / name
+                shutil.copyfile(program(name), path)
+                path.chmod(0o755)
+                for what, line, text in [*small_files(), *large_files()]:
+                    with self.case(f"{what}, {name} {line}"):
+                        self.assertEqual(ends(path, line, text, 16, **alone), ends(path, line, text, 1))

@@ -1,0 +1,70 @@
+#!/usr/bin/env python3
+"""Measures steal beside interp on files one of whose outputs costs a hundred times what each other one does.
+
+    pools.py [--runs N] [--workers N,N..] [--program PATH] [--steal PATH]
+
+The files are made by a fixed rule: random points, all of which have a value for the great output, and few for the
+others. It stands first, in the middle or last. Both programs run in turn; the table has the least time of each in
+milliseconds, start and reading included. It fails where they print different bytes.
+"""
+
+import argparse
+import pathlib
+import sys
+import tempfile
+
+import make_files
+import run
+
+HERE = pathlib.Path(__file__).resolve().parent
+
+INPUTS = 24
+OUTPUTS = 32
+POINTS = 8192
+# How many points the other outputs have a value at.
+FEW = 60
+
+PLACES = {"first": 0, "middle": OUTPUTS // 2, "last": OUTPUTS - 1}
+
+
+def uneven(place):
+    """Random points, whose values the output at this place has, and the others for the first few."""
+    draws = make_files.Draws(1)
+    rows = []
+    for number in range(POINTS):
+        values = list(make_files.drawn_bits(draws, OUTPUTS) if number < FEW else "-" * OUTPUTS)
+        values[place] = draws.one_of("01")
+        rows.append((make_files.drawn_bits(draws, INPUTS), "".join(values)))
+    # A point that was drawn before would contradict.
+    return make_files.description(INPUTS, OUTPUTS, "fr", list(dict(reversed(rows)).items()))
+
+
+def main():
+    parser = argparse.ArgumentParser()
+    parser.add_argument("--runs", type=int, default=5)
+    parser.add_argument("--workers", default="2,4,8,16")
+    parser.add_argument("--program", default=str(HERE.parent / "interp"))
+    parser.add_argument("--steal", default=str(HERE.parent / "steal"))
+    options = parser.parse_args()
+    programs = {"interp": options.program, "steal": options.steal}
+    columns = [
+        (f"{name}, {workers}", [path, "anf", "--workers", workers])
+        for workers in options.workers.split(",")
+        for name, path in programs.items()
+    ]
+    same = True
+    print(f"| great output | mode | {' | '.join(name for name, _ in columns)} | MB | bytes |")
+    print(f"|{'---|' * (len(columns) + 4)}")
+    with tempfile.TemporaryDirectory() as folder:
+        for name, place in PLACES.items():
+            path = pathlib.Path(folder) / f"{name}.pla"
+            path.write_text(uneven(place))
+            same &= run.row(name, "anf", *run.measure(columns, path, options.runs))
+    if not same:
+        print("what is printed differs", file=sys.stderr)
+        return 1
+    return 0
+
+
+if __name__ == "__main__":
+    sys.exit(main())
