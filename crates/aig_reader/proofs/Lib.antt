@@ -1,0 +1,4 @@
+mod Numbers
+mod Loops
+mod Adding
+mod Circuits

@@ -1,0 +1,4 @@
+pub mod Circuit
+pub mod Fields
+pub mod Reading
+pub mod Causes

@@ -1,0 +1,153 @@
+-- What a file in the binary form says, or why it is refused.
+use Rattle.std.specs.Prelude.{◌≡◌, ℕ, zero, suc, ◌+◌, ◌-◌, ◌*◌, ◌≤◌, Bool, true, not, ◌&&◌, ◌==◌, nat_lt, nat_le, List, [], ◌∷◌, length}
+use Rattle.std.specs.Prelude.{take, drop, replicate, codes, Result, Ok, Err, slice_set, if◌then◌else◌}
+use Rattle.std.specs.List.{list_any, position_or_len, slice_index_or}
+use Rattle.std.specs.Str.{bytes_eq}
+use Rattle.std.specs.Char.{is_ascii_digit}
+use Rattle.lattice.specs.declared.limits.TheConstants.{MAX_VARS}
+use Rattle.aig_reader.specs.declared.circuit.TheConstants.{MAX_GATES}
+use Rattle.aig_reader.specs.declared.refusal.Why.{Why}
+use Rattle.aig_reader.specs.declared.refusal.Why.TheVariants.{NoFormat, Ascii, VariableCount, TooManyInputs, TooManyOutputs, TooManyGates}
+use Rattle.aig_reader.specs.declared.refusal.Why.TheVariants.{Latch, Property, BadSymbol, SymbolRange, Twice}
+use Rattle.aig_reader.specs.declared.refusal.Fault.{Fault}
+use Rattle.aig_reader.specs.declared.refusal.Refusal.{Refusal}
+use Rattle.aig_reader.specs.declared.refusal.ReadRefusal.{ReadRefusal}
+use Rattle.aig_reader.specs.declared.refusal.ReadRefusal.TheVariants.{Bad, Memory}
+use Rattle.aig_reader.specs.declared.header.Sizes.{Sizes}
+use Rattle.aig_reader.specs.declared.circuit.Aig.{Aig}
+use Rattle.aig_reader.specs.declared.symbols.Table.{Table}
+use Rattle.aig_reader.specs.Circuit.{Circuit}
+use Rattle.aig_reader.specs.Fields.{◌>>=◌, stop, behind, number_at, literal_at, gate_at, many}
+
+-- ---- the header
+
+-- the word that begins the file
+unfoldable pub format_at : List ℕ → Result (List ℕ) Fault
+format_at bytes =
+    if bytes_eq (take 3 bytes) (codes "aig") then Ok (drop 3 bytes)
+    else if bytes_eq (take 3 bytes) (codes "aag") then stop bytes Ascii
+    else stop bytes NoFormat
+
+-- a number behind a space, at most so great
+unfoldable pub size_at : (most : ℕ) → Why → List ℕ → Result (ℕ × List ℕ) Fault
+size_at most why bytes = do
+  front ← behind 32 bytes
+  size ← number_at front
+  if nat_lt most size.0 then stop front why else Ok size
+
+-- the line feed: in version 1.9 of the format numbers of properties may stand before it
+unfoldable pub header_end_at : List ℕ → Result (List ℕ) Fault
+header_end_at bytes = if slice_index_or bytes 0 0 == 32 then stop bytes Property else behind 10 bytes
+
+-- sizes within the limits
+pub record AreFew (sizes : Sizes) : Type 0 where
+  pub inputs : sizes.inputs ≤ MAX_VARS
+  pub outputs : sizes.outputs ≤ 64
+  pub gates : sizes.gates ≤ MAX_GATES
+
+-- the sizes
+unfoldable pub sizes_at : List ℕ → Result (Sizes × List ℕ) Fault
+sizes_at bytes = do
+  variables ← size_at (MAX_VARS + MAX_GATES) VariableCount bytes
+  inputs ← size_at MAX_VARS TooManyInputs variables.1
+  latches ← size_at 0 Latch inputs.1
+  outputs ← size_at 64 TooManyOutputs latches.1
+  gates ← size_at MAX_GATES TooManyGates outputs.1
+  if variables.0 == inputs.0 + gates.0 then Ok (record { inputs = inputs.0; outputs = outputs.0; gates = gates.0 }, gates.1)
+      else stop bytes VariableCount
+
+unfoldable pub header_at : List ℕ → Result (Sizes × List ℕ) Fault
+header_at bytes = do
+  front ← format_at bytes
+  sizes ← sizes_at front
+  rest ← header_end_at sizes.1
+  Ok (sizes.0, rest)
+
+-- ---- the symbol table
+
+-- the names of the inputs and of the outputs
+pub record Names : Type 0 where
+  pub inputs : List (List ℕ)
+  pub outputs : List (List ℕ)
+
+-- how many bytes stand on the line
+abbrev pub line_length : List ℕ → ℕ
+line_length bytes = position_or_len (λ byte. byte == 10) bytes
+
+-- what stands behind a symbol's letter: the position of what it names, a space, the name, and the line feed
+unfoldable pub name_at : (names : List (List ℕ)) → List ℕ → Result (List (List ℕ) × List ℕ) Fault
+name_at names bytes = do
+  position ← number_at bytes
+  line ← behind 32 position.1
+  rest ← behind 10 (drop (line_length line) line)
+  if nat_le (length names) position.0 then stop bytes SymbolRange
+      else if not (length (slice_index_or names position.0 []) == 0) then stop bytes Twice
+      else if line_length line == 0 then stop line BadSymbol
+      else Ok (slice_set names position.0 (take (line_length line) line), rest)
+
+-- what is wrong with a symbol whose letter is neither i nor o
+abbrev pub letter_why : ℕ → Why
+letter_why letter = if letter == 108 then Latch else if list_any (λ b. b == letter) (codes "bcfj") then Property else BadSymbol
+
+-- a symbol: of an input by i, of an output by o
+unfoldable pub symbol_at : Names → List ℕ → Result (Names × List ℕ) Fault
+symbol_at names [] = Ok (names, [])
+symbol_at names (letter ∷ bytes) =
+    if letter == 105 then (do
+      named ← name_at names.inputs bytes
+      Ok (record { inputs = named.0; outputs = names.outputs }, named.1))
+    else if letter == 111 then (do
+      named ← name_at names.outputs bytes
+      Ok (record { inputs = names.inputs; outputs = named.0 }, named.1))
+    else stop (letter ∷ bytes) (letter_why letter)
+
+-- whether the symbols are over: no byte is left, or a comment begins, by c with no digit behind it
+abbrev pub are_over : List ℕ → Bool
+are_over [] = true
+are_over (letter ∷ bytes) = letter == 99 && not (is_ascii_digit (slice_index_or bytes 0 0))
+
+-- the symbols, each of which takes a byte or more
+unfoldable pub symbols_at : (bytes_left : ℕ) → Names → List ℕ → Result Names Fault
+symbols_at zero names bytes = Ok names
+symbols_at (suc left) names bytes = if are_over bytes then Ok names else (do
+  symbol ← symbol_at names bytes
+  symbols_at left symbol.0 symbol.1)
+
+-- ---- the whole
+
+abbrev pub no_names : Sizes → Names
+no_names sizes = record { inputs = replicate sizes.inputs []; outputs = replicate sizes.outputs [] }
+
+-- the header, the literals of the outputs, the gates and the symbols
+unfoldable pub circuit_at : List ℕ → Result Circuit Fault
+circuit_at bytes = do
+  header ← header_at bytes
+  outputs ← many (λ k. literal_at (header.0.inputs + header.0.gates)) 0 header.0.outputs header.1
+  gates ← many (λ k. gate_at (2 * (header.0.inputs + 1 + k))) 0 header.0.gates outputs.1
+  names ← symbols_at (length gates.1) (no_names header.0) gates.1
+  Ok (record { inputs = header.0.inputs; gates = gates.0; outputs = outputs.0; in_names = names.inputs; out_names = names.outputs })
+
+-- with the number of bytes before a fault
+abbrev pub placed : {A : Type 0} → (bytes : List ℕ) → Result A Fault → Result A Refusal
+placed bytes (Ok x) = Ok x
+placed bytes (Err fault) = Err (record { byte = length bytes - fault.left; why = fault.why })
+
+-- the circuit that a file says, or why it is refused
+abbrev pub reading_of : List ℕ → Result Circuit Refusal
+reading_of bytes = placed bytes (circuit_at bytes)
+
+-- ---- what is answered
+
+abbrev pub circuit : Aig → Circuit
+circuit aig = record
+    { inputs = aig.inputs; gates = aig.gates; outputs = aig.outputs; in_names = aig.in_names; out_names = aig.out_names }
+
+-- an answer gives what was read, unless memory ran out
+abbrev pub GivesReading : Result Aig ReadRefusal → Result Circuit Refusal → Type 0
+GivesReading (Ok aig) reading = reading ≡ Ok (circuit aig)
+GivesReading (Err (Bad refusal)) reading = reading ≡ Err refusal
+GivesReading (Err Memory) reading = Unit {0}
+
+-- the names of a table
+abbrev pub names : Table → Names
+names table = record { inputs = table.inputs.items; outputs = table.outputs.items }

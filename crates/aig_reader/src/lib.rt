@@ -1,0 +1,14 @@
+//! Circuits in the AIGER format: read from bytes, their gates and names.
+#![tactic(auto)]
+
+mod circuit;
+mod fields;
+mod header;
+mod lines;
+mod reading;
+mod refusal;
+mod symbols;
+
+pub use crate::circuit::{Aig, Gate, Gates, Literals, MAX_GATES};
+pub use crate::reading::{MOST_BYTES, read};
+pub use crate::refusal::{ReadRefusal, Refusal, Why};
