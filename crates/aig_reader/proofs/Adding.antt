@@ -6,7 +6,8 @@ use Rattle.aig_reader.specs.declared.refusal.Stop.TheVariants.{Bad, Memory}
 use Rattle.aig_reader.specs.Fields.{Fails}
 use Rattle.aig_reader.specs.Reading.{Names, are_over, symbol_at, symbols_at}
 
-module _ (count k : ℕ) (names : Names) (bytes : List ℕ) (total : Result Names Fault) (so_far : symbols_at (count - k) names bytes ≡ total) where
+module _ (count k : ℕ) (names : Names) (bytes : List ℕ) (total : Result Names Fault)
+    (so_far : symbols_at (count - k) names bytes ≡ total) where
   module _ (lt : k < count) where
     left : count - k ≡ suc (count - (k + 1))
     left = omega arith
@@ -15,7 +16,8 @@ module _ (count k : ℕ) (names : Names) (bytes : List ℕ) (total : Result Name
         → symbols_at (count - (k + 1)) next after ≡ total
     unfolding symbols_at
     adds next after over reads =
-        let one : symbols_at (count - k) names bytes ≡ symbols_at (count - (k + 1)) next after = rw (left, over, reads) refl in sym one ∙ so_far
+        let one : symbols_at (count - k) names bytes ≡ symbols_at (count - (k + 1)) next after = rw (left, over, reads) refl in
+        sym one ∙ so_far
 
     pub refuses : (e : Stop) → are_over bytes ≡ false → Fails e (symbol_at names bytes) → Fails e total
     unfolding symbols_at

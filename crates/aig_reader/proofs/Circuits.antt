@@ -1,5 +1,6 @@
 -- What is read is a circuit.
-use Rattle.std.proofs.Common.{◌≡◌, ℕ, zero, suc, ◌-◌, ◌+◌, ◌*◌, ◌≤◌, ◌<◌, Bool, true, false, not, cond, leb, ltb, eqb, ◌||◌, List, [], ◌∷◌, length, get_or, set, take, drop}
+use Rattle.std.proofs.Common.{◌≡◌, ℕ, zero, suc, ◌-◌, ◌+◌, ◌*◌, ◌≤◌, ◌<◌, Bool, true, false, not, cond, leb, ltb, eqb, ◌||◌}
+use Rattle.std.proofs.Common.{List, [], ◌∷◌, length, get_or, set, take, drop}
 use Rattle.std.proofs.Common.{inl, inr, ◌⊎◌, Some, Result, Ok, Err, refl, sym, ap, ◌∙◌, subst, arith}
 use Rattle.std.specs.Prelude.{slice_get}
 use Rattle.std.proofs.lemmas.Bool.{ltb-false}
@@ -49,7 +50,8 @@ record AreSo {A : Type 0} (P : ℕ → A → Type 0) (first count : ℕ) (xs : L
   each : (i : ℕ) (d : A) → i < count → P (first + i) (get_or xs i d)
 
 each : {A : Type 0} (P : ℕ → A → Type 0) (first count : ℕ) (x : A) (xs : List A) → P first x
-    → ((i : ℕ) (d : A) → i < count → P (first + 1 + i) (get_or xs i d)) → (i : ℕ) (d : A) → i < suc count → P (first + i) (get_or (x ∷ xs) i d)
+    → ((i : ℕ) (d : A) → i < count → P (first + 1 + i) (get_or xs i d))
+    → (i : ℕ) (d : A) → i < suc count → P (first + i) (get_or (x ∷ xs) i d)
 each P first count x xs here later zero d lt = let at : first ≡ first + 0 = omega arith in subst (λ n. P n x) at here
 each P first count x xs here later (suc i) d lt =
     let at : first + 1 + i ≡ first + suc i = omega arith in subst (λ n. P n (get_or xs i d)) at (later i d (omega arith))
@@ -68,14 +70,16 @@ many_are_so P read so (suc count) first bytes x e =
     let a = bind_ok (read first bytes) (λ v. many read (first + 1) count v.1 >>= λ vs. Ok (v.0 ∷ vs.0, vs.1)) x e in
     let b = bind_ok (many read (first + 1) count a.0.1) (λ vs. Ok (a.0.0 ∷ vs.0, vs.1)) x a.2 in
     let later = many_are_so P read so count (first + 1) a.0.1 b.0 b.1 in
-    subst (λ y. AreSo P first (suc count) y.0) (ok_is (a.0.0 ∷ b.0.0, b.0.1) x b.2) (one_more P first count a.0.0 b.0.0 (so first bytes a.0 a.1) later)
+    subst (λ y. AreSo P first (suc count) y.0) (ok_is (a.0.0 ∷ b.0.0, b.0.1) x b.2)
+    (one_more P first count a.0.0 b.0.0 (so first bytes a.0 a.1) later)
 
 -- ---- literals and gates
 
 literal_below : (variables : ℕ) (bytes : List ℕ) (x : ℕ × List ℕ) → literal_at variables bytes ≡ Ok x → x.0 < 2 * (variables + 1)
 unfolding literal_at
 literal_below variables bytes x e =
-    let a = bind_ok (number_at bytes) (λ l. behind 10 l.1 >>= λ rest. cond (ltb (2 * variables + 1) l.0) (stop bytes LiteralRange) (Ok (l.0, rest))) x e in
+    let a = bind_ok (number_at bytes)
+    (λ l. behind 10 l.1 >>= λ rest. cond (ltb (2 * variables + 1) l.0) (stop bytes LiteralRange) (Ok (l.0, rest))) x e in
     let b = bind_ok (behind 10 a.0.1) (λ rest. cond (ltb (2 * variables + 1) a.0.0) (stop bytes LiteralRange) (Ok (a.0.0, rest))) x a.2 in
     let g = guard_ok (ltb (2 * variables + 1) a.0.0) _ (Ok (a.0.0, b.0)) x b.2 in
     let few = ltb-false _ _ g.0 in
@@ -90,7 +94,8 @@ operand_below least literal bytes x e =
     let within : (least ≤ a.0.0) × (a.0.0 ≤ literal) = grind (arith, nat_tests, g.0) in
     subst (λ y. y.0 + least ≤ literal) (ok_is (literal - a.0.0, a.0.1) x g.1) (omega (arith, within.0, within.1))
 
-gate_below : (literal : ℕ) (bytes : List ℕ) (x : Gate × List ℕ) → gate_at literal bytes ≡ Ok x → (x.0.left < literal) × (x.0.right < literal)
+gate_below : (literal : ℕ) (bytes : List ℕ) (x : Gate × List ℕ) → gate_at literal bytes ≡ Ok x
+    → (x.0.left < literal) × (x.0.right < literal)
 unfolding gate_at
 gate_below literal bytes x e =
     let a = bind_ok (operand_at 1 literal bytes) (λ l. operand_at 0 l.0 l.1 >>= λ r. Ok (record { left = l.0; right = r.0 }, r.1)) x e in
@@ -156,11 +161,13 @@ is_circuit sizes start middle later outputs gates names few e f g =
     let o = many_are_so (λ k literal. literal < 2 * (sizes.inputs + sizes.gates + 1)) (λ k. literal_at (sizes.inputs + sizes.gates))
     (λ k bytes x. literal_below (sizes.inputs + sizes.gates) bytes x) sizes.outputs 0 start (outputs, middle) e in
     let p = many_are_so (λ k gate. (gate.left < 2 * (sizes.inputs + 1 + k)) × (gate.right < 2 * (sizes.inputs + 1 + k)))
-    (λ k. gate_at (2 * (sizes.inputs + 1 + k))) (λ k bytes x. gate_below (2 * (sizes.inputs + 1 + k)) bytes x) sizes.gates 0 middle (gates, later) f in
+    (λ k. gate_at (2 * (sizes.inputs + 1 + k))) (λ k bytes x. gate_below (2 * (sizes.inputs + 1 + k)) bytes x) sizes.gates 0 middle
+    (gates, later) f in
     let facts : (k : ℕ) (gate : Gate) → slice_get gates k ≡ Some gate
     → (gate.left < 2 * (sizes.inputs + 1 + k)) × (gate.right < 2 * (sizes.inputs + 1 + k)) = λ k gate is.
     let within : k < sizes.gates = omega (arith, slice_get_within gates k gate is, p.count_is) in
-    let here = rw (get_or_from_slice_get gates k gate gate is) at (p.each k gate within) in (omega (arith, here.0), omega (arith, here.1)) in
+    let here = rw (get_or_from_slice_get gates k gate gate is) at (p.each k gate within) in
+    (omega (arith, here.0), omega (arith, here.1)) in
     let q = symbols_count (length later) (no_names sizes) later names g in record {
       few_inputs = few.inputs;
       few_gates = rw p.count_is few.gates;

@@ -2,3 +2,4 @@ mod Numbers
 mod Loops
 mod Adding
 mod Circuits
+pub mod Values

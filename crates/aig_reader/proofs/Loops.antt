@@ -1,5 +1,6 @@
 -- Values that are read one behind the other, as a loop does.
-use Rattle.std.proofs.Common.{◌≡◌, ℕ, suc, ◌-◌, ◌+◌, ◌≤◌, ◌<◌, List, [], ◌∷◌, ◌++◌, Result, Ok, Err, refl, sym, ap, ◌∙◌, append_assoc, arith}
+use Rattle.std.proofs.Common.{◌≡◌, ℕ, suc, ◌-◌, ◌+◌, ◌≤◌, ◌<◌, List, [], ◌∷◌, ◌++◌, Result, Ok, Err}
+use Rattle.std.proofs.Common.{refl, sym, ap, ◌∙◌, append_assoc, arith}
 use Rattle.std.proofs.lemmas.List.{append-nil}
 use Rattle.aig_reader.specs.declared.refusal.Fault.{Fault}
 use Rattle.aig_reader.specs.declared.refusal.Stop.{Stop}
@@ -37,5 +38,6 @@ module _ {A : Type 0} (read : ℕ → List ℕ → Result (A × List ℕ) Fault)
   unfolding many
   is_done le =
       let left : count - k ≡ 0 = omega arith in
-      let one : with_front front (many read k (count - k) bytes) ≡ Ok (front, bytes) = rw left (ap (λ ys. Ok (ys, bytes)) (append-nil front)) in
+      let one : with_front front (many read k (count - k) bytes) ≡ Ok (front, bytes) =
+      rw left (ap (λ ys. Ok (ys, bytes)) (append-nil front)) in
       sym so_far ∙ one

@@ -3,7 +3,7 @@ use Rattle.std.specs.Prelude.{◌≡◌, ℕ, ◌+◌, ◌-◌, ◌*◌, ◌^◌
 use Rattle.std.specs.List.{All}
 use Rattle.lattice.specs.Family.{divides}
 use Rattle.lattice.specs.declared.limits.TheConstants.{MAX_VARS}
-use Rattle.aig_reader.specs.declared.circuit.TheConstants.{MAX_GATES}
+use Rattle.aig_reader.specs.declared.circuit.TheConstants.{MAX_GATES, MAX_OUTPUTS}
 use Rattle.aig_reader.specs.declared.circuit.Gate.{Gate}
 
 -- Variable 0 is constant, variables 1 to n are the inputs, and those behind them the gates, in order. Literal 2 v is variable v, and
@@ -27,7 +27,7 @@ pub data HasValue (c : Circuit) (point : ℕ) : (literal : ℕ) → Bool → Typ
 pub record IsCircuit (inputs : ℕ) (gates : List Gate) (outputs : List ℕ) (in_names out_names : List (List ℕ)) : Type 0 where
   pub few_inputs : inputs ≤ MAX_VARS
   pub few_gates : length gates ≤ MAX_GATES
-  pub few_outputs : length outputs ≤ 64
+  pub few_outputs : length outputs ≤ MAX_OUTPUTS
   pub left : (k : ℕ) (g : Gate) → slice_get gates k ≡ Some g → g.left < 2 * (inputs + 1 + k)
   pub right : (k : ℕ) (g : Gate) → slice_get gates k ≡ Some g → g.right < 2 * (inputs + 1 + k)
   pub literals : All (λ literal. literal < 2 * (inputs + 1 + length gates)) outputs

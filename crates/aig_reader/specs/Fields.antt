@@ -1,5 +1,5 @@
 -- What stands at the front of bytes, and the bytes behind it; or the first fault, and how many bytes are left there.
-use Rattle.std.specs.Prelude.{◌≡◌, ℕ, zero, suc, ◌+◌, ◌-◌, ◌*◌, ◌^◌, not, ◌||◌, ◌==◌, nat_lt, nat_le, List, [], ◌∷◌, length, take, drop}
+use Rattle.std.specs.Prelude.{◌≡◌, ℕ, zero, suc, ◌+◌, ◌-◌, ◌*◌, not, ◌||◌, ◌==◌, nat_lt, nat_le, List, [], ◌∷◌, length, take, drop}
 use Rattle.std.specs.Prelude.{Result, Ok, Err, if◌then◌else◌}
 use Rattle.std.specs.List.{position_or_len}
 use Rattle.std.specs.Char.{is_ascii_digit}
@@ -10,6 +10,7 @@ use Rattle.aig_reader.specs.declared.refusal.Fault.{Fault}
 use Rattle.aig_reader.specs.declared.refusal.Stop.{Stop}
 use Rattle.aig_reader.specs.declared.refusal.Stop.TheVariants.{Bad, Memory}
 use Rattle.aig_reader.specs.declared.circuit.Gate.{Gate}
+use Rattle.aig_reader.specs.declared.fields.TheConstants.{NUMBER_BOUND}
 
 -- ---- reading on
 
@@ -42,12 +43,12 @@ behind byte (first ∷ bytes) = if first == byte then Ok bytes else stop (first 
 abbrev pub count_digits : List ℕ → ℕ
 count_digits bytes = position_or_len (λ byte. not (is_ascii_digit byte)) bytes
 
--- a number in decimal digits, below 10 ^ 9
+-- a number in decimal digits, below the bound
 unfoldable pub number_at : List ℕ → Result (ℕ × List ℕ) Fault
 number_at bytes = let value = digits_value 10 (take (count_digits bytes) bytes) in
     if length bytes == 0 then stop bytes Truncated
     else if count_digits bytes == 0 then stop bytes BadNumber
-    else if nat_le (10 ^ 9) value then stop bytes LongNumber
+    else if nat_le NUMBER_BOUND value then stop bytes LongNumber
     else Ok (value, drop (count_digits bytes) bytes)
 
 -- a literal of these variables, which has a line of its own

@@ -2,3 +2,4 @@ pub mod Circuit
 pub mod Fields
 pub mod Reading
 pub mod Causes
+pub mod Laws

@@ -5,7 +5,7 @@ use Rattle.std.specs.List.{list_any, position_or_len, slice_index_or}
 use Rattle.std.specs.Str.{bytes_eq}
 use Rattle.std.specs.Char.{is_ascii_digit}
 use Rattle.lattice.specs.declared.limits.TheConstants.{MAX_VARS}
-use Rattle.aig_reader.specs.declared.circuit.TheConstants.{MAX_GATES}
+use Rattle.aig_reader.specs.declared.circuit.TheConstants.{MAX_GATES, MAX_OUTPUTS}
 use Rattle.aig_reader.specs.declared.refusal.Why.{Why}
 use Rattle.aig_reader.specs.declared.refusal.Why.TheVariants.{NoFormat, Ascii, VariableCount, TooManyInputs, TooManyOutputs, TooManyGates}
 use Rattle.aig_reader.specs.declared.refusal.Why.TheVariants.{Latch, Property, BadSymbol, SymbolRange, Twice}
@@ -42,7 +42,7 @@ header_end_at bytes = if slice_index_or bytes 0 0 == 32 then stop bytes Property
 -- sizes within the limits
 pub record AreFew (sizes : Sizes) : Type 0 where
   pub inputs : sizes.inputs ≤ MAX_VARS
-  pub outputs : sizes.outputs ≤ 64
+  pub outputs : sizes.outputs ≤ MAX_OUTPUTS
   pub gates : sizes.gates ≤ MAX_GATES
 
 -- the sizes
@@ -51,7 +51,7 @@ sizes_at bytes = do
   variables ← size_at (MAX_VARS + MAX_GATES) VariableCount bytes
   inputs ← size_at MAX_VARS TooManyInputs variables.1
   latches ← size_at 0 Latch inputs.1
-  outputs ← size_at 64 TooManyOutputs latches.1
+  outputs ← size_at MAX_OUTPUTS TooManyOutputs latches.1
   gates ← size_at MAX_GATES TooManyGates outputs.1
   if variables.0 == inputs.0 + gates.0 then Ok (record { inputs = inputs.0; outputs = outputs.0; gates = gates.0 }, gates.1)
       else stop bytes VariableCount

@@ -10,8 +10,8 @@ ghost use Rattle.aig_reader.specs.Fields.{difference_at, operand_at, gate_at};
 use crate::circuit::Gate;
 use crate::refusal::{Fault, Stop, Why};
 
-/// What no number is above, once it is read.
-const CAP: u64 = 1_000_000_000;
+/// What each number is below.
+const NUMBER_BOUND: u64 = 1_000_000_000;
 
 /// The fault at the front of the bytes.
 pub fn fault_at(bytes: &[u8], why: Why) -> Stop
@@ -49,11 +49,11 @@ fn count_digits(bytes: &[u8]) -> usize
 /// The number that the digits write, or the cap where it is more.
 fn value_of(digits: &[u8]) -> u64
     requires { list_all is_ascii_digit digits.now ≡ true }
-    ensures { result ≡ min CAP (digits_value 10 digits.now) }
+    ensures { result ≡ min NUMBER_BOUND (digits_value 10 digits.now) }
 {
     let mut value = 0u64;
     for digit in digits {
-        value = (value * 10 + u64::from(*digit - b'0')).min(CAP);
+        value = (value * 10 + u64::from(*digit - b'0')).min(NUMBER_BOUND);
     }
     value
 }
@@ -72,7 +72,7 @@ pub fn number_at(bytes: &[u8]) -> Result<(u32, &[u8]), Stop>
     }
     let (digits, rest) = bytes.split_at(count);
     let value = value_of(digits);
-    if value >= CAP {
+    if value >= NUMBER_BOUND {
         return Err(fault_at(bytes, Why::LongNumber));
     }
     Ok((value as u32, rest))

@@ -1,14 +1,13 @@
 //! The header of a file.
 ghost use Rattle.std.specs.Prelude.{◌≡◌, ◌+◌, ◌<◌, ◌≤◌, IfOk};
 ghost use Rattle.aig_reader.specs.Fields.{Gives};
-ghost use Rattle.aig_reader.specs.Reading.{AreFew, format_at, size_at, header_end_at, sizes_at, header_at};
+ghost use Rattle.aig_reader.specs.Reading.{AreFew, format_at, size_at, header_end_at};
+ghost use Rattle.aig_reader.specs.Reading.{sizes_at, header_at};
 
-use crate::circuit::MAX_GATES;
+use crate::circuit::{MAX_GATES, MAX_OUTPUTS};
 use crate::fields::{behind, fault_at, number_at};
 use crate::refusal::{Stop, Why};
 use lattice::MAX_VARS;
-
-const MOST_OUTPUTS: u32 = 64;
 
 /// The numbers of inputs, outputs and gates.
 #[derive(Clone, Copy)]
@@ -64,7 +63,7 @@ fn sizes_at(bytes: &[u8]) -> Result<(Sizes, &[u8]), Stop>
     let (variables, rest) = size_at(MAX_VARS + MAX_GATES, Why::VariableCount, bytes)?;
     let (inputs, rest) = size_at(MAX_VARS, Why::TooManyInputs, rest)?;
     let (_, rest) = size_at(0, Why::Latch, rest)?;
-    let (outputs, rest) = size_at(MOST_OUTPUTS, Why::TooManyOutputs, rest)?;
+    let (outputs, rest) = size_at(MAX_OUTPUTS, Why::TooManyOutputs, rest)?;
     let (gates, rest) = size_at(MAX_GATES, Why::TooManyGates, rest)?;
     if variables != inputs + gates {
         return Err(fault_at(bytes, Why::VariableCount));

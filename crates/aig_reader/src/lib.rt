@@ -4,11 +4,13 @@
 mod circuit;
 mod fields;
 mod header;
+mod laws;
 mod lines;
 mod reading;
 mod refusal;
 mod symbols;
 
-pub use crate::circuit::{Aig, Gate, Gates, Literals, MAX_GATES};
+pub use crate::circuit::{Aig, Gate, Gates, Literals, MAX_GATES, MAX_OUTPUTS};
+pub use crate::laws::{one_value, some_value};
 pub use crate::reading::{MOST_BYTES, read};
 pub use crate::refusal::{ReadRefusal, Refusal, Why};

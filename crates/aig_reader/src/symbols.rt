@@ -2,8 +2,8 @@
 ghost use Rattle.std.specs.Prelude.{◌≡◌, ◌≤◌, List, ℕ, [], length, replicate, MatchResult};
 ghost use Rattle.aig_reader.specs.declared.refusal.Stop.TheVariants.{Memory};
 ghost use Rattle.aig_reader.specs.Fields.{Gives};
-ghost use Rattle.aig_reader.specs.Reading.{Names, names, line_length, name_at, letter_why, symbol_at};
-ghost use Rattle.aig_reader.specs.Reading.{are_over, symbols_at, no_names};
+ghost use Rattle.aig_reader.specs.Reading.{Names, names, line_length, name_at, letter_why};
+ghost use Rattle.aig_reader.specs.Reading.{symbol_at, are_over, symbols_at, no_names};
 
 use crate::fields::{behind, fault_at, number_at};
 use crate::header::Sizes;

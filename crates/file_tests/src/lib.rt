@@ -3,6 +3,8 @@
 #![tactic(auto)]
 
 #[cfg(test)]
+mod of_aig_reader;
+#[cfg(test)]
 mod of_anf_printer;
 #[cfg(test)]
 mod of_cert_check;

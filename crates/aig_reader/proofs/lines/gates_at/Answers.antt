@@ -7,8 +7,8 @@ use Rattle.aig_reader.proofs.lines.gates_at.Goals as goal
 pub returns-in_err-gate : goal.returns-in_err-gate
 returns-in_err-gate c =
     let p = err_from_is_err_and c.from_residual.result c.from_residual.ensures.1 in
-    rw (p.1, p.2) (stops (λ k. gate_at (2 * (c.args.inputs + 1 + k))) _ _ _ _ _ c.loop-k.invariant c.in_err-gate.field-0.0 c.loop-k-test.true
-    c.in_err-gate.ensures)
+    rw (p.1, p.2) (stops (λ k. gate_at (2 * (c.args.inputs + 1 + k))) _ _ _ _ _ c.loop-k.invariant c.in_err-gate.field-0.0
+    c.loop-k-test.true c.in_err-gate.ensures)
 
 pub loop-k-preserved : goal.loop-k-preserved
 loop-k-preserved c =

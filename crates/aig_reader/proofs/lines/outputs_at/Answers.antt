@@ -7,7 +7,8 @@ pub returns-in_err-literal : goal.returns-in_err-literal
 returns-in_err-literal c =
     let p = err_from_is_err_and c.from_residual.result c.from_residual.ensures.1 in
     rw (p.1, p.2)
-    (stops (λ k. literal_at c.args.variables) _ _ _ _ _ c.loop.invariant c.in_err-literal.field-0.0 c.loop-test.true c.in_err-literal.ensures)
+    (stops (λ k. literal_at c.args.variables) _ _ _ _ _ c.loop.invariant c.in_err-literal.field-0.0 c.loop-test.true
+    c.in_err-literal.ensures)
 
 pub loop-preserved : goal.loop-preserved
 loop-preserved c =

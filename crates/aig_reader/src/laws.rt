@@ -1,0 +1,13 @@
+//! Functions that do nothing. Their contracts are the laws of `specs/Laws.antt`, so a check proves
+//! these.
+ghost use Rattle.aig_reader.specs.Laws.{OneValue, SomeValue};
+
+/// A literal has one value at most at a point.
+pub fn one_value()
+    ensures { OneValue }
+{}
+
+/// Each literal of a circuit has a value at each point.
+pub fn some_value()
+    ensures { SomeValue }
+{}
