@@ -1,19 +1,22 @@
 -- What is read is a circuit.
-use Rattle.std.proofs.Common.{◌≡◌, ℕ, zero, suc, ◌-◌, ◌+◌, ◌*◌, ◌≤◌, ◌<◌, Bool, true, false, not, cond, leb, ltb, eqb, ◌||◌}
-use Rattle.std.proofs.Common.{List, [], ◌∷◌, length, get_or, set, take, drop}
-use Rattle.std.proofs.Common.{inl, inr, ◌⊎◌, Some, Result, Ok, Err, refl, sym, ap, ◌∙◌, subst, arith}
+use Rattle.std.proofs.Common.{◌≡◌, ℕ, zero, suc, ◌-◌, ◌+◌, ◌*◌, ◌/◌, ◌%◌, ◌≤◌, ◌<◌, Bool, true, false, not, cond, leb, ltb, eqb, ◌||◌, ◌&&◌}
+use Rattle.std.proofs.Common.{List, [], ◌∷◌, length, get_or, set, take, drop, replicate, inl, inr, ◌⊎◌, Some, Result, Ok, Err}
+use Rattle.std.proofs.Common.{refl, sym, ap, ◌∙◌, subst, arith}
 use Rattle.std.specs.Prelude.{slice_get}
-use Rattle.std.proofs.lemmas.Bool.{ltb-false}
+use Rattle.std.proofs.lemmas.Bool.{ltb-false, leb-false}
 use Rattle.std.proofs.lemmas.Bool.Decides.{nat_tests}
 use Rattle.std.proofs.lemmas.Option.{get_or_from_slice_get, slice_get_within}
 use Rattle.std.proofs.lemmas.List.{length-set, length-replicate}
-use Rattle.aig_reader.specs.declared.refusal.Why.TheVariants.{LiteralRange, GateOrder}
+use Rattle.aig_reader.specs.declared.refusal.Why.TheVariants.{LiteralRange, GateOrder, NotBefore}
 use Rattle.aig_reader.specs.declared.refusal.Fault.{Fault}
 use Rattle.aig_reader.specs.declared.circuit.Gate.{Gate}
 use Rattle.aig_reader.specs.declared.header.Sizes.{Sizes}
 use Rattle.aig_reader.specs.Circuit.{IsCircuit}
-use Rattle.aig_reader.specs.Fields.{◌>>=◌, stop, behind, number_at, literal_at, difference_at, operand_at, gate_at, many}
-use Rattle.aig_reader.specs.Reading.{AreFew, Names, no_names, line_length, name_at, symbol_at, are_over, symbols_at}
+use Rattle.aig_reader.specs.Fields.{◌>>=◌, stop, behind, number_at, literal_at, output_at}
+use Rattle.aig_reader.specs.Fields.{difference_at, operand_at, gate_at, many, through}
+use Rattle.aig_reader.specs.Ascii.{variable_at, input_line_at, gate_line_at, IsUpTo, renamed, renamed_at, renamed_output_at}
+use Rattle.aig_reader.specs.Ascii.{renamed_operand_at, renamed_gate_at}
+use Rattle.aig_reader.specs.Reading.{AreFew, Names, no_names, line_length, name_at, symbol_at, are_over, symbols_at, table_at}
 
 abbrev stopped : {A : Type 0} → Fault → Result A Fault
 stopped d = Err d
@@ -78,12 +81,16 @@ many_are_so P read so (suc count) first bytes x e =
 literal_below : (variables : ℕ) (bytes : List ℕ) (x : ℕ × List ℕ) → literal_at variables bytes ≡ Ok x → x.0 < 2 * (variables + 1)
 unfolding literal_at
 literal_below variables bytes x e =
-    let a = bind_ok (number_at bytes)
-    (λ l. behind 10 l.1 >>= λ rest. cond (ltb (2 * variables + 1) l.0) (stop bytes LiteralRange) (Ok (l.0, rest))) x e in
-    let b = bind_ok (behind 10 a.0.1) (λ rest. cond (ltb (2 * variables + 1) a.0.0) (stop bytes LiteralRange) (Ok (a.0.0, rest))) x a.2 in
-    let g = guard_ok (ltb (2 * variables + 1) a.0.0) _ (Ok (a.0.0, b.0)) x b.2 in
-    let few = ltb-false _ _ g.0 in
-    subst (λ y. y.0 < 2 * (variables + 1)) (ok_is (a.0.0, b.0) x g.1) (omega (arith, few))
+    let a = bind_ok (number_at bytes) (λ l. cond (ltb (2 * variables + 1) l.0) (stop bytes LiteralRange) (Ok l)) x e in
+    let g = guard_ok (ltb (2 * variables + 1) a.0.0) _ (Ok a.0) x a.2 in
+    let few = ltb-false _ _ g.0 in subst (λ y. y.0 < 2 * (variables + 1)) (ok_is a.0 x g.1) (omega (arith, few))
+
+output_below : (variables : ℕ) (bytes : List ℕ) (x : ℕ × List ℕ) → output_at variables bytes ≡ Ok x → x.0 < 2 * (variables + 1)
+unfolding output_at
+output_below variables bytes x e =
+    let a = bind_ok (literal_at variables bytes) (λ l. behind 10 l.1 >>= λ rest. Ok (l.0, rest)) x e in
+    let b = bind_ok (behind 10 a.0.1) (λ rest. Ok (a.0.0, rest)) x a.2 in
+    subst (λ y. y.0 < 2 * (variables + 1)) (ok_is (a.0.0, b.0) x b.2) (literal_below variables bytes a.0 a.1)
 
 operand_below : (least literal : ℕ) (bytes : List ℕ) (x : ℕ × List ℕ) → operand_at least literal bytes ≡ Ok x → x.0 + least ≤ literal
 unfolding operand_at
@@ -150,31 +157,154 @@ symbols_count (suc left) names bytes x e = elim (chosen (are_over bytes) _ _ _ e
       record { inputs = others.inputs ∙ one.inputs; outputs = others.outputs ∙ one.outputs }
 ]
 
+-- ---- tables
+
+-- where each step keeps what is so of the state, so do all of them
+through_keeps : {S : Type 0} (P : S → Type 0) (step : ℕ → S → List ℕ → Result (S × List ℕ) Fault) (end : ℕ)
+    → ((k : ℕ) (s : S) (bytes : List ℕ) (x : S × List ℕ) → k < end → P s → step k s bytes ≡ Ok x → P x.0)
+    → (count first : ℕ) (s : S) (bytes : List ℕ) (x : S × List ℕ) → first + count ≤ end → P s → through step first count s bytes ≡ Ok x
+    → P x.0
+unfolding through
+through_keeps P step end keeps zero first s bytes x le so e = subst (λ y. P y.0) (ok_is (s, bytes) x e) so
+through_keeps P step end keeps (suc count) first s bytes x le so e =
+    let a = bind_ok (step first s bytes) (λ n. through step (first + 1) count n.0 n.1) x e in
+    through_keeps P step end keeps count (first + 1) a.0.0 a.0.1 x (omega arith) (keeps first s bytes a.0 (omega arith) so a.1) a.2
+
+set_up_to : (most : ℕ) (table : List ℕ) (i n : ℕ) → n ≤ most → IsUpTo most table → IsUpTo most (set table i n)
+set_up_to most [] i n le all j = all j
+set_up_to most (x ∷ table) zero n le all zero = le
+set_up_to most (x ∷ table) zero n le all (suc j) = all (suc j)
+set_up_to most (x ∷ table) (suc i) n le all zero = all zero
+set_up_to most (x ∷ table) (suc i) n le all (suc j) = set_up_to most table i n le (λ k. all (suc k)) j
+
+pub zeros_up_to : (most n : ℕ) → IsUpTo most (replicate n 0)
+zeros_up_to most zero i = omega arith
+zeros_up_to most (suc n) zero = omega arith
+zeros_up_to most (suc n) (suc i) = zeros_up_to most n i
+
+variable_up_to : (most number : ℕ) (table bytes : List ℕ) (x : List ℕ × List ℕ) → number ≤ most → IsUpTo most table
+    → variable_at number table bytes ≡ Ok x → IsUpTo most x.0
+unfolding variable_at
+variable_up_to most number table bytes x le all e =
+    let a = bind_ok (literal_at (length table - 1) bytes) _ x e in
+    let g = guard_ok (ltb a.0.0 2 || eqb (a.0.0 % 2) 1) _ _ x a.2 in
+    let h = guard_ok (not (eqb (get_or table (a.0.0 / 2) 0) 0)) _ _ x g.1 in
+    subst (λ y. IsUpTo most y.0) (ok_is (set table (a.0.0 / 2) number, a.0.1) x h.1) (set_up_to most table (a.0.0 / 2) number le all)
+
+input_up_to : (most k : ℕ) (table bytes : List ℕ) (x : List ℕ × List ℕ) → k < most → IsUpTo most table
+    → input_line_at k table bytes ≡ Ok x → IsUpTo most x.0
+unfolding input_line_at
+input_up_to most k table bytes x lt all e =
+    let a = bind_ok (variable_at (k + 1) table bytes) (λ d. behind 10 d.1 >>= λ rest. Ok (d.0, rest)) x e in
+    let b = bind_ok (behind 10 a.0.1) (λ rest. Ok (a.0.0, rest)) x a.2 in
+    subst (λ y. IsUpTo most y.0) (ok_is (a.0.0, b.0) x b.2) (variable_up_to most (k + 1) table bytes a.0 (omega arith) all a.1)
+
+gate_up_to : (most inputs k : ℕ) (table bytes : List ℕ) (x : List ℕ × List ℕ) → inputs + k < most → IsUpTo most table
+    → gate_line_at inputs k table bytes ≡ Ok x → IsUpTo most x.0
+unfolding gate_line_at
+gate_up_to most inputs k table bytes x lt all e =
+    let a = bind_ok (variable_at (inputs + 1 + k) table bytes) _ x e in let b = bind_ok (behind 32 a.0.1) _ x a.2 in
+    let d = bind_ok (literal_at (length table - 1) b.0) _ x b.2 in let f = bind_ok (behind 32 d.0.1) _ x d.2 in
+    let g = bind_ok (literal_at (length table - 1) f.0) _ x f.2 in let h = bind_ok (behind 10 g.0.1) (λ rest. Ok (a.0.0, rest)) x g.2 in
+    subst (λ y. IsUpTo most y.0) (ok_is (a.0.0, h.0) x h.2) (variable_up_to most (inputs + 1 + k) table bytes a.0 (omega arith) all a.1)
+
+pub table_up_to : (sizes : Sizes) (table bytes : List ℕ) (x : List ℕ × List ℕ) → IsUpTo (sizes.inputs + sizes.gates) table
+    → table_at sizes table bytes ≡ Ok x → IsUpTo (sizes.inputs + sizes.gates) x.0
+unfolding table_at
+table_up_to sizes table bytes x all e =
+    let most = sizes.inputs + sizes.gates in
+    let a = bind_ok (through input_line_at 0 sizes.inputs table bytes) _ x e in
+    let b = bind_ok (many (λ k. output_at sizes.variables) 0 sizes.outputs a.0.1) _ x a.2 in
+    let d = bind_ok (through (gate_line_at sizes.inputs) 0 sizes.gates a.0.0 b.0.1) (λ g. Ok (g.0, a.0.1)) x b.2 in
+    let inputs = through_keeps (IsUpTo most) input_line_at sizes.inputs (λ k s cs y lt so. input_up_to most k s cs y (omega arith) so)
+    sizes.inputs 0 table bytes a.0 (omega arith) all a.1 in
+    let gates = through_keeps (IsUpTo most) (gate_line_at sizes.inputs) sizes.gates
+    (λ k s cs y lt so. gate_up_to most sizes.inputs k s cs y (omega arith) so) sizes.gates 0 a.0.0 b.0.1 d.0 (omega arith) inputs d.1 in
+    subst (λ y. IsUpTo most y.0) (ok_is (d.0.0, a.0.1) x d.2) gates
+
+renamed_below : (most : ℕ) (table bytes : List ℕ) (x : ℕ × List ℕ) → IsUpTo most table → renamed_at table bytes ≡ Ok x
+    → x.0 < 2 * (most + 1)
+unfolding renamed_at
+renamed_below most table bytes x all e =
+    let a = bind_ok (literal_at (length table - 1) bytes) _ x e in
+    let g = guard_ok (leb 2 a.0.0 && eqb (get_or table (a.0.0 / 2) 0) 0) _ _ x a.2 in
+    subst (λ y. y.0 < 2 * (most + 1)) (ok_is (renamed table a.0.0, a.0.1) x g.1) (omega (arith, all (a.0.0 / 2)))
+
+renamed_output_below : (most : ℕ) (table bytes : List ℕ) (x : ℕ × List ℕ) → IsUpTo most table → renamed_output_at table bytes ≡ Ok x
+    → x.0 < 2 * (most + 1)
+unfolding renamed_output_at
+renamed_output_below most table bytes x all e =
+    let a = bind_ok (renamed_at table bytes) (λ l. behind 10 l.1 >>= λ rest. Ok (l.0, rest)) x e in
+    let b = bind_ok (behind 10 a.0.1) (λ rest. Ok (a.0.0, rest)) x a.2 in
+    subst (λ y. y.0 < 2 * (most + 1)) (ok_is (a.0.0, b.0) x b.2) (renamed_below most table bytes a.0 all a.1)
+
+renamed_operand_below : (table : List ℕ) (literal : ℕ) (bytes : List ℕ) (x : ℕ × List ℕ) → renamed_operand_at table literal bytes ≡ Ok x
+    → x.0 < literal
+unfolding renamed_operand_at
+renamed_operand_below table literal bytes x e =
+    let a = bind_ok (renamed_at table bytes) (λ o. cond (leb literal o.0) (stop bytes NotBefore) (Ok o)) x e in
+    let g = guard_ok (leb literal a.0.0) _ (Ok a.0) x a.2 in
+    subst (λ y. y.0 < literal) (ok_is a.0 x g.1) (leb-false _ _ g.0)
+
+renamed_gate_below : (table : List ℕ) (literal : ℕ) (bytes : List ℕ) (x : Gate × List ℕ) → renamed_gate_at table literal bytes ≡ Ok x
+    → (x.0.left < literal) × (x.0.right < literal)
+unfolding renamed_gate_at
+renamed_gate_below table literal bytes x e =
+    let a = bind_ok (number_at bytes) _ x e in let b = bind_ok (behind 32 a.0.1) _ x a.2 in
+    let d = bind_ok (renamed_operand_at table literal b.0) _ x b.2 in let f = bind_ok (behind 32 d.0.1) _ x d.2 in
+    let g = bind_ok (renamed_operand_at table literal f.0) _ x f.2 in let h = bind_ok (behind 10 g.0.1) _ x g.2 in
+    let made : Gate × List ℕ = (record { left = d.0.0; right = g.0.0 }, h.0) in
+    subst (λ y. (y.0.left < literal) × (y.0.right < literal)) (ok_is made x h.2)
+    (renamed_operand_below table literal b.0 d.0 d.1, renamed_operand_below table literal f.0 g.0 g.1)
+
 -- ---- the whole
 
-pub is_circuit : (sizes : Sizes) (start middle later : List ℕ) (outputs : List ℕ) (gates : List Gate) (names : Names) (few : AreFew sizes)
-    → many (λ k. literal_at (sizes.inputs + sizes.gates)) 0 sizes.outputs start ≡ Ok (outputs, middle)
-    → many (λ k. gate_at (2 * (sizes.inputs + 1 + k))) 0 sizes.gates middle ≡ Ok (gates, later)
-    → symbols_at (length later) (no_names sizes) later ≡ Ok names
-    → IsCircuit sizes.inputs gates outputs names.inputs names.outputs
-is_circuit sizes start middle later outputs gates names few e f g =
-    let o = many_are_so (λ k literal. literal < 2 * (sizes.inputs + sizes.gates + 1)) (λ k. literal_at (sizes.inputs + sizes.gates))
-    (λ k bytes x. literal_below (sizes.inputs + sizes.gates) bytes x) sizes.outputs 0 start (outputs, middle) e in
-    let p = many_are_so (λ k gate. (gate.left < 2 * (sizes.inputs + 1 + k)) × (gate.right < 2 * (sizes.inputs + 1 + k)))
-    (λ k. gate_at (2 * (sizes.inputs + 1 + k))) (λ k bytes x. gate_below (2 * (sizes.inputs + 1 + k)) bytes x) sizes.gates 0 middle
-    (gates, later) f in
-    let facts : (k : ℕ) (gate : Gate) → slice_get gates k ≡ Some gate
-    → (gate.left < 2 * (sizes.inputs + 1 + k)) × (gate.right < 2 * (sizes.inputs + 1 + k)) = λ k gate is.
-    let within : k < sizes.gates = omega (arith, slice_get_within gates k gate is, p.count_is) in
-    let here = rw (get_or_from_slice_get gates k gate gate is) at (p.each k gate within) in
-    (omega (arith, here.0), omega (arith, here.1)) in
-    let q = symbols_count (length later) (no_names sizes) later names g in record {
-      few_inputs = few.inputs;
-      few_gates = rw p.count_is few.gates;
-      few_outputs = rw o.count_is few.outputs;
-      left = λ k gate is. (facts k gate is).0;
-      right = λ k gate is. (facts k gate is).1;
-      literals = λ k d lt. omega (arith, o.each k d (omega (arith, o.count_is)), p.count_is);
-      in_count = q.inputs ∙ length-replicate sizes.inputs [];
-      out_count = q.outputs ∙ length-replicate sizes.outputs [] ∙ sym o.count_is;
-    }
+-- what is read one behind the other fits together
+module _ (sizes : Sizes) (few : AreFew sizes) (outputs : List ℕ) (gates : List Gate) (names : Names)
+    (o : AreSo (λ k literal. literal < 2 * (sizes.inputs + sizes.gates + 1)) 0 sizes.outputs outputs)
+    (p : AreSo (λ k gate. (gate.left < 2 * (sizes.inputs + 1 + k)) × (gate.right < 2 * (sizes.inputs + 1 + k))) 0 sizes.gates gates)
+    (q : CountsAs (no_names sizes) names) where
+  facts : (k : ℕ) (gate : Gate) → slice_get gates k ≡ Some gate
+      → (gate.left < 2 * (sizes.inputs + 1 + k)) × (gate.right < 2 * (sizes.inputs + 1 + k))
+  facts k gate is =
+      let within : k < sizes.gates = omega (arith, slice_get_within gates k gate is, p.count_is) in
+      let here = rw (get_or_from_slice_get gates k gate gate is) at (p.each k gate within) in
+      (omega (arith, here.0), omega (arith, here.1))
+
+  fits : IsCircuit sizes.inputs gates outputs names.inputs names.outputs
+  fits = record {
+    few_inputs = few.inputs;
+    few_gates = rw p.count_is few.gates;
+    few_outputs = rw o.count_is few.outputs;
+    left = λ k gate is. (facts k gate is).0;
+    right = λ k gate is. (facts k gate is).1;
+    literals = λ k d lt. omega (arith, o.each k d (omega (arith, o.count_is)), p.count_is);
+    in_count = q.inputs ∙ length-replicate sizes.inputs [];
+    out_count = q.outputs ∙ length-replicate sizes.outputs [] ∙ sym o.count_is;
+  }
+
+module _ (sizes : Sizes) (few : AreFew sizes) (start middle later : List ℕ) (outputs : List ℕ) (gates : List Gate) (names : Names)
+    (symbols : symbols_at (length later) (no_names sizes) later ≡ Ok names) where
+  pub binary_fits : sizes.variables ≡ sizes.inputs + sizes.gates
+      → many (λ k. output_at sizes.variables) 0 sizes.outputs start ≡ Ok (outputs, middle)
+      → many (λ k. gate_at (2 * (sizes.inputs + 1 + k))) 0 sizes.gates middle ≡ Ok (gates, later)
+      → IsCircuit sizes.inputs gates outputs names.inputs names.outputs
+  binary_fits all e f =
+      let o = many_are_so (λ k literal. literal < 2 * (sizes.inputs + sizes.gates + 1)) (λ k. output_at sizes.variables)
+      (λ k bytes x is. omega (arith, output_below sizes.variables bytes x is, all)) sizes.outputs 0 start (outputs, middle) e in
+      let p = many_are_so (λ k gate. (gate.left < 2 * (sizes.inputs + 1 + k)) × (gate.right < 2 * (sizes.inputs + 1 + k)))
+      (λ k. gate_at (2 * (sizes.inputs + 1 + k))) (λ k bytes x. gate_below (2 * (sizes.inputs + 1 + k)) bytes x) sizes.gates 0
+      middle (gates, later) f in
+      fits sizes few outputs gates names o p (symbols_count (length later) (no_names sizes) later names symbols)
+
+  pub ascii_fits : (table : List ℕ) → IsUpTo (sizes.inputs + sizes.gates) table
+      → many (λ k. renamed_output_at table) 0 sizes.outputs start ≡ Ok (outputs, middle)
+      → many (λ k. renamed_gate_at table (2 * (sizes.inputs + 1 + k))) 0 sizes.gates middle ≡ Ok (gates, later)
+      → IsCircuit sizes.inputs gates outputs names.inputs names.outputs
+  ascii_fits table all e f =
+      let o = many_are_so (λ k literal. literal < 2 * (sizes.inputs + sizes.gates + 1)) (λ k. renamed_output_at table)
+      (λ k bytes x is. renamed_output_below (sizes.inputs + sizes.gates) table bytes x all is) sizes.outputs 0 start (outputs, middle) e in
+      let p = many_are_so (λ k gate. (gate.left < 2 * (sizes.inputs + 1 + k)) × (gate.right < 2 * (sizes.inputs + 1 + k)))
+      (λ k. renamed_gate_at table (2 * (sizes.inputs + 1 + k)))
+      (λ k bytes x. renamed_gate_below table (2 * (sizes.inputs + 1 + k)) bytes x) sizes.gates 0 middle (gates, later) f in
+      fits sizes few outputs gates names o p (symbols_count (length later) (no_names sizes) later names symbols)

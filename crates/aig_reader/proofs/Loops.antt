@@ -5,7 +5,7 @@ use Rattle.std.proofs.lemmas.List.{append-nil}
 use Rattle.aig_reader.specs.declared.refusal.Fault.{Fault}
 use Rattle.aig_reader.specs.declared.refusal.Stop.{Stop}
 use Rattle.aig_reader.specs.declared.refusal.Stop.TheVariants.{Bad, Memory}
-use Rattle.aig_reader.specs.Fields.{◌>>=◌, Fails, many}
+use Rattle.aig_reader.specs.Fields.{◌>>=◌, Fails, many, through}
 
 -- what was read before, and what is still read
 abbrev pub with_front : {A : Type 0} → List A → Result (List A × List ℕ) Fault → Result (List A × List ℕ) Fault
@@ -41,3 +41,28 @@ module _ {A : Type 0} (read : ℕ → List ℕ → Result (A × List ℕ) Fault)
       let one : with_front front (many read k (count - k) bytes) ≡ Ok (front, bytes) =
       rw left (ap (λ ys. Ok (ys, bytes)) (append-nil front)) in
       sym so_far ∙ one
+
+-- ---- steps that change a state
+
+module _ {S : Type 0} (step : ℕ → S → List ℕ → Result (S × List ℕ) Fault) (state : S) (count k : ℕ) (bytes : List ℕ)
+    (total : Result (S × List ℕ) Fault) (so_far : through step k (count - k) state bytes ≡ total) where
+  pub steps : (next : S) (after : List ℕ) → k < count → step k state bytes ≡ Ok (next, after)
+      → through step (k + 1) (count - (k + 1)) next after ≡ total
+  unfolding through
+  steps next after lt reads =
+      let left : count - k ≡ suc (count - (k + 1)) = omega arith in
+      let one : through step k (count - k) state bytes ≡ through step (k + 1) (count - (k + 1)) next after = rw (left, reads) refl in
+      sym one ∙ so_far
+
+  pub breaks : (e : Stop) → k < count → Fails e (step k state bytes) → Fails e total
+  unfolding through
+  breaks Memory lt fails = tt
+  breaks (Bad fault) lt fails =
+      let left : count - k ≡ suc (count - (k + 1)) = omega arith in
+      let one : through step k (count - k) state bytes ≡ Err fault = rw (left, fails) refl in sym so_far ∙ one
+
+  pub is_through : count ≤ k → total ≡ Ok (state, bytes)
+  unfolding through
+  is_through le =
+      let left : count - k ≡ 0 = omega arith in
+      let one : through step k (count - k) state bytes ≡ Ok (state, bytes) = rw left refl in sym so_far ∙ one

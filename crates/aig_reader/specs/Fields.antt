@@ -51,12 +51,18 @@ number_at bytes = let value = digits_value 10 (take (count_digits bytes) bytes) 
     else if nat_le NUMBER_BOUND value then stop bytes LongNumber
     else Ok (value, drop (count_digits bytes) bytes)
 
--- a literal of these variables, which has a line of its own
+-- a literal of one of these variables
 unfoldable pub literal_at : (variables : ℕ) → List ℕ → Result (ℕ × List ℕ) Fault
 literal_at variables bytes = do
   literal ← number_at bytes
+  if nat_lt (2 * variables + 1) literal.0 then stop bytes LiteralRange else Ok literal
+
+-- one that has a line of its own
+unfoldable pub output_at : (variables : ℕ) → List ℕ → Result (ℕ × List ℕ) Fault
+output_at variables bytes = do
+  literal ← literal_at variables bytes
   rest ← behind 10 literal.1
-  if nat_lt (2 * variables + 1) literal.0 then stop bytes LiteralRange else Ok (literal.0, rest)
+  Ok (literal.0, rest)
 
 -- a difference of two literals in at most so many bytes, the low ones first: each byte has 7 bits of it, and 128 more where another
 -- byte follows
@@ -87,3 +93,10 @@ many read first (suc count) bytes = do
   value ← read first bytes
   values ← many read (first + 1) count value.1
   Ok (value.0 ∷ values.0, values.1)
+
+-- so many steps, one behind the other, each of which changes a state
+unfoldable pub through : {S : Type 0} → (ℕ → S → List ℕ → Result (S × List ℕ) Fault) → (first count : ℕ) → S → List ℕ → Result (S × List ℕ) Fault
+through step first zero state bytes = Ok (state, bytes)
+through step first (suc count) state bytes = do
+  next ← step first state bytes
+  through step (first + 1) count next.0 next.1

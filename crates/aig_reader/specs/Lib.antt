@@ -1,5 +1,6 @@
 pub mod Circuit
 pub mod Fields
+pub mod Ascii
 pub mod Reading
 pub mod Causes
 pub mod Laws

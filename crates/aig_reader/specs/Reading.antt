@@ -1,13 +1,13 @@
--- What a file in the binary form says, or why it is refused.
+-- What a file says, or why it is refused.
 use Rattle.std.specs.Prelude.{◌≡◌, ℕ, zero, suc, ◌+◌, ◌-◌, ◌*◌, ◌≤◌, Bool, true, not, ◌&&◌, ◌==◌, nat_lt, nat_le, List, [], ◌∷◌, length}
 use Rattle.std.specs.Prelude.{take, drop, replicate, codes, Result, Ok, Err, slice_set, if◌then◌else◌}
 use Rattle.std.specs.List.{list_any, position_or_len, slice_index_or}
 use Rattle.std.specs.Str.{bytes_eq}
 use Rattle.std.specs.Char.{is_ascii_digit}
 use Rattle.lattice.specs.declared.limits.TheConstants.{MAX_VARS}
-use Rattle.aig_reader.specs.declared.circuit.TheConstants.{MAX_GATES, MAX_OUTPUTS}
+use Rattle.aig_reader.specs.declared.circuit.TheConstants.{MAX_GATES, MAX_OUTPUTS, MAX_VARIABLES}
 use Rattle.aig_reader.specs.declared.refusal.Why.{Why}
-use Rattle.aig_reader.specs.declared.refusal.Why.TheVariants.{NoFormat, Ascii, VariableCount, TooManyInputs, TooManyOutputs, TooManyGates}
+use Rattle.aig_reader.specs.declared.refusal.Why.TheVariants.{NoFormat, VariableCount, TooManyInputs, TooManyOutputs, TooManyGates}
 use Rattle.aig_reader.specs.declared.refusal.Why.TheVariants.{Latch, Property, BadSymbol, SymbolRange, Twice}
 use Rattle.aig_reader.specs.declared.refusal.Fault.{Fault}
 use Rattle.aig_reader.specs.declared.refusal.Refusal.{Refusal}
@@ -17,16 +17,10 @@ use Rattle.aig_reader.specs.declared.header.Sizes.{Sizes}
 use Rattle.aig_reader.specs.declared.circuit.Aig.{Aig}
 use Rattle.aig_reader.specs.declared.symbols.Table.{Table}
 use Rattle.aig_reader.specs.Circuit.{Circuit}
-use Rattle.aig_reader.specs.Fields.{◌>>=◌, stop, behind, number_at, literal_at, gate_at, many}
+use Rattle.aig_reader.specs.Fields.{◌>>=◌, stop, behind, number_at, output_at, gate_at, many, through}
+use Rattle.aig_reader.specs.Ascii.{input_line_at, gate_line_at, renamed_output_at, renamed_gate_at}
 
 -- ---- the header
-
--- the word that begins the file
-unfoldable pub format_at : List ℕ → Result (List ℕ) Fault
-format_at bytes =
-    if bytes_eq (take 3 bytes) (codes "aig") then Ok (drop 3 bytes)
-    else if bytes_eq (take 3 bytes) (codes "aag") then stop bytes Ascii
-    else stop bytes NoFormat
 
 -- a number behind a space, at most so great
 unfoldable pub size_at : (most : ℕ) → Why → List ℕ → Result (ℕ × List ℕ) Fault
@@ -41,27 +35,21 @@ header_end_at bytes = if slice_index_or bytes 0 0 == 32 then stop bytes Property
 
 -- sizes within the limits
 pub record AreFew (sizes : Sizes) : Type 0 where
+  pub variables : sizes.variables ≤ MAX_VARIABLES
   pub inputs : sizes.inputs ≤ MAX_VARS
   pub outputs : sizes.outputs ≤ MAX_OUTPUTS
   pub gates : sizes.gates ≤ MAX_GATES
 
--- the sizes
+-- the sizes, and the bytes behind the header
 unfoldable pub sizes_at : List ℕ → Result (Sizes × List ℕ) Fault
 sizes_at bytes = do
-  variables ← size_at (MAX_VARS + MAX_GATES) VariableCount bytes
+  variables ← size_at MAX_VARIABLES VariableCount bytes
   inputs ← size_at MAX_VARS TooManyInputs variables.1
   latches ← size_at 0 Latch inputs.1
   outputs ← size_at MAX_OUTPUTS TooManyOutputs latches.1
   gates ← size_at MAX_GATES TooManyGates outputs.1
-  if variables.0 == inputs.0 + gates.0 then Ok (record { inputs = inputs.0; outputs = outputs.0; gates = gates.0 }, gates.1)
-      else stop bytes VariableCount
-
-unfoldable pub header_at : List ℕ → Result (Sizes × List ℕ) Fault
-header_at bytes = do
-  front ← format_at bytes
-  sizes ← sizes_at front
-  rest ← header_end_at sizes.1
-  Ok (sizes.0, rest)
+  rest ← header_end_at gates.1
+  Ok (record { variables = variables.0; inputs = inputs.0; outputs = outputs.0; gates = gates.0 }, rest)
 
 -- ---- the symbol table
 
@@ -113,19 +101,49 @@ symbols_at (suc left) names bytes = if are_over bytes then Ok names else (do
   symbol ← symbol_at names bytes
   symbols_at left symbol.0 symbol.1)
 
--- ---- the whole
-
 abbrev pub no_names : Sizes → Names
 no_names sizes = record { inputs = replicate sizes.inputs []; outputs = replicate sizes.outputs [] }
 
--- the header, the literals of the outputs, the gates and the symbols
+-- ---- the two forms, behind the word that begins the file
+
+-- the binary one: the header, the literals of the outputs, the gates and the symbols
+unfoldable pub binary_at : List ℕ → Result Circuit Fault
+binary_at bytes = do
+  header ← sizes_at bytes
+  if not (header.0.variables == header.0.inputs + header.0.gates) then stop bytes VariableCount else (do
+    outputs ← many (λ k. output_at header.0.variables) 0 header.0.outputs header.1
+    gates ← many (λ k. gate_at (2 * (header.0.inputs + 1 + k))) 0 header.0.gates outputs.1
+    names ← symbols_at (length gates.1) (no_names header.0) gates.1
+    Ok (record { inputs = header.0.inputs; gates = gates.0; outputs = outputs.0; in_names = names.inputs; out_names = names.outputs }))
+
+-- the ASCII one: the header, the literals of the inputs, those of the outputs, the gates and the symbols. First all lines fill a
+-- table, of which the bytes from the outputs' lines on are kept
+unfoldable pub table_at : Sizes → (table : List ℕ) → List ℕ → Result (List ℕ × List ℕ) Fault
+table_at sizes table bytes = do
+  inputs ← through input_line_at 0 sizes.inputs table bytes
+  outputs ← many (λ k. output_at sizes.variables) 0 sizes.outputs inputs.1
+  gates ← through (gate_line_at sizes.inputs) 0 sizes.gates inputs.0 outputs.1
+  Ok (gates.0, inputs.1)
+
+-- then the lines from there on are read by it
+unfoldable pub by_table_at : Sizes → (table : List ℕ) → List ℕ → Result Circuit Fault
+by_table_at sizes table bytes = do
+  outputs ← many (λ k. renamed_output_at table) 0 sizes.outputs bytes
+  gates ← many (λ k. renamed_gate_at table (2 * (sizes.inputs + 1 + k))) 0 sizes.gates outputs.1
+  names ← symbols_at (length gates.1) (no_names sizes) gates.1
+  Ok (record { inputs = sizes.inputs; gates = gates.0; outputs = outputs.0; in_names = names.inputs; out_names = names.outputs })
+
+unfoldable pub ascii_at : List ℕ → Result Circuit Fault
+ascii_at bytes = do
+  header ← sizes_at bytes
+  table ← table_at header.0 (replicate (header.0.variables + 1) 0) header.1
+  by_table_at header.0 table.0 table.1
+
 unfoldable pub circuit_at : List ℕ → Result Circuit Fault
-circuit_at bytes = do
-  header ← header_at bytes
-  outputs ← many (λ k. literal_at (header.0.inputs + header.0.gates)) 0 header.0.outputs header.1
-  gates ← many (λ k. gate_at (2 * (header.0.inputs + 1 + k))) 0 header.0.gates outputs.1
-  names ← symbols_at (length gates.1) (no_names header.0) gates.1
-  Ok (record { inputs = header.0.inputs; gates = gates.0; outputs = outputs.0; in_names = names.inputs; out_names = names.outputs })
+circuit_at bytes =
+    if bytes_eq (take 3 bytes) (codes "aig") then binary_at (drop 3 bytes)
+    else if bytes_eq (take 3 bytes) (codes "aag") then ascii_at (drop 3 bytes)
+    else stop bytes NoFormat
 
 -- with the number of bytes before a fault
 abbrev pub placed : {A : Type 0} → (bytes : List ℕ) → Result A Fault → Result A Refusal

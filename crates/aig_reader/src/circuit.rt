@@ -10,6 +10,9 @@ pub const MAX_GATES: u32 = 1_000_000;
 /// The greatest number of outputs.
 pub const MAX_OUTPUTS: u32 = 64;
 
+/// The greatest variable.
+pub const MAX_VARIABLES: u32 = 2_000_000;
+
 /// A gate: it is 1 where both of its operands, which are literals, are 1.
 #[derive(Clone, Copy, PartialEq, Eq, Debug)]
 pub struct Gate {

@@ -5,7 +5,7 @@ ghost use Rattle.std.specs.Char.{is_ascii_digit};
 ghost use Rattle.std.specs.Str.Parse.{digits_value};
 ghost use Rattle.aig_reader.specs.declared.refusal.Stop.TheVariants.{Bad};
 ghost use Rattle.aig_reader.specs.Fields.{Gives, count_digits, behind, number_at, literal_at};
-ghost use Rattle.aig_reader.specs.Fields.{difference_at, operand_at, gate_at};
+ghost use Rattle.aig_reader.specs.Fields.{output_at, difference_at, operand_at, gate_at};
 
 use crate::circuit::Gate;
 use crate::refusal::{Fault, Stop, Why};
@@ -78,18 +78,28 @@ pub fn number_at(bytes: &[u8]) -> Result<(u32, &[u8]), Stop>
     Ok((value as u32, rest))
 }
 
-/// The literal of one of so many variables, which has a line of its own, and what follows it.
+/// The literal of one of so many variables, and what follows it.
 #[tactic(auto, unfolding(crate::specs::Fields::literal_at))]
 pub fn literal_at(variables: u32, bytes: &[u8]) -> Result<(u32, &[u8]), Stop>
     requires { variables < 2 ^ 30 }
-    ensures { Gives (λ x. (x.0, x.1.now)) result (literal_at variables bytes.now) }
+    ensures literal { Gives (λ x. (x.0, x.1.now)) result (literal_at variables bytes.now) }
+    ensures within { IfOk result (λ x. x.0 ≤ 2 * variables + 1) }
 {
     let (literal, rest) = number_at(bytes)?;
-    let rest = behind(b'\n', rest)?;
     if literal > 2 * variables + 1 {
         return Err(fault_at(bytes, Why::LiteralRange));
     }
     Ok((literal, rest))
+}
+
+/// The literal of one of so many variables, which has a line of its own, and what follows it.
+#[tactic(auto, unfolding(crate::specs::Fields::output_at))]
+pub fn output_at(variables: u32, bytes: &[u8]) -> Result<(u32, &[u8]), Stop>
+    requires { variables < 2 ^ 30 }
+    ensures { Gives (λ x. (x.0, x.1.now)) result (output_at variables bytes.now) }
+{
+    let (literal, rest) = literal_at(variables, bytes)?;
+    Ok((literal, behind(b'\n', rest)?))
 }
 
 /// The difference at the front, in at most three bytes, and what follows it.

@@ -1,32 +1,20 @@
 //! The header of a file.
 ghost use Rattle.std.specs.Prelude.{◌≡◌, ◌+◌, ◌<◌, ◌≤◌, IfOk};
 ghost use Rattle.aig_reader.specs.Fields.{Gives};
-ghost use Rattle.aig_reader.specs.Reading.{AreFew, format_at, size_at, header_end_at};
-ghost use Rattle.aig_reader.specs.Reading.{sizes_at, header_at};
+ghost use Rattle.aig_reader.specs.Reading.{AreFew, size_at, header_end_at, sizes_at};
 
-use crate::circuit::{MAX_GATES, MAX_OUTPUTS};
+use crate::circuit::{MAX_GATES, MAX_OUTPUTS, MAX_VARIABLES};
 use crate::fields::{behind, fault_at, number_at};
 use crate::refusal::{Stop, Why};
 use lattice::MAX_VARS;
 
-/// The numbers of inputs, outputs and gates.
+/// The greatest variable, and the numbers of inputs, outputs and gates.
 #[derive(Clone, Copy)]
 pub struct Sizes {
+    pub variables: u32,
     pub inputs: u32,
     pub outputs: u32,
     pub gates: u32,
-}
-
-/// What follows the word that begins a file.
-#[tactic(auto, unfolding(crate::specs::Reading::format_at))]
-fn format_at(bytes: &[u8]) -> Result<&[u8], Stop>
-    ensures { Gives (λ rest. rest.now) result (format_at bytes.now) }
-{
-    match bytes {
-        [b'a', b'i', b'g', rest @ ..] => Ok(rest),
-        [b'a', b'a', b'g', ..] => Err(fault_at(bytes, Why::Ascii)),
-        _ => Err(fault_at(bytes, Why::NoFormat)),
-    }
 }
 
 /// The number behind a space, which is at most `most`, and what follows it.
@@ -54,35 +42,23 @@ fn header_end_at(bytes: &[u8]) -> Result<&[u8], Stop>
     }
 }
 
-/// The sizes behind the word that begins a file, and what follows them.
+/// The sizes behind the word that begins a file, and what follows the header.
 #[tactic(auto, unfolding(crate::specs::Reading::sizes_at))]
-fn sizes_at(bytes: &[u8]) -> Result<(Sizes, &[u8]), Stop>
+pub fn sizes_at(bytes: &[u8]) -> Result<(Sizes, &[u8]), Stop>
     ensures sizes { Gives (λ x. (x.0, x.1.now)) result (sizes_at bytes.now) }
     ensures few { IfOk result (λ x. AreFew x.0) }
 {
-    let (variables, rest) = size_at(MAX_VARS + MAX_GATES, Why::VariableCount, bytes)?;
+    let (variables, rest) = size_at(MAX_VARIABLES, Why::VariableCount, bytes)?;
     let (inputs, rest) = size_at(MAX_VARS, Why::TooManyInputs, rest)?;
     let (_, rest) = size_at(0, Why::Latch, rest)?;
     let (outputs, rest) = size_at(MAX_OUTPUTS, Why::TooManyOutputs, rest)?;
     let (gates, rest) = size_at(MAX_GATES, Why::TooManyGates, rest)?;
-    if variables != inputs + gates {
-        return Err(fault_at(bytes, Why::VariableCount));
-    }
+    let rest = header_end_at(rest)?;
     let sizes = Sizes {
+        variables,
         inputs,
         outputs,
         gates,
     };
     Ok((sizes, rest))
-}
-
-/// The sizes that the header gives, and what follows the header.
-#[tactic(auto, unfolding(crate::specs::Reading::header_at))]
-pub fn header_at(bytes: &[u8]) -> Result<(Sizes, &[u8]), Stop>
-    ensures header { Gives (λ x. (x.0, x.1.now)) result (header_at bytes.now) }
-    ensures few { IfOk result (λ x. AreFew x.0) }
-{
-    let front = format_at(bytes)?;
-    let (sizes, rest) = sizes_at(front)?;
-    Ok((sizes, header_end_at(rest)?))
 }

@@ -1,6 +1,7 @@
 //! Circuits in the AIGER format: read from bytes, their gates and names.
 #![tactic(auto)]
 
+mod ascii;
 mod circuit;
 mod fields;
 mod header;
@@ -10,7 +11,7 @@ mod reading;
 mod refusal;
 mod symbols;
 
-pub use crate::circuit::{Aig, Gate, Gates, Literals, MAX_GATES, MAX_OUTPUTS};
+pub use crate::circuit::{Aig, Gate, Gates, Literals, MAX_GATES, MAX_OUTPUTS, MAX_VARIABLES};
 pub use crate::laws::{one_value, some_value};
 pub use crate::reading::{MOST_BYTES, read};
 pub use crate::refusal::{ReadRefusal, Refusal, Why};

@@ -1,10 +1,10 @@
 //! Outputs and gates, one behind the other.
 ghost use Rattle.std.specs.Prelude.{◌≡◌, ◌+◌, ◌*◌, ◌<◌, ◌≤◌, ◌^◌};
 ghost use Rattle.lattice.specs.declared.limits.TheConstants.{MAX_VARS};
-ghost use Rattle.aig_reader.specs.Fields.{Gives, literal_at, gate_at, many};
+ghost use Rattle.aig_reader.specs.Fields.{Gives, output_at, gate_at, many};
 
 use crate::circuit::{Gate, MAX_GATES};
-use crate::fields::{gate_at, literal_at};
+use crate::fields::{gate_at, output_at};
 use crate::refusal::Stop;
 use std::alloc::Global;
 
@@ -17,12 +17,12 @@ pub fn outputs_at(
 ) -> Result<(Vec<u32>, &[u8]), Stop>
     requires { variables < 2 ^ 30 }
     ensures { Gives (λ x. (x.0.items, x.1.now)) result
-        (many (λ k. literal_at variables) 0 count bytes.now) }
+        (many (λ k. output_at variables) 0 count bytes.now) }
 {
     let mut literals = Vec::new(alloc);
     let mut rest = bytes;
     for _ in 0..count {
-        let (literal, after) = literal_at(variables, rest)?;
+        let (literal, after) = output_at(variables, rest)?;
         literals.push(literal)?;
         rest = after;
     }

@@ -8,10 +8,8 @@ use std::alloc::{AllocError, AllocFailed};
 /// What is wrong with a file.
 #[derive(Clone, Copy, Debug, PartialEq, Eq)]
 pub enum Why {
-    /// The file does not begin with `aig`.
+    /// The file begins with neither `aig` nor `aag`.
     NoFormat,
-    /// The file is in the ASCII form, which begins with `aag`.
-    Ascii,
     /// The bytes end within the file.
     Truncated,
     /// Another byte stands where a space or a line feed must.
@@ -20,7 +18,8 @@ pub enum Why {
     BadNumber,
     /// A number is 1,000,000,000 or more, or a difference has more than three bytes.
     LongNumber,
-    /// The greatest variable is not the number of inputs and gates.
+    /// The greatest variable is not the number of inputs and gates, or in the ASCII form it is more
+    /// than 2,000,000.
     VariableCount,
     /// There are more than 62 inputs.
     TooManyInputs,
@@ -32,10 +31,19 @@ pub enum Why {
     Latch,
     /// The header goes on with the properties of version 1.9, or there is a symbol of one.
     Property,
-    /// An output's literal is of no variable.
+    /// A literal is of no variable.
     LiteralRange,
-    /// An operand is not less than its gate, or the second one is greater than the first.
+    /// In the binary form an operand is not less than its gate, or the second one is greater than
+    /// the first.
     GateOrder,
+    /// What a line defines is constant, or a complement.
+    NoVariable,
+    /// A line defines what a line before it does.
+    DefinedTwice,
+    /// No line defines the variable of the literal.
+    NotDefined,
+    /// In the ASCII form a gate stands on itself, or on one that a later line defines.
+    NotBefore,
     /// A line behind the gates is neither a symbol nor begins a comment, or its name is empty.
     BadSymbol,
     /// A symbol's position is that of no input or output.
@@ -51,7 +59,6 @@ impl Why {
     {
         match self {
             Why::NoFormat => "NoFormat",
-            Why::Ascii => "Ascii",
             Why::Truncated => "Truncated",
             Why::BadByte => "BadByte",
             Why::BadNumber => "BadNumber",
@@ -64,6 +71,10 @@ impl Why {
             Why::Property => "Property",
             Why::LiteralRange => "LiteralRange",
             Why::GateOrder => "GateOrder",
+            Why::NoVariable => "NoVariable",
+            Why::DefinedTwice => "DefinedTwice",
+            Why::NotDefined => "NotDefined",
+            Why::NotBefore => "NotBefore",
             Why::BadSymbol => "BadSymbol",
             Why::SymbolRange => "SymbolRange",
             Why::Twice => "Twice",
