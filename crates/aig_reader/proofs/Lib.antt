@@ -3,3 +3,4 @@ mod Loops
 mod Adding
 mod Circuits
 pub mod Values
+mod Writing

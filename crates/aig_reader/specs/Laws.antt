@@ -1,6 +1,10 @@
 -- Laws about circuits.
-use Rattle.std.specs.Prelude.{◌≡◌, ℕ, ◌+◌, ◌*◌, ◌<◌, Bool, length}
+use Rattle.std.specs.Prelude.{◌≡◌, ℕ, ◌+◌, ◌*◌, ◌<◌, ◌≤◌, Bool, true, not, ◌==◌, List, length, Some, Ok, slice_get}
+use Rattle.std.specs.List.{list_all}
+use Rattle.aig_reader.specs.declared.circuit.Gate.{Gate}
 use Rattle.aig_reader.specs.Circuit.{Circuit, HasValue, IsCircuit}
+use Rattle.aig_reader.specs.Reading.{are_over, reading_of}
+use Rattle.aig_reader.specs.Written.{written}
 
 -- A literal has one value at most at a point.
 abbrev pub OneValue : Type 0
@@ -10,3 +14,15 @@ OneValue = (c : Circuit) (point literal : ℕ) (x y : Bool) → HasValue c point
 abbrev pub SomeValue : Type 0
 SomeValue = (c : Circuit) (point literal : ℕ) → IsCircuit c.inputs c.gates c.outputs c.in_names c.out_names
     → literal < 2 * (c.inputs + 1 + length c.gates) → (x : Bool) × HasValue c point literal x
+
+-- whether no line feed stands in the names
+abbrev pub are_lines : (names : List (List ℕ)) → Bool
+are_lines names = list_all (list_all (λ byte. not (byte == 10))) names
+
+-- What a writer of the binary form makes of a circuit is read as this circuit, where each gate's second operand is not greater than
+-- its first.
+abbrev pub WrittenIsRead : Type 0
+WrittenIsRead = (c : Circuit) (comment : List ℕ) → IsCircuit c.inputs c.gates c.outputs c.in_names c.out_names
+    → ((k : ℕ) (g : Gate) → slice_get c.gates k ≡ Some g → g.right ≤ g.left)
+    → are_lines c.in_names ≡ true → are_lines c.out_names ≡ true → are_over comment ≡ true
+    → reading_of (written c comment) ≡ Ok c

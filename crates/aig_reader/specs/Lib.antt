@@ -3,4 +3,5 @@ pub mod Fields
 pub mod Ascii
 pub mod Reading
 pub mod Causes
+pub mod Written
 pub mod Laws

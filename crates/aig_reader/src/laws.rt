@@ -1,6 +1,6 @@
 //! Functions that do nothing. Their contracts are the laws of `specs/Laws.antt`, so a check proves
 //! these.
-ghost use Rattle.aig_reader.specs.Laws.{OneValue, SomeValue};
+ghost use Rattle.aig_reader.specs.Laws.{OneValue, SomeValue, WrittenIsRead};
 
 /// A literal has one value at most at a point.
 pub fn one_value()
@@ -10,4 +10,9 @@ pub fn one_value()
 /// Each literal of a circuit has a value at each point.
 pub fn some_value()
     ensures { SomeValue }
+{}
+
+/// What a writer of the binary form makes of a circuit is read as this circuit.
+pub fn written_is_read()
+    ensures { WrittenIsRead }
 {}
