@@ -48,9 +48,9 @@ ok_is x y e = cc
 -- ---- many values
 
 -- so many values, the first of which has this number, and what is so of each of them
-record AreSo {A : Type 0} (P : ℕ → A → Type 0) (first count : ℕ) (xs : List A) : Type 0 where
-  count_is : length xs ≡ count
-  each : (i : ℕ) (d : A) → i < count → P (first + i) (get_or xs i d)
+pub record AreSo {A : Type 0} (P : ℕ → A → Type 0) (first count : ℕ) (xs : List A) : Type 0 where
+  pub count_is : length xs ≡ count
+  pub each : (i : ℕ) (d : A) → i < count → P (first + i) (get_or xs i d)
 
 each : {A : Type 0} (P : ℕ → A → Type 0) (first count : ℕ) (x : A) (xs : List A) → P first x
     → ((i : ℕ) (d : A) → i < count → P (first + 1 + i) (get_or xs i d))
@@ -63,7 +63,7 @@ one_more : {A : Type 0} (P : ℕ → A → Type 0) (first count : ℕ) (x : A) (
     → AreSo P first (suc count) (x ∷ xs)
 one_more P first count x xs here later = record { count_is = ap suc later.count_is; each = each P first count x xs here later.each }
 
-many_are_so : {A : Type 0} (P : ℕ → A → Type 0) (read : ℕ → List ℕ → Result (A × List ℕ) Fault)
+pub many_are_so : {A : Type 0} (P : ℕ → A → Type 0) (read : ℕ → List ℕ → Result (A × List ℕ) Fault)
     → ((k : ℕ) (bytes : List ℕ) (x : A × List ℕ) → read k bytes ≡ Ok x → P k x.0)
     → (count first : ℕ) (bytes : List ℕ) (x : List A × List ℕ) → many read first count bytes ≡ Ok x → AreSo P first count x.0
 unfolding many
@@ -78,7 +78,7 @@ many_are_so P read so (suc count) first bytes x e =
 
 -- ---- literals and gates
 
-literal_below : (variables : ℕ) (bytes : List ℕ) (x : ℕ × List ℕ) → literal_at variables bytes ≡ Ok x → x.0 < 2 * (variables + 1)
+pub literal_below : (variables : ℕ) (bytes : List ℕ) (x : ℕ × List ℕ) → literal_at variables bytes ≡ Ok x → x.0 < 2 * (variables + 1)
 unfolding literal_at
 literal_below variables bytes x e =
     let a = bind_ok (number_at bytes) (λ l. cond (ltb (2 * variables + 1) l.0) (stop bytes LiteralRange) (Ok l)) x e in
@@ -250,7 +250,7 @@ renamed_gate_below : (table : List ℕ) (literal : ℕ) (bytes : List ℕ) (x : 
     → (x.0.left < literal) × (x.0.right < literal)
 unfolding renamed_gate_at
 renamed_gate_below table literal bytes x e =
-    let a = bind_ok (number_at bytes) _ x e in let b = bind_ok (behind 32 a.0.1) _ x a.2 in
+    let a = bind_ok (literal_at (length table - 1) bytes) _ x e in let b = bind_ok (behind 32 a.0.1) _ x a.2 in
     let d = bind_ok (renamed_operand_at table literal b.0) _ x b.2 in let f = bind_ok (behind 32 d.0.1) _ x d.2 in
     let g = bind_ok (renamed_operand_at table literal f.0) _ x f.2 in let h = bind_ok (behind 10 g.0.1) _ x g.2 in
     let made : Gate × List ℕ = (record { left = d.0.0; right = g.0.0 }, h.0) in

@@ -4,3 +4,4 @@ mod Adding
 mod Circuits
 pub mod Values
 mod Writing
+mod Renaming

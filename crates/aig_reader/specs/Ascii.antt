@@ -5,7 +5,7 @@ use Rattle.std.specs.Prelude.{slice_index, slice_set, if◌then◌else◌}
 use Rattle.aig_reader.specs.declared.refusal.Why.TheVariants.{NoVariable, DefinedTwice, NotDefined, NotBefore}
 use Rattle.aig_reader.specs.declared.refusal.Fault.{Fault}
 use Rattle.aig_reader.specs.declared.circuit.Gate.{Gate}
-use Rattle.aig_reader.specs.Fields.{◌>>=◌, stop, behind, number_at, literal_at}
+use Rattle.aig_reader.specs.Fields.{◌>>=◌, stop, behind, literal_at}
 
 -- ---- what lines define
 
@@ -66,7 +66,7 @@ renamed_operand_at table literal bytes = do
 
 unfoldable pub renamed_gate_at : (table : List ℕ) → (literal : ℕ) → List ℕ → Result (Gate × List ℕ) Fault
 renamed_gate_at table literal bytes = do
-  own ← number_at bytes
+  own ← literal_at (length table - 1) bytes
   front ← behind 32 own.1
   left ← renamed_operand_at table literal front
   middle ← behind 32 left.1

@@ -3,7 +3,8 @@ use Rattle.std.specs.Prelude.{◌≡◌, ℕ, ◌+◌, ◌*◌, ◌<◌, ◌≤�
 use Rattle.std.specs.List.{list_all}
 use Rattle.aig_reader.specs.declared.circuit.Gate.{Gate}
 use Rattle.aig_reader.specs.Circuit.{Circuit, HasValue, IsCircuit}
-use Rattle.aig_reader.specs.Reading.{are_over, reading_of}
+use Rattle.aig_reader.specs.Reading.{are_over, ascii_at, reading_of}
+use Rattle.aig_reader.specs.Listing.{Listing, listing_at, IsListed}
 use Rattle.aig_reader.specs.Written.{written}
 
 -- A literal has one value at most at a point.
@@ -26,3 +27,11 @@ WrittenIsRead = (c : Circuit) (comment : List ℕ) → IsCircuit c.inputs c.gate
     → ((k : ℕ) (g : Gate) → slice_get c.gates k ≡ Some g → g.right ≤ g.left)
     → are_lines c.in_names ≡ true → are_lines c.out_names ≡ true → are_over comment ≡ true
     → reading_of (written c comment) ≡ Ok c
+
+-- Where a file in the ASCII form is read, the literal of each output has a value at each point by the lines as they are written, and
+-- each value that it has is that of the circuit's output.
+abbrev pub ListedValues : Type 0
+ListedValues = (bytes : List ℕ) (c : Circuit) → IsCircuit c.inputs c.gates c.outputs c.in_names c.out_names → ascii_at bytes ≡ Ok c
+    → (l : Listing) × (listing_at bytes ≡ Ok l) × ((point j literal : ℕ) → slice_get l.outputs j ≡ Some literal
+    → ((x : Bool) × IsListed l point literal x)
+    × ((own : ℕ) × (slice_get c.outputs j ≡ Some own) × ((x : Bool) → IsListed l point literal x → HasValue c point own x)))

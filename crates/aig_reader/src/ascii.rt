@@ -9,7 +9,7 @@ ghost use Rattle.aig_reader.specs.Ascii.{renamed_output_at, renamed_operand_at, 
 ghost use Rattle.aig_reader.specs.Ascii.{IsUpTo, renamed};
 
 use crate::circuit::{Gate, MAX_GATES, MAX_VARIABLES};
-use crate::fields::{behind, fault_at, literal_at, number_at};
+use crate::fields::{behind, fault_at, literal_at};
 use crate::refusal::{Stop, Why};
 use std::alloc::Global;
 
@@ -193,7 +193,7 @@ fn renamed_gate_at<'a>(
     requires small { IsUpTo (MAX_VARS + MAX_GATES) table.now }
     ensures { Gives (λ x. (x.0, x.1.now)) result (renamed_gate_at table.now literal bytes.now) }
 {
-    let (_, rest) = number_at(bytes)?;
+    let (_, rest) = literal_at(table.len() as u32 - 1, bytes)?;
     let (left, rest) = renamed_operand_at(table, literal, behind(b' ', rest)?)?;
     let (right, rest) = renamed_operand_at(table, literal, behind(b' ', rest)?)?;
     Ok((Gate { left, right }, behind(b'\n', rest)?))

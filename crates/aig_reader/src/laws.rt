@@ -1,6 +1,6 @@
 //! Functions that do nothing. Their contracts are the laws of `specs/Laws.antt`, so a check proves
 //! these.
-ghost use Rattle.aig_reader.specs.Laws.{OneValue, SomeValue, WrittenIsRead};
+ghost use Rattle.aig_reader.specs.Laws.{OneValue, SomeValue, WrittenIsRead, ListedValues};
 
 /// A literal has one value at most at a point.
 pub fn one_value()
@@ -15,4 +15,10 @@ pub fn some_value()
 /// What a writer of the binary form makes of a circuit is read as this circuit.
 pub fn written_is_read()
     ensures { WrittenIsRead }
+{}
+
+/// The outputs of a circuit that was read from the ASCII form have the values that they have by the
+/// lines as they are written.
+pub fn values_as_listed()
+    ensures { ListedValues }
 {}

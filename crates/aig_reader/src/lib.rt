@@ -12,6 +12,6 @@ mod refusal;
 mod symbols;
 
 pub use crate::circuit::{Aig, Gate, Gates, Literals, MAX_GATES, MAX_OUTPUTS, MAX_VARIABLES};
-pub use crate::laws::{one_value, some_value, written_is_read};
+pub use crate::laws::{one_value, some_value, values_as_listed, written_is_read};
 pub use crate::reading::{MOST_BYTES, read};
 pub use crate::refusal::{ReadRefusal, Refusal, Why};
