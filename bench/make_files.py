@@ -118,6 +118,23 @@ def split_cubes(count, inputs, seed):
     return description(inputs, 1, "fr", rows)
 
 
+def parity(inputs, count, fixed, seed):
+    """The parity, with don't cares: the points of odd weight, and random cubes without a value."""
+    draws = Draws(seed)
+    rows = [(bits(x, inputs), "1") for x in range(2**inputs) if x.bit_count() % 2]
+    rows += [(cube(draws, inputs, fixed), "-") for _ in range(count)]
+    return description(inputs, 1, "fd", rows)
+
+
+def parity_points(count, inputs, seed):
+    """Random points with their parity; all others are free."""
+    draws = Draws(seed)
+    chosen = set()
+    while len(chosen) < count:
+        chosen.add(drawn_bits(draws, inputs))
+    return description(inputs, 1, "fr", [(point, str(point.count("1") % 2)) for point in sorted(chosen)])
+
+
 PRESENT = [12, 5, 6, 11, 9, 0, 10, 13, 3, 14, 15, 8, 4, 7, 1, 2]
 
 
@@ -156,13 +173,24 @@ FILES = {
     "adder_6": ("anf", lambda: adder(6)),
     "majority_13": ("anf", lambda: majority(13)),
     "comparator_9": ("anf", lambda: comparator(9)),
+    "comparator_12": ("anf", lambda: comparator(12)),
+    "parity_13": ("anf", lambda: parity(13, 400, 7, 19)),
+    "parity_points_20": ("anf", lambda: parity_points(2000, 20, 20)),
     "aes": ("anf", lambda: table(8, 8, rijndael)),
     "cubes_14": ("anf", lambda: cubes(200, 14, 4, 5, 6)),
+    "cubes_14_two": ("anf", lambda: cubes(300, 14, 2, 6, 15)),
+    "cubes_15": ("anf", lambda: cubes(150, 15, 4, 6, 16)),
+    "cubes_15_one": ("anf", lambda: cubes(600, 15, 1, 7, 16)),
     "cubes_16": ("anf", lambda: cubes(300, 16, 4, 6, 7)),
+    "cubes_16_one": ("anf", lambda: cubes(400, 16, 1, 6, 18)),
+    "cubes_16_two": ("anf", lambda: cubes(200, 16, 2, 7, 17)),
+    "cubes_16_eight": ("anf", lambda: cubes(120, 16, 8, 7, 17)),
+    "cubes_16_many": ("anf", lambda: cubes(400, 16, 4, 7, 18)),
     "cubes_40": ("anf", lambda: cubes(100, 40, 16, 30, 8)),
     "redundant_20": ("anf", lambda: redundant(3000, 20, 8, 12, 5, 9)),
     "redundant_28": ("anf", lambda: redundant(8192, 28, 16, 8, 6, 10)),
     "split_62": ("anf", lambda: split_cubes(24, 62, 11)),
+    "split_62_many": ("anf", lambda: split_cubes(60, 62, 21)),
     "present_graph": ("basis", lambda: graph(4, 4, lambda x: PRESENT[x])),
     "aes_graph": ("basis", lambda: graph(8, 8, rijndael)),
     "points_14_basis": ("basis", lambda: points(200, 14, 2, 12)),

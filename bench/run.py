@@ -58,19 +58,26 @@ def commands(options, mode, driver):
 
 
 def measure(columns, file, runs):
-    """For each column the least time, and the first run's other results. What had no answer is not run again."""
+    """For each column the least time, and the first run's other results. What was ended is not run again."""
     results = [run(words, file) for _, words in columns]
     times = [result[0] for result in results]
     for _ in range(runs - 1):
         for column, (_, words) in enumerate(columns):
-            if results[column][2] == 0:
+            if results[column][2] >= 0:
                 times[column] = min(times[column], run(words, file)[0])
     return times, results
 
 
+def cell(spent, status):
+    """The milliseconds, and how a run ended that has no answer."""
+    if status < 0:
+        return f"none in {LIMIT} s"
+    return f"{spent:.0f}, status {status}" if status else f"{spent:.0f}"
+
+
 def row(name, mode, times, results):
     """A line of the table, and whether all that solved the file printed the same."""
-    cells = [f"{spent:.0f}" if result[2] == 0 else f"status {result[2]}" for spent, result in zip(times, results)]
+    cells = [cell(spent, result[2]) for spent, result in zip(times, results)]
     sums = {result[4] for result in results if result[2] == 0}
     memory, answer = results[0][1] / 1024, results[0][3]
     print(f"| `{name}` | {mode} | {' | '.join(cells)} | {memory:.0f} | {answer} |", flush=True)
