@@ -21,6 +21,15 @@ variables_of (name ∷ names) m = if divides (2 ^ length names) m then name ∷ 
 unfoldable pub monomial_text : List (List ℕ) → ℕ → List ℕ
 monomial_text names m = if m == 0 then codes "1" else join_by (λ name. name) (codes "*") (variables_of names m)
 
+-- the names of a monomial's variables, each behind a sign
+unfoldable pub factors_text : List (List ℕ) → ℕ → List ℕ
+factors_text names m = flat_map (λ name. codes "*" ++ name) (variables_of names m)
+
+-- the product of factors: 1 where there are none
+unfoldable pub product_text : List ℕ → List ℕ
+product_text [] = codes "1"
+product_text (sign ∷ product) = product
+
 -- the monomials in the order given
 unfoldable pub sum_text : List (List ℕ) → List ℕ → List ℕ
 sum_text names [] = codes "0"

@@ -2,6 +2,7 @@
 #![tactic(auto)]
 
 mod answer;
+mod factors;
 mod lines;
 mod polynomial;
 

@@ -1,57 +1,66 @@
 //! The text of a polynomial.
-ghost use Rattle.std.specs.Prelude.{◌≡◌, ◌≢◌, ◌++◌, ◌∷◌, ◌^◌, ◌<◌, IfOk, OnOk, All, length};
+ghost use Rattle.std.specs.Prelude.{◌≡◌, ◌++◌, ◌^◌, ◌<◌, IfOk, OnOk, All, length};
 ghost use Rattle.std.specs.Prelude.{reverse, codes};
 ghost use Rattle.std.specs.List.{flat_map};
 ghost use Rattle.lattice.specs.Family.{IsFamily};
 ghost use Rattle.pla_reader.specs.PrintedNames.{input_names};
-ghost use Rattle.anf_printer.specs.Text.{variables_of, monomial_text, polynomial_text};
+ghost use Rattle.anf_printer.specs.Text.{factors_text, product_text, monomial_text, polynomial_text};
 
+use crate::factors::change_factors;
 use lattice::{Memory, Mono, Name, Text};
 use pla_reader::{Pla, names_in_place, printed};
 use std::alloc::{AllocError, Global};
 
-/// The name of the first variable of the monomial `m`, and `m` without this variable.
-fn first_variable(names: &[Name], m: u64) -> (&[u8], u64)
-    requires some { m ≢ 0 }
-    requires below { m < 2 ^ length names.now }
-    ensures first { variables_of names.now m ≡ result.0.now ∷ variables_of names.now result.1 }
-    ensures less { result.1 < m }
+/// Puts the product of the factors at the end of the text: 1 where there are none.
+#[tactic(auto, using(crate::proofs::Places::product_rules))]
+fn push_product(text: &mut Vec<u8>, factors: &[u8]) -> Result<(), AllocError>
+    ensures { OnOk result (text.new.items ≡ text.old.items ++ product_text factors.now) }
 {
-    let behind = m.ilog2();
-    let name = &names[names.len() - 1 - behind as usize];
-    (name.as_slice(), m - (1 << behind))
-}
-
-/// Puts the monomial at the end of the text.
-#[tactic(auto, using(crate::proofs::Texts::monomial_rules))]
-fn push_monomial(text: &mut Vec<u8>, names: &[Name], m: Mono) -> Result<(), AllocError>
-    requires { m < 2 ^ length names.now }
-    ensures { OnOk result (text.new.items ≡ text.old.items ++ monomial_text names.now m) }
-{
-    if m.0 == 0 {
-        text.push(b'1')?;
-        return Ok(());
-    }
-    let (name, mut rest) = first_variable(names, m.0);
-    text.extend_from_slice(name)?;
-    while rest != 0 {
-        let (name, others) = first_variable(names, rest);
-        text.push(b'*')?;
-        text.extend_from_slice(name)?;
-        rest = others;
+    match factors {
+        [] => text.push(b'1')?,
+        [_, product @ ..] => text.extend_from_slice(product)?,
     }
     Ok(())
 }
 
-/// Puts the other terms of a polynomial behind its first one.
-fn push_others(text: &mut Vec<u8>, names: &[Name], terms: &[Mono]) -> Result<(), AllocError>
-    requires { All (λ m. m < 2 ^ length names.now) terms.now }
-    ensures { OnOk result (text.new.items
-        ≡ text.old.items ++ flat_map (λ m. codes " + " ++ monomial_text names.now m) terms.now) }
+/// Puts a term at the end of the text. The factors of the one before it are made its own.
+fn push_term(
+    text: &mut Vec<u8>,
+    names: &[Name],
+    factors: &mut Vec<u8>,
+    last: Mono,
+    term: Mono,
+) -> Result<(), AllocError>
+    requires last { last < 2 ^ length names.now }
+    requires term { term < 2 ^ length names.now }
+    requires factors { factors.old.items ≡ factors_text names.now last }
+    ensures factors { OnOk result (factors.new.items ≡ factors_text names.now term) }
+    ensures text { OnOk result (text.new.items ≡ text.old.items ++ monomial_text names.now term) }
 {
-    for term in terms {
+    change_factors(factors, names, last.0, term.0)?;
+    push_product(text, factors)
+}
+
+/// Puts terms at the end of the text, with signs between them.
+#[tactic(auto, using(crate::proofs::Places::factors_none))]
+fn push_terms(
+    text: &mut Vec<u8>,
+    names: &[Name],
+    first: Mono,
+    others: &[Mono],
+) -> Result<(), AllocError>
+    requires first { first < 2 ^ length names.now }
+    requires others { All (λ m. m < 2 ^ length names.now) others.now }
+    ensures { OnOk result (text.new.items ≡ text.old.items ++ monomial_text names.now first
+        ++ flat_map (λ m. codes " + " ++ monomial_text names.now m) others.now) }
+{
+    let mut factors = Vec::new(*text.allocator());
+    push_term(text, names, &mut factors, Mono(0), first)?;
+    let mut last = first;
+    for term in others {
         text.extend_from_slice(b" + ")?;
-        push_monomial(text, names, *term)?;
+        push_term(text, names, &mut factors, last, *term)?;
+        last = *term;
     }
     Ok(())
 }
@@ -69,10 +78,7 @@ pub(crate) fn push_polynomial(
 {
     match terms {
         [] => text.push(b'0')?,
-        [first, rest @ ..] => {
-            push_monomial(text, names, *first)?;
-            push_others(text, names, rest)?;
-        }
+        [first, rest @ ..] => push_terms(text, names, *first, rest)?,
     }
     Ok(())
 }

@@ -1,6 +1,6 @@
 use Rattle.std.proofs.Common.{◌≡◌, ◌*◌, ◌%◌, ◌^◌, arith}
-use Rattle.anf_printer.proofs.Texts.{variables_of_first, weight_is_below}
-use Rattle.anf_printer.proofs.polynomial.first_variable.Goals as goal
+use Rattle.anf_printer.proofs.Places.{variables_of_first, weight_is_below}
+use Rattle.anf_printer.proofs.factors.first_variable.Goals as goal
 
 pub overflow_sub-name-2 : goal.overflow_sub-name-2
 overflow_sub-name-2 c = let few = weight_is_below _ _ _ c.ilog2-behind.ensures.power_le c.requires.below in omega arith
