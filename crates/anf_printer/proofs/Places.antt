@@ -1,10 +1,11 @@
 -- The variables of a monomial, from its first one on and on both sides of a place, and its factors, of which those before a place stay.
-use Rattle.std.proofs.Common.{◌≡◌, ◌≢◌, ◌==◌, ℕ, ◌+◌, ◌-◌, ◌*◌, ◌/◌, ◌%◌, ◌^◌, ◌<◌, ◌≤◌, Bool, true, false, List, [], ◌∷◌, ◌++◌, length, get_or, refl, sym, rules}
+use Rattle.std.proofs.Common.{◌≡◌, ◌≢◌, ℕ, ◌+◌, ◌-◌, ◌*◌, ◌/◌, ◌%◌, ◌^◌, ◌<◌, Bool, true, false, List, [], ◌∷◌, ◌++◌, length, refl, sym}
+use Rattle.std.proofs.Common.{◌≤◌, get_or, rules}
 use Rattle.std.proofs.Common.{◌∙◌, ap, subst, arith, add-zero, ⊎_elim, suc, codes, cond, pow_pos, take, drop, ne_eqb, length-append}
 use Rattle.std.proofs.lemmas.Grind.{pow_more, common_steps}
 use Rattle.std.proofs.lemmas.Bool.{cases_lt, cases_eq, cases_Bool, false≢true}
 use Rattle.std.proofs.lemmas.Nat.{and_comm, shr_split, and_mask, xor_shr}
-use Rattle.std.proofs.lemmas.Nat.Bits.{and_pow, bit_at-lt, bit_at_cat_low, bit_at_cat_high, ones_shr}
+use Rattle.std.proofs.lemmas.Nat.Bits.{and_pow, bit_at_cat_low, bit_at_cat_high, ones_shr}
 use Rattle.std.proofs.lemmas.List.{take_all}
 use Rattle.std.proofs.lemmas.List.Concat.{flat_map-append}
 use Rattle.std.proofs.Math.Seq.{take-append_seam}
@@ -15,21 +16,21 @@ use Rattle.std.specs.Int.Bits.{xor_assoc, xor_self, xor_zero_l, xor_zero_r}
 use lib.Bits.{bit_and}
 use Rattle.std.specs.List.{flat_map, join_by}
 use Rattle.lattice.specs.Words.{divides}
-use Rattle.lattice.proofs.Polynomials.{weight_below, weight_bit, divides_both_high, divides_zero}
+use Rattle.lattice.proofs.Polynomials.{weight_below, divides_both_high, divides_zero}
 use Rattle.anf_printer.specs.Text.{variables_of, monomial_text, factors_text, product_text}
 
--- whether a number has a weight is the bit at its place
-has_weight : (d m : ℕ) → divides (2 ^ d) m ≡ (bit_at m d == 1)
+-- a weight is in a number by the bit at its place
+weight_same : (d m n : ℕ) → bit_at m d ≡ bit_at n d → divides (2 ^ d) m ≡ divides (2 ^ d) n
 unfolding divides
-has_weight d m = rw (and_comm (2 ^ d) m, and_pow m d) (weight_bit d (bit_at m d) (bit_at-lt m d))
+weight_same d m n same = rw (and_comm (2 ^ d) m, and_comm (2 ^ d) n, and_pow m d, and_pow n d, same) refl
 
--- a weight below place k sees the bits below k alone, and one from k up those from k up
+-- one below place k sees the bits below k alone, and one from k up those from k up
 weight_low : (d k q r : ℕ) → d < k → divides (2 ^ d) (q * 2 ^ k + r) ≡ divides (2 ^ d) r
-weight_low d k q r low = rw (has_weight, has_weight d r) (ap (λ b. b == 1) (bit_at_cat_low q k r d low))
+weight_low d k q r low = weight_same d (q * 2 ^ k + r) r (bit_at_cat_low q k r d low)
 
 weight_high : (d k q r : ℕ) → r < 2 ^ k → k ≤ d → divides (2 ^ d) (q * 2 ^ k + r) ≡ divides (2 ^ d) (q * 2 ^ k + 0)
-weight_high d k q r less high = rw (has_weight d (q * 2 ^ k + r), has_weight d (q * 2 ^ k + 0)) (ap (λ b. b == 1) (bit_at_cat_high q k r d less high
-    ∙ sym (bit_at_cat_high q k 0 d (pow_pos k) high)))
+weight_high d k q r less high = weight_same d (q * 2 ^ k + r) (q * 2 ^ k + 0) (bit_at_cat_high q k r d less high
+    ∙ sym (bit_at_cat_high q k 0 d (pow_pos k) high))
 
 variables_of_none : (names : List (List ℕ)) → variables_of names 0 ≡ []
 unfolding variables_of
@@ -59,8 +60,8 @@ variables_parts (name ∷ names) k q r less = ⊎_elim (λ (low : length names <
     let wide : 2 ^ k ≤ 2 ^ length names = pow-le-pow_right (omega arith) high in
     let gone : divides (2 ^ length names) r ≡ false = weight_below (length names) r (omega arith) in
     let same = rw add-zero at (weight_high (length names) k q r less high) in
-    rw (same, gone, variables_parts names k q r less) (more_in_front (divides (2 ^ length names) (q * 2 ^ k)) name (variables_of names (q * 2 ^ k))
-    (variables_of names r))) (cases_lt (length names) k)
+    rw (same, gone, variables_parts names k q r less) (more_in_front (divides (2 ^ length names) (q * 2 ^ k)) name
+    (variables_of names (q * 2 ^ k)) (variables_of names r))) (cases_lt (length names) k)
 
 has_greatest : (d a : ℕ) → a < 2 ^ d → divides (2 ^ d) (2 ^ d + a) ≡ true
 has_greatest d a less = rw add-zero at (divides_both_high d 0 a (pow_pos d) less ∙ divides_zero a)
@@ -110,7 +111,8 @@ pub length_factors : (names : List (List ℕ)) (m rest : ℕ) (name : List ℕ) 
 length_factors names m rest name first = rw (factors_first names m rest name first) (grind (arith, common_steps))
 
 -- the factors from place k up, then those below
-factors_parts : (names : List (List ℕ)) (k m : ℕ) → factors_text names m ≡ factors_text names (m / 2 ^ k * 2 ^ k) ++ factors_text names (m % 2 ^ k)
+factors_parts : (names : List (List ℕ)) (k m : ℕ) → factors_text names m
+    ≡ factors_text names (m / 2 ^ k * 2 ^ k) ++ factors_text names (m % 2 ^ k)
 unfolding factors_text
 factors_parts names k m =
     let apart : variables_of names m ≡ variables_of names (m / 2 ^ k * 2 ^ k) ++ variables_of names (m % 2 ^ k) =
@@ -120,7 +122,8 @@ factors_parts names k m =
 -- ---- the bits from the first one at which two numbers differ on
 
 same_bits : (a b : ℕ) → bit_xor a b ≡ 0 → a ≡ b
-same_bits a b none = sym (sym (xor_zero_l b) ∙ sym (ap (λ x. bit_xor x b) none) ∙ xor_assoc a b b ∙ ap (bit_xor a) (xor_self b) ∙ xor_zero_r a)
+same_bits a b none = sym (sym (xor_zero_l b) ∙ sym (ap (λ x. bit_xor x b) none) ∙ xor_assoc a b b
+    ∙ ap (bit_xor a) (xor_self b) ∙ xor_zero_r a)
 
 -- the bits that the shifted mask leaves
 mask_low : (a k : ℕ) → k < 64 → bit_and a ((2 ^ 64 - 1) / 2 ^ (63 - k)) ≡ a % 2 ^ (k + 1)
@@ -151,7 +154,8 @@ factors_cut names a k n items within is count =
 variables_some : (names : List (List ℕ)) (m : ℕ) → m < 2 ^ length names → variables_of names m ≡ [] → m ≡ 0
 unfolding variables_of
 variables_some [] m less none = omega (arith, less)
-variables_some (name ∷ names) m less none = ⊎_elim (λ (set : divides (2 ^ length names) m ≡ true). absurd (omega (arith, ap length (rw set at none))))
+variables_some (name ∷ names) m less none = ⊎_elim (λ (set : divides (2 ^ length names) m ≡ true).
+    absurd (omega (arith, ap length (rw set at none))))
     (λ (clear : divides (2 ^ length names) m ≡ false). ⊎_elim (λ (below : m < 2 ^ length names).
     variables_some names m below (rw clear at none)) (λ (from : 2 ^ length names ≤ m).
     let bound : m < 2 ^ suc (length names) = less in
@@ -166,7 +170,8 @@ unfolding product_text
 product_joined [] some = absurd (some refl)
 product_joined (name ∷ names) some = refl
 
-pub monomial_text_factors : (names : List (List ℕ)) (m : ℕ) → m < 2 ^ length names → monomial_text names m ≡ product_text (factors_text names m)
+pub monomial_text_factors : (names : List (List ℕ)) (m : ℕ) → m < 2 ^ length names
+    → monomial_text names m ≡ product_text (factors_text names m)
 unfolding monomial_text factors_text product_text
 monomial_text_factors names m less = ⊎_elim (λ (is : m ≡ 0). rw (is, variables_of_none names) refl) (λ (some : m ≢ 0).
     rw (ne_eqb m 0 some) (sym (product_joined (variables_of names m) (λ none. some (variables_some names m less none))))) (cases_eq m 0)

@@ -4,7 +4,8 @@ ghost use Rattle.std.specs.Prelude.{reverse, codes};
 ghost use Rattle.std.specs.List.{flat_map};
 ghost use Rattle.lattice.specs.Family.{IsFamily};
 ghost use Rattle.pla_reader.specs.PrintedNames.{input_names};
-ghost use Rattle.anf_printer.specs.Text.{factors_text, product_text, monomial_text, polynomial_text};
+ghost use Rattle.anf_printer.specs.Text.{factors_text, product_text, monomial_text};
+ghost use Rattle.anf_printer.specs.Text.{polynomial_text};
 
 use crate::factors::change_factors;
 use lattice::{Memory, Mono, Name, Text};
