@@ -78,6 +78,12 @@ def comparator(width):
     return description(2 * width, 1, "f", rows)
 
 
+def disjunction(inputs):
+    """Whether an input is 1: all monomials but 1 are terms, on a diagram of two nodes a variable."""
+    rows = [("-" * place + "1" + "-" * (inputs - 1 - place), "1") for place in range(inputs)]
+    return description(inputs, 1, "f", rows)
+
+
 def cube(draws, inputs, fixed):
     """A cube that fixes so many inputs."""
     symbols = ["-"] * inputs
@@ -174,6 +180,7 @@ FILES = {
     "majority_13": ("anf", lambda: majority(13)),
     "comparator_9": ("anf", lambda: comparator(9)),
     "comparator_12": ("anf", lambda: comparator(12)),
+    "disjunction_19": ("anf", lambda: disjunction(19)),
     "parity_13": ("anf", lambda: parity(13, 400, 7, 19)),
     "parity_points_20": ("anf", lambda: parity_points(2000, 20, 20)),
     "aes": ("anf", lambda: table(8, 8, rijndael)),
