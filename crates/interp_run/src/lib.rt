@@ -14,6 +14,7 @@ mod plan;
 mod printed;
 mod solve;
 mod summary;
+mod tables;
 mod tasks;
 mod top;
 

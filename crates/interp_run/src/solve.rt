@@ -1,5 +1,5 @@
 //! A consistent description solved, each phase on a table of its own.
-ghost use Rattle.std.specs.Prelude.{◌≡◌, ◌<◌, ◌≤◌, ◌^◌, ◌+◌, true, IfOk, IfErr, IsErrOf, OnOk};
+ghost use Rattle.std.specs.Prelude.{◌≡◌, ◌<◌, ◌≤◌, ◌^◌, ◌+◌, ◌*◌, true, IfOk, IfErr, IsErrOf, OnOk};
 ghost use Rattle.std.specs.Prelude.{length, map};
 ghost use Rattle.lattice.specs.declared.kind.Mode.TheVariants.{Basis, Gen};
 ghost use Rattle.lattice.specs.declared.limits.TheConstants.{MIN_BITS, MAX_BITS};
@@ -25,10 +25,11 @@ use crate::means::Interp;
 use crate::phases::run_first_phase;
 use crate::plan::{first_plan, run_plan};
 use crate::printed::list_shown;
+use crate::tables::{first_size, next_size};
 use anf_printer::Shown;
 use cli_words::Job;
 use computed_cache::CachedPass;
-use cube_build::{SMALL_BITS, first_bits};
+use cube_build::SMALL_BITS;
 use fork_branches::Pool;
 use lattice::{MAX_VARS, Mode, MonoLists, Monos};
 use node_store::Store;
@@ -99,7 +100,8 @@ fn seek_leads<R: Threads + Sync, P: Pool>(
     requires basis { job.now.mode ≡ Basis }
     requires within { IsWithin job.now }
     requires bits { (MIN_BITS ≤ bits) × (bits ≤ job.now.nodes) }
-    requires room { P.done interp.old.pool.now < 2 ^ 28 }
+    requires room { P.done interp.old.pool.now + job.now.nodes * 2 ^ 24
+        < 2 ^ 29 + bits * 2 ^ 24 }
     requires consistent { IsConsistent pla.now.inputs pla.now.outputs pla.now.rows }
     ensures same_pool { interp.new.pool.ghost_name ≡ interp.old.pool.ghost_name }
     ensures leads { IfOk result (λ r. AreLeads (description pla.now) job.now.mode r.0) }
@@ -109,12 +111,12 @@ fn seek_leads<R: Threads + Sync, P: Pool>(
         → 2 ^ job.now.nodes < first_nodes (description pla.now) job.now.mode }
     ensures terms { IsErrOf result TermsRefusal.Over
         → IsDueSolving job.now (description pla.now) (silent (outcomes.Terms job.now.terms)) }
-    ensures most { P.done interp.new.pool.now ≤ P.done interp.old.pool.now + 2 ^ 25 }
+    ensures most { IfOk result (λ r. P.done interp.new.pool.now + bits * 2 ^ 24
+        ≤ P.done interp.old.pool.now + (r.1 + 1) * 2 ^ 24) }
 {
     match try_leads(interp, pla, job, bits) {
         Err(TermsRefusal::Full) if bits < job.nodes => {
-            let leads = try_leads(interp, pla, job, job.nodes)?;
-            Ok((leads, job.nodes))
+            seek_leads(interp, pla, job, next_size(bits, job.nodes))
         }
         leads => Ok((leads?, bits)),
     }
@@ -214,7 +216,8 @@ fn seek_solution<R: Threads + Sync, P: Pool>(
 ) -> Result<Solution, TermsRefusal>
     requires within { IsWithin job.now }
     requires bits { (MIN_BITS ≤ bits) × (bits ≤ job.now.nodes) }
-    requires room { P.done interp.old.pool.now < 2 ^ 28 }
+    requires room { P.done interp.old.pool.now + job.now.nodes * 2 ^ 25
+        < 2 ^ 29 + bits * 2 ^ 25 }
     requires consistent { IsConsistent pla.now.inputs pla.now.outputs pla.now.rows }
     requires leads { AreLeads (description pla.now) job.now.mode leads.now }
     requires fits { is_basis job.now.mode ≡ true → FirstFits job.now (description pla.now) }
@@ -234,7 +237,7 @@ fn seek_solution<R: Threads + Sync, P: Pool>(
 {
     match try_solution(interp, pla, job, leads, bits) {
         Err(TermsRefusal::Full) if bits < job.nodes => {
-            try_solution(interp, pla, job, leads, job.nodes)
+            seek_solution(interp, pla, job, leads, next_size(bits, job.nodes))
         }
         solution => solution,
     }
@@ -248,7 +251,7 @@ fn prepare_leads<R: Threads + Sync, P: Pool>(
     job: &Job,
 ) -> Result<(MonoLists, u32), TermsRefusal>
     requires within { IsWithin job.now }
-    requires room { P.done interp.old.pool.now < 2 ^ 28 }
+    requires fresh { P.done interp.old.pool.now ≡ 0 }
     requires consistent { IsConsistent pla.now.inputs pla.now.outputs pla.now.rows }
     ensures same_pool { interp.new.pool.ghost_name ≡ interp.old.pool.ghost_name }
     ensures leads { IfOk result (λ r. AreLeads (description pla.now) job.now.mode r.0) }
@@ -259,9 +262,10 @@ fn prepare_leads<R: Threads + Sync, P: Pool>(
         → 2 ^ job.now.nodes < first_nodes (description pla.now) job.now.mode }
     ensures terms { IsErrOf result TermsRefusal.Over
         → IsDueSolving job.now (description pla.now) (silent (outcomes.Terms job.now.terms)) }
-    ensures most { P.done interp.new.pool.now ≤ P.done interp.old.pool.now + 2 ^ 25 }
+    ensures room { IfOk result (λ r. P.done interp.new.pool.now + job.now.nodes * 2 ^ 25
+        < 2 ^ 29 + r.1 * 2 ^ 25) }
 {
-    let bits = first_bits(pla, job.nodes, job.mode == Mode::Basis);
+    let bits = first_size(pla, job);
     match job.mode {
         Mode::Basis => seek_leads(interp, pla, job, bits),
         Mode::Anf | Mode::Check | Mode::Gen => Ok((
