@@ -116,7 +116,7 @@ fn seek_leads<R: Threads + Sync, P: Pool>(
 {
     match try_leads(interp, pla, job, bits) {
         Err(TermsRefusal::Full) if bits < job.nodes => {
-            seek_leads(interp, pla, job, next_size(bits, job.nodes))
+            seek_leads(interp, pla, job, next_size(pla, job, bits))
         }
         leads => Ok((leads?, bits)),
     }
@@ -237,7 +237,7 @@ fn seek_solution<R: Threads + Sync, P: Pool>(
 {
     match try_solution(interp, pla, job, leads, bits) {
         Err(TermsRefusal::Full) if bits < job.nodes => {
-            seek_solution(interp, pla, job, leads, next_size(bits, job.nodes))
+            seek_solution(interp, pla, job, leads, next_size(pla, job, bits))
         }
         solution => solution,
     }
