@@ -23,9 +23,9 @@ const MANY_BITS: u32 = 18;
 /// Tables of at most so many slots are made at once where a run may need them.
 const MOST_AT_ONCE: u32 = 19;
 
-/// The next tables have 2^STEP_BITS times as many slots. Those before them had too few, so that
-/// twice as many are needed: the next ones have at most four times what is needed.
-const STEP_BITS: u32 = 3;
+/// The next tables have at most 2^MOST_STEP times as many slots. Those before them had too few, so
+/// that twice as many are needed: the next ones have at most four times what is needed.
+const MOST_STEP: u32 = 3;
 
 /// So many rows are compared with each other.
 const SAMPLE: usize = 64;
@@ -127,15 +127,19 @@ pub(crate) fn first_size(pla: &Pla, job: &Job) -> u32
 }
 
 /// The size of the tables that are tried after those of 2^bits slots: those that suffice by the
-/// guess, or a step more.
+/// guess, or a step more, by which no last step is small.
 pub(crate) fn next_size(pla: &Pla, job: &Job, bits: u32) -> u32
     requires { bits < job.now.nodes }
     ensures { (bits < result) × (result ≤ job.now.nodes) }
 {
     let guess = guess_size(pla, job.mode, job.nodes);
     if bits < guess {
-        guess
+        return guess;
+    }
+    let left = job.nodes - bits;
+    if left % MOST_STEP == 0 {
+        bits + MOST_STEP
     } else {
-        bits + STEP_BITS.min(job.nodes - bits)
+        bits + left.min(MOST_STEP - 1)
     }
 }
