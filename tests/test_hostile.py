@@ -86,9 +86,11 @@ class Memory(Test):
         return run([program("interp"), "basis", "--nodes", str(bits)], text, **how)
 
     def test_tables(self):
-        with self.case("64 MiB for a table of 128 MiB"):
-            self.assertEqual(self.basis(23, 64), NO_MEMORY)
-        with self.case("160 MiB for two tables of 64 MiB, one after the other"):
-            whole = run([program("interp"), "basis"], (EXAMPLES / "scattered.pla").read_bytes())
-            self.assertEqual(whole.status, 0)
-            self.assertEqual(self.basis(22, 160), whole)
+        with self.case("32 MiB for a table of 16 MiB"):
+            self.assertEqual(self.basis(20, 32), NO_MEMORY)
+        whole = run([program("interp"), "basis"], (EXAMPLES / "scattered.pla").read_bytes())
+        self.assertEqual(whole.status, 0)
+        with self.case("48 MiB for two tables of 16 MiB, one after the other"):
+            self.assertEqual(self.basis(20, 48), whole)
+        with self.case("64 MiB for smaller tables than the greatest, of 128 MiB"):
+            self.assertEqual(self.basis(23, 64), whole)
