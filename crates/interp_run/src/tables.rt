@@ -23,9 +23,9 @@ const MANY_BITS: u32 = 18;
 /// Tables of at most so many slots are made at once where a run may need them.
 const MOST_AT_ONCE: u32 = 19;
 
-/// The next tables have at most 2^MOST_STEP times as many slots. Those before them had too few, so
-/// that twice as many are needed: the next ones have at most four times what is needed.
-const MOST_STEP: u32 = 3;
+/// The next tables have 2^STEP_BITS times as many slots. Those before them had too few, so that
+/// twice as many are needed: the next ones have at most four times what is needed.
+const STEP_BITS: u32 = 3;
 
 /// So many rows are compared with each other.
 const SAMPLE: usize = 64;
@@ -97,12 +97,11 @@ fn guess_nodes(pla: &Pla, mode: Mode) -> u64 {
     }
 }
 
-// The size of the tables that suffice by the guess, where the last ones have 2^most slots.
-fn guess_size(pla: &Pla, mode: Mode, most: u32) -> u32
+// The size of the tables that suffice for so many nodes, where the last ones have 2^most slots.
+fn size_for(nodes: u64, most: u32) -> u32
     ensures most { result ≤ most }
     ensures least { (FEW_BITS ≤ result) ⊎ (result ≡ most) }
 {
-    let nodes = guess_nodes(pla, mode);
     if nodes <= 1 << FEW_BITS {
         most.min(FEW_BITS)
     } else if nodes <= 1 << MANY_BITS || most > MOST_AT_ONCE {
@@ -122,24 +121,22 @@ pub(crate) fn first_size(pla: &Pla, job: &Job) -> u32
     if first_bits(pla, job.nodes, true) <= SMALL_BITS {
         job.nodes.min(SMALL_BITS)
     } else {
-        guess_size(pla, job.mode, job.nodes)
+        size_for(guess_nodes(pla, job.mode), job.nodes)
     }
 }
 
 /// The size of the tables that are tried after those of 2^bits slots: those that suffice by the
-/// guess, or a step more, by which no last step is small.
+/// guess, or a step more, or the last ones where the guess is more than a step.
 pub(crate) fn next_size(pla: &Pla, job: &Job, bits: u32) -> u32
-    requires { bits < job.now.nodes }
+    requires within { IsWithin job.now }
+    requires bits { bits < job.now.nodes }
     ensures { (bits < result) × (result ≤ job.now.nodes) }
 {
-    let guess = guess_size(pla, job.mode, job.nodes);
+    let nodes = guess_nodes(pla, job.mode);
+    let guess = size_for(nodes, job.nodes);
     if bits < guess {
         return guess;
     }
-    let left = job.nodes - bits;
-    if left % MOST_STEP == 0 {
-        bits + MOST_STEP
-    } else {
-        bits + left.min(MOST_STEP - 1)
-    }
+    let step = bits + STEP_BITS.min(job.nodes - bits);
+    if nodes <= 1 << step { step } else { job.nodes }
 }
