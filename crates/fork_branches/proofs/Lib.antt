@@ -2,3 +2,4 @@ mod Branches
 mod Halving
 mod Works
 mod Solving
+mod Shared

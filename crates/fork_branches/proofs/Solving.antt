@@ -1,47 +1,31 @@
 -- All jobs have answers, and each stands at its number.
-use Rattle.std.proofs.Common.{◌≡◌, ◌≢◌, ◌∙◌, ℕ, ◌+◌, ◌<◌, ◌≤◌, ◌⊎◌, inl, inr, Ok, List, [], ◌∷◌, ◌++◌, length, slice_index_or, slice_set}
-use Rattle.std.proofs.Common.{sym, ap, refl, arith}
-use Rattle.std.specs.Prelude.{◌==◌, cond}
+use Rattle.std.proofs.Common.{◌≡◌, ◌≢◌, ◌∙◌, ℕ, ◌<◌, ◌⊎◌, inl, inr, Result, Ok, List, [], ◌∷◌, ◌++◌, length}
+use Rattle.std.proofs.Common.{slice_index_or, slice_set, sym, ap, refl, arith}
 use Rattle.std.specs.List.{All, Contains}
 use Rattle.std.proofs.lemmas.Bool.Decides.{nat_tests}
 use Rattle.std.proofs.lemmas.List.{get_or-set_same, get_or-set_other, length-set}
 use Rattle.std.proofs.lemmas.List.Elements.{All-weaker, All-contains, All-contains_itself, Contains-append_right}
-use Rattle.std.proofs.lemmas.List.Sums.{sum_by-cons}
 use Rattle.lattice.proofs.Polynomials.{contains_cases}
-use Rattle.job_counter.specs.Rule.{times, once_below}
+use Rattle.job_counter.specs.Numbers.{times, once_below}
+use Rattle.job_counter.proofs.Times.{times_some}
 use Rattle.node_store.specs.Stores.{State, Denotes}
 use Rattle.node_store.specs.declared.store.Handle.{Handle}
+use Rattle.node_store.specs.declared.store.Full.{Full}
 use Rattle.fork_branches.specs.Jobs.{Tasks}
-use Rattle.fork_branches.specs.Work.{IsAnswered, LeavesNone, Works}
+use Rattle.fork_branches.specs.Work.{Works, numbers_of}
 use Rattle.fork_branches.specs.Solves.{AreSolved, placed}
 use Rattle.fork_branches.specs.declared.crew.Answer.{Answer}
 
--- ---- the numbers drawn
+-- the job of the number has an answer
+abbrev IsAnswered : List Answer → ℕ → Type 0
+IsAnswered answers x = (a : Answer) × Contains answers a × (a.number ≡ x)
 
--- one number more is this one or another
-times-cons : (x y : ℕ) (ys : List ℕ) → ((y ≡ x) × (times x (y ∷ ys) ≡ times x ys + 1)) ⊎ (times x (y ∷ ys) ≡ times x ys)
-times-cons x y ys = grind (arith, nat_tests, sum_by-cons (λ (n : ℕ). cond (n == x) 1 0) y ys)
-
-drawn_some : (x : ℕ) (ys : List ℕ) → 1 ≤ times x ys → Contains ys x
-drawn_some x [] some = absurd (omega (arith, some))
-drawn_some x (y ∷ ys) some = elim (times-cons x y ys) [
-  | inl e ↦ (0, omega arith, e.0)
-  | inr ne ↦ Contains-append_right (y ∷ []) ys x (drawn_some x ys (omega (arith, some, ne)))
+answered : (x : ℕ) (answers : List Answer) → Contains (numbers_of answers) x → IsAnswered answers x
+answered x [] i = absurd (omega (arith, i.1))
+answered x (a ∷ answers) i = elim (contains_cases x a.number (numbers_of answers) i) [
+  | inl e ↦ (a, (0, omega arith, refl), e)
+  | inr j ↦ let is = answered x answers j in (is.0, Contains-append_right (a ∷ []) answers is.0 is.1, is.2)
 ]
-
-some_drawn : (x : ℕ) (ys : List ℕ) → Contains ys x → 1 ≤ times x ys
-some_drawn x [] i = absurd (omega (arith, i.1))
-some_drawn x (y ∷ ys) i = elim (contains_cases x y ys i) [
-  | inl e ↦ grind (arith, nat_tests, sum_by-cons (λ (n : ℕ). cond (n == x) 1 0) y ys)
-  | inr j ↦ grind (arith, times-cons x y ys, some_drawn x ys j)
-]
-
--- who drew each number below the word once, and leaves no job out, drew each job
-all_drawn : (total word : ℕ) (drawn : List ℕ) → LeavesNone total drawn → length drawn ≡ word
-    → ((x : ℕ) → times x drawn ≡ once_below x word) → (x : ℕ) → x < total → Contains drawn x
-all_drawn total word drawn (inl p) len each x less =
-    drawn_some x drawn (grind (arith, nat_tests, each x, each p.0, some_drawn p.0 drawn p.2))
-all_drawn total word drawn (inr le) len each x less = drawn_some x drawn (grind (arith, nat_tests, each x))
 
 -- ---- the answers placed
 
@@ -75,11 +59,12 @@ placed_right P (a ∷ answers) handles x d less each known =
 
 -- ---- all jobs
 
-pub solved : {A : Type 0} {tasks : Tasks} {s t : State} {drawn : List ℕ} {answers : List Answer} {a : A} (handles : List Handle) (word : ℕ)
-    → Works tasks s t drawn answers (Ok a) → length handles ≡ tasks.total → length drawn ≡ word
-    → ((x : ℕ) → times x drawn ≡ once_below x word) → AreSolved tasks s t (placed answers handles)
-solved {A} {tasks} {s} {t} {drawn} {answers} handles word works count len each =
-    let job = λ (x : ℕ) (less : x < tasks.total). works.answered x (all_drawn tasks.total word drawn works.over len each x less) less in
+pub solved : {A : Type 0} {tasks : Tasks} {s t : State} {answers : List Answer} {a : A} (handles : List Handle)
+    → Works tasks s t answers (Ok a) → length handles ≡ tasks.total
+    → ((x : ℕ) → times x (numbers_of answers) ≡ once_below x tasks.total) → AreSolved tasks s t (placed answers handles)
+solved {A} {tasks} {s} {t} {answers} handles works count once =
+    let job : (x : ℕ) → x < tasks.total → IsAnswered answers x =
+    λ x less. answered x answers (times_some x (numbers_of answers) (grind (arith, nat_tests, once x))) in
     record {
       count = length-placed answers handles ∙ count;
       each = λ x d less. placed_right (λ n h. Denotes t h (tasks.wanted n)) answers handles x d (rw count less)
@@ -100,3 +85,9 @@ all_of P list each = All-weaker (Contains list) P each list (All-contains_itself
 pub part_below : (handles : List Handle) (whole part : List Answer) → All (Below handles) whole
     → ((a : Answer) → Contains part a → Contains whole a) → All (Below handles) part
 part_below handles whole part all within = all_of (Below handles) part (λ a i. All-contains (Below handles) whole a all (within a i))
+
+-- the numbers of right answers are below the count
+pub works_below : {A : Type 0} {tasks : Tasks} {s t : State} {whole : List Answer} {r : Result A Full} (handles : List Handle)
+    (part : List Answer) → Works tasks s t whole r → length handles ≡ tasks.total → ((a : Answer) → Contains part a → Contains whole a)
+    → All (Below handles) part
+works_below handles part works count within = all_of (Below handles) part (λ a i. rw count (works.right a (within a i)).below)

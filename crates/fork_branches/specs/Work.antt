@@ -1,6 +1,5 @@
--- What job workers are asked and what they leave: numbers drawn, and an answer for each that is the number of a job.
-use Rattle.std.specs.Prelude.{◌≡◌, ℕ, ◌+◌, ◌-◌, ◌/◌, ◌^◌, ◌<◌, ◌≤◌, ◌⊎◌, Result, OnOk, OnErr, List, [], ◌++◌, length}
-use Rattle.std.specs.Prelude.{vec_capacity}
+-- What job workers are asked and what they leave: numbers taken of a dealing, and the answer of each.
+use Rattle.std.specs.Prelude.{◌≡◌, ℕ, ◌+◌, ◌^◌, ◌<◌, ◌≤◌, Result, OnOk, OnErr, List, [], ◌∷◌, ◌++◌, map, vec_capacity}
 use Rattle.std.specs.List.{Contains}
 use Rattle.lattice.specs.Family.{Covers}
 use Rattle.node_store.specs.Stores.{State, Denotes, Grows, IsFull}
@@ -8,9 +7,7 @@ use Rattle.node_store.specs.declared.store.Full.{Full}
 use Rattle.unique_table.specs.Passes.{token_state, twin_of, IsOf}
 use Rattle.unique_table.specs.declared.pass.Shared.{Shared}
 use Rattle.unique_table.specs.declared.pass.Token.{Token}
-use Rattle.job_counter.specs.Drawing.{Drawing, drawing, name}
-use Rattle.job_counter.specs.declared.counter.Counter.{Counter}
-use Rattle.job_counter.specs.declared.counter.Drawer.{Drawer}
+use Rattle.job_counter.specs.Numbers.{times}
 use Rattle.fork_branches.specs.Branches.{TakesBoth}
 use Rattle.fork_branches.specs.Jobs.{Tasks, needed_by, KnowsUses}
 use Rattle.fork_branches.specs.declared.crew.Answer.{Answer}
@@ -32,28 +29,24 @@ pub record IsAnswer (tasks : Tasks) (s : State) (a : Answer) : Type 0 where
   pub denotes : Denotes s a.handle (tasks.wanted a.number)
   pub held : Covers s.held (needed_by tasks a.number)
 
--- the job of the number has an answer
-abbrev pub IsAnswered : List Answer → ℕ → Type 0
-IsAnswered answers x = (a : Answer) × Contains answers a × (a.number ≡ x)
-
--- who draws each number once, from 0 on, and drew these, left out no job: a number past the last job is among them, or
--- as many numbers as there are jobs
-abbrev pub LeavesNone : ℕ → List ℕ → Type 0
-LeavesNone total drawn = ((n : ℕ) × (total ≤ n) × Contains drawn n) ⊎ (total ≤ length drawn)
-
--- from s to t workers drew these numbers and found these answers, or found the store full
-pub record Works {A : Type 0} (tasks : Tasks) (s t : State) (drawn : List ℕ) (answers : List Answer) (result : Result A Full) : Type 0 where
+-- from s to t workers found these answers, or found the store full
+pub record Works {A : Type 0} (tasks : Tasks) (s t : State) (answers : List Answer) (result : Result A Full) : Type 0 where
   pub grows : Grows s t
   pub right : (a : Answer) → Contains answers a → IsAnswer tasks t a
-  pub answered : OnOk result ((x : ℕ) → Contains drawn x → x < tasks.total → IsAnswered answers x)
-  pub over : OnOk result (LeavesNone tasks.total drawn)
   pub quiet : OnOk result (t.refusals ≡ s.refusals)
   pub full : OnErr result (IsFull s t)
 
--- the numbers are drawn of the same counter, with as many parts
-pub record GoesOnDrawing (before after : Drawing) : Type 0 where
-  pub counter : after.counter ≡ before.counter
-  pub parts : after.parts ≡ before.parts
+-- the numbers that were answered
+abbrev pub numbers_of : List Answer → List ℕ
+numbers_of answers = map (λ a. a.number) answers
+
+-- the hand is still of its dealing, with the same shares, and each number was taken with it as often as it was answered, or the store
+-- was full
+pub record Takes {H A : Type 0} (IsHand : H → Type 0) (shares_of : H → List ℕ) (taken_by : H → ℕ → ℕ) (before after : H)
+    (answers : List Answer) (result : Result A Full) : Type 0 where
+  pub of : IsHand after
+  pub shares : shares_of after ≡ shares_of before
+  pub took : OnOk result ((x : ℕ) → taken_by after x ≡ taken_by before x + times x (numbers_of answers))
 
 -- ---- crews
 
@@ -70,12 +63,17 @@ pub record IsIdle (total : ℕ) (w : Worker) : Type 0 where
   pub some : 1 ≤ w.workers
   pub few : w.workers ≤ 16
 
--- each worker is idle, and those who start with so many parts of a counter can each draw 2 ^ 30 numbers, where each half
--- of a crew gets half of what there is
-abbrev pub IsReady : ℕ → ℕ → Crew → Type 0
-IsReady total parts Away = ⊥
-IsReady total parts (One w) = IsIdle total w × (2 ^ 30 ≤ parts)
-IsReady total parts (Two' p a q b) = IsReady total (parts / 2) a × IsReady total ((parts - parts / 2) / 2) b
+-- each worker is idle
+abbrev pub AreIdle : ℕ → Crew → Type 0
+AreIdle total Away = ⊥
+AreIdle total (One w) = IsIdle total w
+AreIdle total (Two' p a q b) = AreIdle total a × AreIdle total b
+
+-- the numbers that each worker answered
+abbrev pub lists_of : Crew → List (List ℕ)
+lists_of Away = []
+lists_of (One w) = numbers_of w.answers.items ∷ []
+lists_of (Two' p a q b) = lists_of a ++ lists_of b
 
 -- how many workers the operations of all job workers have
 abbrev pub workers_of : Crew → ℕ
@@ -95,20 +93,17 @@ size_of Away = 0
 size_of (One w) = 1
 size_of (Two' p a q b) = size_of a + size_of b + 1
 
--- what a branch is sent: a token and a drawer that drew nothing, for a crew that is ready
-pub record IsSent (tasks : Tasks) (table : Shared) (counter : Counter) (token : Token) (drawer : Drawer) (crew : Crew) : Type 0 where
+-- what a branch is sent: a token, for a crew of which each worker is idle
+pub record IsSent (tasks : Tasks) (table : Shared) (token : Token) (crew : Crew) : Type 0 where
   pub of_table : IsOf token table
-  pub of_counter : (drawing drawer).counter ≡ name counter
-  pub fresh : (drawing drawer).drawn ≡ []
   pub may : MayWork tasks (token_state token)
-  pub ready : IsReady tasks.total (drawing drawer).parts crew
+  pub idle : AreIdle tasks.total crew
 
--- workers drew numbers and answered them from s to t, or found the store full
+-- workers found answers from s to t, or found the store full
 pub record DidWork (tasks : Tasks) (s t : State) : Type 0 where
-  pub drew : List ℕ
   pub answers : List Answer
   pub result : Result (Unit {0}) Full
-  pub works : Works tasks s t drew answers result
+  pub works : Works tasks s t answers result
 
 -- so many job workers did: one of them, or those of two halves, of which each worked from a twin of s and to the token that it gave
 -- back, and t took in what both know, hold and did, whether or not one of them found the store full
@@ -118,9 +113,15 @@ pub data WorkedBy (tasks : Tasks) : ℕ → State → State → Type 0 where
       → WorkedBy tasks n (twin_of s) (token_state second) → TakesBoth s (token_state first) (token_state second) t
       → WorkedBy tasks (m + n) s t
 
+-- so many job workers did beside each other, and the caller did what they left
+pub record WorkedOut (tasks : Tasks) (workers : ℕ) (s t : State) : Type 0 where
+  pub between : State
+  pub beside : WorkedBy tasks workers s between
+  pub after : DidWork tasks between t
+
 -- what it leaves
-pub record IsBack (tasks : Tasks) (table : Shared) (token : Token) (drawer : Drawer) (crew : Crew) (back : Branch) : Type 0 where
+pub record IsBack (tasks : Tasks) (table : Shared) (token : Token) (crew : Crew) {H : Type 0} (back : Branch H) : Type 0 where
   pub of_table : IsOf back.token table
-  pub draws : GoesOnDrawing (drawing drawer) (drawing back.drawer)
-  pub works : Works tasks (token_state token) (token_state back.token) (drawing back.drawer).drawn (answers_of back.crew.value) back.result
+  pub works : Works tasks (token_state token) (token_state back.token) (answers_of back.crew.value) back.result
   pub worked : WorkedBy tasks (job_workers_of crew) (token_state token) (token_state back.token)
+  pub as_many : job_workers_of back.crew.value ≡ job_workers_of crew

@@ -1,6 +1,6 @@
 //! The job workers of a call, by halves.
-ghost use Rattle.std.specs.Prelude.{◌≡◌, ◌+◌, ◌*◌, ◌^◌, ◌≤◌, ℕ, IfOk, min};
-ghost use Rattle.fork_branches.specs.Work.{IsReady, workers_of, job_workers_of};
+ghost use Rattle.std.specs.Prelude.{◌≡◌, ◌+◌, ◌*◌, ◌≤◌, IfOk, min};
+ghost use Rattle.fork_branches.specs.Work.{AreIdle, workers_of, job_workers_of};
 
 use lattice::Memory;
 use node_store::Handle;
@@ -13,7 +13,8 @@ pub struct Answer {
     pub handle: Handle,
 }
 
-/// A job worker: how many workers its operations have, and the answers of the jobs that it drew.
+/// A job worker: how many workers its operations have, and the answers of the jobs whose
+/// numbers it took.
 #[derive(Drop)]
 pub struct Worker {
     pub workers: u32,
@@ -41,8 +42,7 @@ pub fn make_crew(
     requires some { 1 ≤ job_workers }
     requires each { (1 ≤ each) × (each + min more 1 ≤ 16) }
     requires more { more ≤ job_workers }
-    ensures ready { IfOk result (λ c. (parts : ℕ) → job_workers * job_workers * 2 ^ 30 ≤ parts
-        → IsReady room parts c) }
+    ensures idle { IfOk result (AreIdle room) }
     ensures workers { IfOk result (λ c. workers_of c ≡ job_workers * each + more) }
     ensures job_workers { IfOk result (λ c. job_workers_of c ≡ job_workers) }
 {

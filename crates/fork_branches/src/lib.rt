@@ -10,11 +10,13 @@ mod jobs;
 mod ones;
 mod pairs;
 mod pool;
+mod shares;
 mod solve;
 mod work;
 
 pub use crate::forked::Forked;
 pub use crate::jobs::Jobs;
 pub use crate::pool::{Drawn, Pool, Solved};
-pub use crate::solve::solve_all;
+pub use crate::shares::Shares;
+pub use crate::solve::{Solution, solve_all, solve_by};
 pub use node_store::SolveRefusal;

@@ -1,7 +1,8 @@
 //! What runs lists of jobs and counts the jobs that it answered.
 use crate::jobs::Jobs;
-use crate::solve::solve_all;
+use crate::solve::solve_by;
 use computed_cache::CachedPass;
+use job_counter::{Counting, Dealing};
 use node_store::{Handle, SolveRefusal};
 use outside::Rendezvous;
 use std::alloc::Global;
@@ -26,11 +27,14 @@ impl Solved {
 
 /// What runs lists of jobs, and counts the jobs that it answered: `done`.
 pub trait Pool {
+    /// What deals the numbers of the jobs to the job workers.
+    type Dealer: Dealing;
+
     ghost use Rattle.std.specs.Prelude.{◌≡◌, ◌≤◌, ◌<◌, ◌+◌, ◌^◌, ℕ, length, IfOk, IfErr, OnOk};
     ghost use Rattle.std.specs.Prelude.{OnErr, min};
     ghost use Rattle.node_store.specs.Stores.{Grows};
     ghost use Rattle.computed_cache.specs.Cached.{cached_state};
-    ghost use Rattle.fork_branches.specs.Work.{MayWork, WorkedBy};
+    ghost use Rattle.fork_branches.specs.Work.{MayWork, WorkedOut};
     ghost use Rattle.fork_branches.specs.Solves.{AreSolved, Refuses, AreRun};
 
     ghost done: { Self → ℕ };
@@ -42,7 +46,7 @@ pub trait Pool {
         ensures done { done self.new ≡ done self.old + length solved.handles.items }
         ensures handles { result ≡ solved.handles };
 
-    /// Runs all jobs as `solve_all` does, and counts them if they were all run.
+    /// Runs all jobs as `solve_by` does, and counts them if they were all run.
     final fn all<R: Threads + Sync, J: Jobs>(
         &mut self,
         rt: &R,
@@ -61,12 +65,13 @@ pub trait Pool {
             v.items) }
         ensures refused { IfErr result (Refuses (cached_state pass.old) (cached_state pass.new)) }
         ensures worked { AreRun result → 1 ≤ (J.tasks jobs.now).total
-            → WorkedBy (J.tasks jobs.now) (min workers (J.tasks jobs.now).total)
+            → WorkedOut (J.tasks jobs.now) (min workers (J.tasks jobs.now).total)
             (cached_state pass.old) (cached_state pass.new) }
         ensures done { OnOk result (done self.new ≡ done self.old + (J.tasks jobs.now).total) }
         ensures undone { OnErr result (done self.new ≡ done self.old) }
     {
-        let handles = solve_all(rt, alloc, pass, jobs, gate, workers)?;
+        let solution = solve_by::<R, J, Self::Dealer>(rt, alloc, pass, jobs, gate, workers)?;
+        let handles = solution.handles;
         Ok(self.answered(Solved { handles }))
     }
 }
@@ -89,6 +94,8 @@ impl Drawn {
 }
 
 impl Pool for Drawn {
+    type Dealer = Counting;
+
     ghost done = { λ pool. pool.done };
 
     fn answered(&mut self, solved: Solved) -> Vec<Handle> {

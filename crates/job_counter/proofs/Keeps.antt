@@ -3,16 +3,17 @@ use Rattle.std.proofs.Common.{◌≡◌, ℕ, zero, suc, ◌+◌, ◌/◌, ◌%�
 use Rattle.std.proofs.Common.{◌∙◌, subst, arith, length-set, length-append, get_or-set_same}
 use Rattle.std.specs.List.{sum_by}
 use Rattle.std.proofs.Math.Nat.{mod-eq_of_lt}
-use Rattle.std.proofs.lemmas.Bool.Decides.{nat_tests}
 use Rattle.std.proofs.lemmas.List.{set-get_or}
-use Rattle.std.proofs.lemmas.List.Sums.{sum_by-cons, sum_by-set, sum_by_push, sum_by-append, sum_by-le-sum_by, count_by-le-length}
+use Rattle.std.proofs.lemmas.List.Sums.{sum_by-cons, sum_by-set, sum_by_push, sum_by-le-sum_by, count_by-le-length}
 use mathlib.Core.Option.{some, some-ne-none, some-injective}
 use lib.ListN.{get_elem?}
 use Rattle.atomic_table.specs.Table.{State, Me, keeps, stepped, Allows, Splits, Joins}
 use Rattle.atomic_table.proofs.Lists.{at_set, at_snoc, set_else, set_again}
 use Rattle.job_counter.specs.declared.counter.TheConstants.{ALL_PARTS}
 use Rattle.job_counter.specs.declared.view.Hand.{Hand}
-use Rattle.job_counter.specs.Rule.{Rule, hand, times, once_below, Drew, Counted, first_half, second_half, both_hands}
+use Rattle.job_counter.specs.Numbers.{times, once_below}
+use Rattle.job_counter.specs.Rule.{Rule, hand, Drew, Counted, first_half, second_half, both_hands}
+use Rattle.job_counter.proofs.Times.{times-append, once_more}
 
 -- ---- sums
 
@@ -54,13 +55,6 @@ alone l all id v at whole =
       λ x. omega (arith, others, parts, whole, total_times x (set l id spent), total-set (λ (h : Hand). times x h.drawn) l id v spent at),
     )
 
-times-append : (x : ℕ) (xs ys : List ℕ) → times x (xs ++ ys) ≡ times x xs + times x ys
-times-append x xs ys = sum_by-append _ xs ys
-
--- the numbers below the next one
-once_more : (x n : ℕ) → once_below x n + times x (n ∷ []) ≡ once_below x (n + 1)
-once_more x n = grind (arith, nat_tests)
-
 -- ---- steps
 
 -- one number more was drawn, which is the word as it was
@@ -89,7 +83,9 @@ draws slots id me part s given _ at small =
     let n : ℕ = get_or s.words 0 0 in
     let whole : (n + 1) % 18446744073709551616 ≡ n + 1 =
     mod-eq_of_lt (omega (arith, total_within s.views given.within, given.parts, given.count)) in
-    (hand me.0.parts (me.0.drawn ++ n ∷ []), keeps, tt, rw whole (one_more s given id me.0 at part me.1), (refl, refl))
+    let mine : (x : ℕ) → times x me.0.drawn ≤ once_below x n =
+    λ x. omega (arith, total-set (λ (h : Hand). times x h.drawn) s.views id me.0 (hand 0 []) at, given.once x) in
+    (hand me.0.parts (me.0.drawn ++ n ∷ []), keeps, tt, rw whole (one_more s given id me.0 at part me.1), (refl, refl, mine))
 
 pub divides : (id : ℕ) (v : Hand) → length v.drawn ≤ v.parts / 2 → Splits Rule id v (first_half v) (second_half v)
 divides id v few s given at =
@@ -118,14 +114,14 @@ unites id v other w s given at apart at' =
       once = λ x. omega (arith, total (λ (h : Hand). times x h.drawn), given.once x, times-append x v.drawn w.drawn);
     }
 
-pub counts : (slots id : ℕ) (me : Me (Unit {0}) Hand) → me.0.parts ≡ ALL_PARTS → Allows Rule slots id me 0 (λ n. n) (Counted me)
-counts slots id me all s given _ at small =
-    let drew = alone s.views given.within id me.0 at (all ∙ sym given.parts) in
+pub counts : (slots id : ℕ) (me : Me (Unit {0}) Hand) → Allows Rule slots id me 0 (λ n. n) (Counted me)
+counts slots id me s given _ at small =
+    let drew = λ (all : me.0.parts ≡ ALL_PARTS). alone s.views given.within id me.0 at (all ∙ sym given.parts) in
     let words = sym (set-get_or s.words 0 0) in
     let views = sym (set_again s.views id me.0 at) in (
       me.0,
       keeps,
       tt,
       subst Rule (ap₂ (λ ws vs. record { words = ws; homes = s.homes; views = vs }) words views) given,
-      (refl, drew.0 ∙ given.count, λ x. drew.1 x ∙ given.once x),
+      (refl, λ all. (drew all).0 ∙ given.count, λ all x. (drew all).1 x ∙ given.once x),
     )

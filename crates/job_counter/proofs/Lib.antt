@@ -1,1 +1,3 @@
+pub mod Times
 mod Keeps
+mod Dealt

@@ -1,6 +1,7 @@
 -- What contracts see of a drawer, and what the calls of its counter make of it.
-use Rattle.std.specs.Prelude.{◌≡◌, ℕ, ◌+◌, ◌-◌, ◌/◌, List, [], ◌∷◌, ◌++◌}
+use Rattle.std.specs.Prelude.{◌≡◌, ℕ, ◌+◌, ◌-◌, ◌/◌, List, [], ◌∷◌, ◌++◌, cond, ltb, replicate}
 use Rattle.atomic_table.specs.Seated.{TableId}
+use Rattle.job_counter.specs.Numbers.{times}
 use Rattle.job_counter.specs.declared.counter.Counter.{Counter}
 use Rattle.job_counter.specs.declared.counter.TheConstants.{ALL_PARTS}
 use Rattle.job_counter.specs.declared.counter.Drawer.{Drawer}
@@ -40,3 +41,11 @@ right_half d = record d { parts = d.parts / 2; drawn = [] }
 -- the parts and the numbers of both
 abbrev pub together : Drawing → Drawing → Drawing
 together d e = record d { parts = d.parts + e.parts; drawn = d.drawn ++ e.drawn }
+
+-- how often the drawer drew the number, if that is below the count
+abbrev pub took_below : ℕ → Drawer → ℕ → ℕ
+took_below count d x = cond (ltb x count) (times x (drawing d).drawn) 0
+
+-- so many zeros
+unfoldable pub zeros : ℕ → List ℕ
+zeros n = replicate n 0

@@ -1,23 +1,16 @@
 -- The rule of the counter: the numbers that its seats drew are those below its word, each once.
-use Rattle.std.specs.Prelude.{◌≡◌, ℕ, ◌+◌, ◌-◌, ◌/◌, ◌≤◌, ◌==◌, cond, ltb, List, [], ◌∷◌, ◌++◌, length, slice_index}
-use Rattle.std.specs.List.{sum_by, count_by}
+use Rattle.std.specs.Prelude.{◌≡◌, ℕ, ◌+◌, ◌-◌, ◌/◌, ◌≤◌, List, [], ◌∷◌, ◌++◌, length, slice_index}
+use Rattle.std.specs.List.{sum_by}
 use mathlib.Core.Option.{some}
 use lib.ListN.{get_elem?}
 use Rattle.atomic_table.specs.Table.{State, Me}
+use Rattle.job_counter.specs.Numbers.{times, once_below}
 use Rattle.job_counter.specs.declared.counter.TheConstants.{ALL_PARTS}
 use Rattle.job_counter.specs.declared.view.Hand.{Hand}
 
 -- what a seat knows: so many parts, and the numbers drawn
 abbrev pub hand : ℕ → List ℕ → Hand
 hand parts drawn = record { parts = parts; drawn = drawn }
-
--- how often x is among the numbers
-abbrev pub times : ℕ → List ℕ → ℕ
-times x numbers = count_by (λ y. y == x) numbers
-
--- 1 where x is below n, and 0 where it is not
-abbrev pub once_below : ℕ → ℕ → ℕ
-once_below x n = cond (ltb x n) 1 0
 
 -- the seats have all parts together, and each drew no more numbers than it has parts. As many numbers were drawn as the word
 -- says: each number below the word once, by one seat, and no other number
@@ -38,11 +31,14 @@ second_half v = hand (v.parts / 2) []
 abbrev pub both_hands : Hand → Hand → Hand
 both_hands v w = hand (v.parts + w.parts) (v.drawn ++ w.drawn)
 
--- the number that was found is drawn
+-- the number that was found is drawn, and those that the seat drew before are below it, each once
 abbrev pub Drew : Me (Unit {0}) Hand → ℕ → Me (Unit {0}) Hand → Type 0
-Drew before found after = (after.1 ≡ before.1) × (after.0 ≡ hand before.0.parts (before.0.drawn ++ found ∷ []))
+Drew before found after =
+    (after.1 ≡ before.1) × (after.0 ≡ hand before.0.parts (before.0.drawn ++ found ∷ []))
+    × ((x : ℕ) → times x before.0.drawn ≤ once_below x found)
 
--- the seat drew as many numbers as the word that was found: each number below it once, and no other
+-- a seat with all parts drew as many numbers as the word that was found: each number below it once, and no other
 abbrev pub Counted : Me (Unit {0}) Hand → ℕ → Me (Unit {0}) Hand → Type 0
 Counted before found after =
-    (after ≡ before) × (length before.0.drawn ≡ found) × ((x : ℕ) → times x before.0.drawn ≡ once_below x found)
+    (after ≡ before) × (before.0.parts ≡ ALL_PARTS → length before.0.drawn ≡ found)
+    × (before.0.parts ≡ ALL_PARTS → (x : ℕ) → times x before.0.drawn ≡ once_below x found)

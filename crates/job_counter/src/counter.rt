@@ -1,6 +1,6 @@
 //! The counter, and those who draw its numbers.
 ghost use Rattle.std.specs.Prelude.{◌≡◌, ℕ, ◌<◌, ◌≤◌, ◌/◌, [], length, IfOk};
-ghost use Rattle.job_counter.specs.Rule.{times, once_below};
+ghost use Rattle.job_counter.specs.Numbers.{times, once_below};
 ghost use Rattle.job_counter.specs.declared.counter.TheConstants.{ALL_PARTS};
 
 use crate::plays::{Count, Draw, Halves, Numbers, Union};
@@ -42,12 +42,13 @@ impl Counter {
         Ok((Counter { table }, Drawer { seat }))
     }
 
-    /// Draws the next number.
+    /// Draws the next number. Those that the drawer drew before are below it, each once.
     #[tactic(auto, unfolding(crate::specs::Drawing::drawing, crate::specs::Drawing::name))]
     pub fn draw(&self, drawer: &mut Drawer) -> u64
         requires of { IsOf drawer.old self.now }
         requires part { length (drawing drawer.old).drawn < (drawing drawer.old).parts }
-        ensures { drawing drawer.new ≡ more_drawn (drawing drawer.old) result }
+        ensures more { drawing drawer.new ≡ more_drawn (drawing drawer.old) result }
+        ensures once { (x : ℕ) → times x (drawing drawer.old).drawn ≤ once_below x result }
     {
         self.table.shared.fetch_add::<Draw>(&mut drawer.seat, 0, 1)
     }
@@ -79,11 +80,12 @@ impl Counter {
     /// once, and no other.
     #[tactic(auto, unfolding(crate::specs::Drawing::drawing, crate::specs::Drawing::name))]
     pub fn all_drawn(&self, drawer: &mut Drawer) -> u64
-        requires of { IsOf drawer.old self.now }
-        requires all { (drawing drawer.old).parts ≡ ALL_PARTS }
+        requires { IsOf drawer.old self.now }
         ensures same { drawing drawer.new ≡ drawing drawer.old }
-        ensures count { length (drawing drawer.old).drawn ≡ result }
-        ensures once { (x : ℕ) → times x (drawing drawer.old).drawn ≡ once_below x result }
+        ensures count { (drawing drawer.old).parts ≡ ALL_PARTS
+            → length (drawing drawer.old).drawn ≡ result }
+        ensures once { (drawing drawer.old).parts ≡ ALL_PARTS
+            → (x : ℕ) → times x (drawing drawer.old).drawn ≡ once_below x result }
     {
         self.table.shared.load::<Count>(&mut drawer.seat, 0)
     }

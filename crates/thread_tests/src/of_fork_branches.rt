@@ -4,7 +4,8 @@ ghost use Rattle.node_store.specs.AnyFamily.{MayHoldAny};
 
 use bool_poly::SetOps;
 use computed_cache::CachedPass;
-use fork_branches::{Drawn, Forked, Jobs, Pool, Solved};
+use fork_branches::{Drawn, Forked, Jobs, Pool, Solution, Solved, solve_by};
+use job_counter::Dealing;
 use lattice::{Mono, Monos, Op};
 use node_store::{Full, Handle, Store, any_plan};
 use outside::Rendezvous;
@@ -107,6 +108,8 @@ struct Counting {
 }
 
 impl Pool for Counting {
+    type Dealer = <Drawn as Pool>::Dealer;
+
     ghost done = { λ pool. pool.pool.done };
 
     fn answered(&mut self, solved: Solved) -> Vec<Handle> {
@@ -163,6 +166,45 @@ fn jobs_are_drawn(rt: HostRuntime) -> Result<(), Fail> {
     assert!(rt; jobs.went_well());
     assert!(rt; gate.met());
     assert_eq!(rt; handles.len(), 4);
+    Ok(())
+}
+
+// All jobs by a dealing, in a table of their own.
+fn dealt_by<R: Threads + Sync, D: Dealing>(
+    rt: &R,
+    alloc: Global,
+    jobs: &Noted,
+    workers: u32,
+) -> Result<Solution, Fail>
+    requires workers { (1 ≤ workers) × (workers ≤ 16) }
+    requires few { jobs.now.count < 2 ^ 30 }
+{
+    let (table, token) = Shared::make(alloc, 8, 3, any_plan(3))?;
+    let mut pass = CachedPass::new(table.pass(token));
+    let gate = Rendezvous::open();
+    Ok(solve_by::<R, Noted, D>(rt, alloc, &mut pass, jobs, &gate, workers)?)
+}
+
+// The same jobs: the worker that ran the first ran no other, and nobody ran a fifth.
+#[test]
+fn shares_of_the_workers(rt: HostRuntime) -> Result<(), Fail> {
+    let jobs = Noted::new(rt.alloc(), 4, 1, 4)?;
+    let Solution { handles, shares } = dealt_by::<HostRuntime, job_counter::Counting>(
+        &rt,
+        rt.alloc(),
+        &jobs,
+        2,
+    )?;
+    assert!(rt; jobs.went_well());
+    assert_eq!(rt; handles.len(), 4);
+    let first = shares.worker_of(0);
+    assert!(rt; first == Some(0) || first == Some(1));
+    for number in 1..4 {
+        let other = shares.worker_of(number);
+        assert!(rt; other == Some(0) || other == Some(1));
+        assert!(rt; other != first);
+    }
+    assert_eq!(rt; shares.worker_of(4), None);
     Ok(())
 }
 

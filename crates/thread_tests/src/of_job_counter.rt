@@ -2,7 +2,8 @@ ghost use Rattle.std.specs.Prelude.{◌≡◌, ℕ, ◌/◌, ◌<◌, ◌≤◌,
 ghost use Rattle.job_counter.specs.Drawing.{drawing, IsOf};
 ghost use Rattle.job_counter.specs.declared.counter.TheConstants.{ALL_PARTS};
 
-use job_counter::{Counter, Drawer};
+use job_counter::{Counter, Counting, Dealing, Drawer};
+use lattice::Memory;
 use std::alloc::Global;
 use std::test::Fail;
 use std::thread::{Threads, join};
@@ -86,5 +87,25 @@ fn numbers_in_order(rt: HostRuntime) -> Result<(), Fail> {
     assert_eq!(rt; counter.draw(&mut drawer), 1);
     assert_eq!(rt; counter.draw(&mut drawer), 2);
     assert_eq!(rt; counter.all_drawn(&mut drawer), 3);
+    Ok(())
+}
+
+// What two hands take of three numbers, and then the hand of both.
+fn three_numbers<D: Dealing>(alloc: Global) -> Result<[Option<u32>; 5], Memory> {
+    let (dealing, hand) = D::make(alloc, 3, 2)?;
+    let (mut first, mut second) = dealing.halve(hand);
+    let one = dealing.take(&mut first);
+    let two = dealing.take(&mut second);
+    let three = dealing.take(&mut first);
+    let four = dealing.take(&mut second);
+    let mut hand = dealing.unite(first, second);
+    Ok([one, two, three, four, dealing.take(&mut hand)])
+}
+
+// The numbers are dealt in order, each once, and then there are none left.
+#[test]
+fn numbers_are_dealt(rt: HostRuntime) -> Result<(), Fail> {
+    let numbers = three_numbers::<Counting>(rt.alloc())?;
+    assert_eq!(rt; numbers, [Some(0), Some(1), Some(2), None, None]);
     Ok(())
 }

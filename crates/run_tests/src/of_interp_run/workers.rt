@@ -72,6 +72,8 @@ struct Counting {
 }
 
 impl Pool for Counting {
+    type Dealer = <Drawn as Pool>::Dealer;
+
     ghost done = { λ pool. pool.pool.done };
 
     fn answered(&mut self, solved: Solved) -> Vec<Handle> {

@@ -1,12 +1,17 @@
-use Rattle.std.proofs.Common.{◌≤◌, vec_capacity}
-use Rattle.job_counter.specs.Drawing.{drawing}
+use Rattle.std.proofs.Common.{◌≤◌, ◌-◌, Ok, length, vec_capacity}
 use Rattle.computed_cache.specs.Cached.{cached_state}
-use Rattle.fork_branches.proofs.Works.{Going}
+use Rattle.fork_branches.specs.Work.{MayWork, Works, Takes}
 use Rattle.fork_branches.proofs.work.work.Given as goal
 
-abbrev pub invariant-loop-turn : goal.invariant-loop-turn
-invariant-loop-turn g l =
-    g.O.SetOps.ready l.ops
-    × ((g.J.Jobs.tasks l.jobs).total ≤ vec_capacity l.answers)
-    × Going (g.J.Jobs.tasks l.jobs) (cached_state l.fn.pass) (cached_state l.pass) (drawing l.fn.drawer) (drawing l.drawer)
-    l.answers.items l._turn
+abbrev pub invariant-loop-number : goal.invariant-loop-number
+invariant-loop-number g l = let tasks = g.J.Jobs.tasks l.jobs in record {
+  ready : g.O.SetOps.ready l.ops;
+  may : MayWork tasks (cached_state l.pass);
+  room : tasks.total ≤ vec_capacity l.answers;
+  works : Works tasks (cached_state l.fn.pass) (cached_state l.pass) l.answers.items (Ok (tt {0}));
+  takes : Takes (g.D.Dealing.is_of l.dealer) g.D.Dealing.shares (g.D.Dealing.took l.dealer) l.fn.hand l.hand l.answers.items (Ok (tt {0}));
+}
+
+-- each number has an answer, and no number is taken twice
+abbrev pub decreases-loop-number : goal.decreases-loop-number
+decreases-loop-number g l = (g.J.Jobs.tasks l.jobs).total - length l.answers.items

@@ -5,4 +5,4 @@ use Rattle.job_counter.proofs.counter.Counter.all_drawn.Goals as goal
 
 pub load-requires : goal.load-requires
 unfolding drawing name
-load-requires c = (search rules, search rules, counts _ _ _ c.requires.all)
+load-requires c = (search rules, search rules, counts _ _ _)
