@@ -1,0 +1,5 @@
+mod Keeps
+mod Seated
+mod Listed
+mod Given
+mod Placed
