@@ -5,29 +5,19 @@ use Rattle.std.specs.Prelude.{Bool, true, false, cond, ltb, ◌==◌}
 use mathlib.Core.Option.{some, some-injective}
 use Rattle.std.specs.List.{All, sum_by}
 use Rattle.std.proofs.lemmas.Bool.Decides.{nat_tests}
-use Rattle.std.proofs.lemmas.List.{length-append, length-map, get_or-map}
+use Rattle.std.proofs.Math.Seq.{get_or-append_seam}
+use Rattle.std.proofs.lemmas.List.{get_or_append_left, length-append, length-map, get_or-map}
 use Rattle.std.proofs.lemmas.List.Elements.{All-set, All-cons}
 use Rattle.std.proofs.lemmas.List.Sums.{sum_by-cons, sum_by-set, sum_by_push, sum_by-append}
-use Rattle.job_counter.specs.Rule.{times}
+use Rattle.job_counter.specs.Numbers.{times}
 use Rattle.job_deques.specs.declared.view.Hold.{Hold}
 use Rattle.job_deques.specs.declared.way.Way.{Way}
 use Rattle.job_deques.specs.declared.own.Own.{Own}
 use Rattle.job_deques.specs.declared.seat.Seat.{Seat}
 use Rattle.job_deques.specs.Rule.{IsWithin, together}
 use Rattle.job_deques.specs.Seats.{Layout, IsWay, AreWays, IsTaking, parts_of, took, all_took, stole, own_view, way_view, own_deque, way_deque}
-use Rattle.job_deques.specs.Hands.{AreTaking, GaveWay, TookBack, places, numbers_below, ways_in}
+use Rattle.job_deques.specs.Hands.{AreWhole, CanTakeBack, GaveWay, TookBack, places, numbers_below, ways_in}
 use Rattle.job_deques.proofs.Listed.{all_behind}
-
--- ---- a list with one more at the end
-
-pub get_or-front : {X : Type 0} (xs : List X) (y d : X) (i : ℕ) → i < length xs → get_or (xs ++ y ∷ []) i d ≡ get_or xs i d
-get_or-front [] y d i less = absurd (omega (arith, less))
-get_or-front (x ∷ xs) y d zero less = refl
-get_or-front (x ∷ xs) y d (suc i) less = get_or-front xs y d i (omega (arith, less))
-
-pub get_or-last : {X : Type 0} (xs : List X) (y d : X) → get_or (xs ++ y ∷ []) (length xs) d ≡ y
-get_or-last [] y d = refl
-get_or-last (x ∷ xs) y d = get_or-last xs y d
 
 -- ---- a seat gives its last way
 
@@ -42,7 +32,7 @@ module _ (s t : Seat) (w : Way) (gave : s.ways.items ≡ t.ways.items ++ w ∷ [
   its_way l h =
       let here = h.ways (length t.ways.items) w (omega (arith, longer)) in
       let is : get_or s.ways.items (length t.ways.items) w ≡ w =
-      ap (λ (ws : List Way). get_or ws (length t.ways.items) w) gave ∙ get_or-last t.ways.items w w in
+      ap (λ (ws : List Way). get_or ws (length t.ways.items) w) gave ∙ get_or-append_seam t.ways.items w [] w in
       subst (IsWay l (length t.ways.items)) is here
 
   still : (l : Layout) → IsTaking l s → IsTaking l t
@@ -54,8 +44,13 @@ module _ (s t : Seat) (w : Way) (gave : s.ways.items ≡ t.ways.items ++ w ∷ [
     few = omega (arith, longer, h.few);
     ways = λ k d less.
         let same : get_or s.ways.items k d ≡ get_or t.ways.items k d =
-        ap (λ (ws : List Way). get_or ws k d) gave ∙ get_or-front t.ways.items w d k less in
+        ap (λ (ws : List Way). get_or ws k d) gave ∙ get_or_append_left t.ways.items (w ∷ []) d k less in
         subst (IsWay l k) same (h.ways k d (omega (arith, less, longer)));
+    idle = λ x d less.
+        let inside : s.at < length t.ways.items = omega (arith, less, at) in
+        let same : get_or s.ways.items s.at d ≡ get_or t.ways.items s.at d =
+        ap (λ (ws : List Way). get_or ws s.at d) gave ∙ get_or_append_left t.ways.items (w ∷ []) d s.at inside in
+        rw (at, sym same) (h.idle x d (omega (arith, inside, longer)));
   }
 
   parts_given : (j : ℕ) → parts_of j s ≡ parts_of j t + cond (length t.ways.items == j) 1 0
@@ -108,26 +103,28 @@ pub length-numbers : (n : ℕ) → length (numbers_below n) ≡ n
 length-numbers zero = refl
 length-numbers (suc n) = omega (arith, length-append (numbers_below n) (n ∷ []), length-numbers n)
 
-number_at : (n i : ℕ) → i < n → get_or (numbers_below n) i 0 ≡ i
-number_at zero i less = absurd (omega (arith, less))
-number_at (suc n) i less =
+pub number_at : (n i d : ℕ) → i < n → get_or (numbers_below n) i d ≡ i
+number_at zero i d less = absurd (omega (arith, less))
+number_at (suc n) i d less =
     let same : (i < n) ⊎ (i ≡ n) = grind arith in
     elim same [
-      | inl below ↦ get_or-front (numbers_below n) n 0 i (rw (length-numbers n) below) ∙ number_at n i below
+      | inl below ↦ get_or_append_left (numbers_below n) (n ∷ []) d i (rw (length-numbers n) below) ∙ number_at n i d below
       | inr e ↦
-          let last : get_or (numbers_below (suc n)) (length (numbers_below n)) 0 ≡ n = get_or-last (numbers_below n) n 0 in
-          rw e (subst (λ (k : ℕ). get_or (numbers_below (suc n)) k 0 ≡ n) (length-numbers n) last)
+          let last : get_or (numbers_below (suc n)) (length (numbers_below n)) d ≡ n = get_or-append_seam (numbers_below n) n [] d in
+          rw e (subst (λ (k : ℕ). get_or (numbers_below (suc n)) k d ≡ n) (length-numbers n) last)
     ]
 
 -- as many seats as there are, each at its number
 pub all_seats : (seats : List Seat) (n : ℕ) → places seats ≡ numbers_below n → length seats ≡ n
 all_seats seats n whole = sym (length-map seats (λ (u : Seat). u.at)) ∙ (ap length whole ∙ length-numbers n)
 
-pub at_place : (seats : List Seat) (n i : ℕ) (s : Seat) → places seats ≡ numbers_below n → i < n → s ≡ get_or seats i s → s.at ≡ i
-at_place seats n i s whole less is =
+pub number_of : (seats : List Seat) (n i : ℕ) (d : Seat) → places seats ≡ numbers_below n → i < n → (get_or seats i d).at ≡ i
+number_of seats n i d whole less =
     let within : i < length seats = rw (all_seats seats n whole) less in
-    ap (λ (u : Seat). u.at) is ∙ (sym (get_or-map (λ (u : Seat). u.at) seats i s 0 within)
-    ∙ (ap (λ (l : List ℕ). get_or l i 0) whole ∙ number_at n i less))
+    sym (get_or-map (λ (u : Seat). u.at) seats i d 0 within) ∙ (ap (λ (l : List ℕ). get_or l i 0) whole ∙ number_at n i 0 less)
+
+pub at_place : (seats : List Seat) (n i : ℕ) (s : Seat) → places seats ≡ numbers_below n → i < n → s ≡ get_or seats i s → s.at ≡ i
+at_place seats n i s whole less is = ap (λ (u : Seat). u.at) is ∙ number_of seats n i s whole less
 
 -- a way to the deque is one to what the seat at its number has of its own
 pub its_owner : (l : Layout) (i : ℕ) (w : Way) (seats : List Seat) (s : Seat) → i < length seats → s ≡ get_or seats i s → s.at ≡ i
@@ -162,6 +159,7 @@ module _ (l : Layout) (i : ℕ) (w : Way) (seats : List Seat) (s : Seat) (own : 
     within = within;
     few = h.few;
     ways = h.ways;
+    idle = h.idle;
   }
 
   more_of : (j : ℕ) → parts_of j fed ≡ parts_of j s + cond (i == j) 1 0
@@ -185,12 +183,33 @@ module _ (l : Layout) (i : ℕ) (w : Way) (seats : List Seat) (s : Seat) (own : 
     same = omega (arith, set_sum (λ u. length u.ways.items) 0 (omega arith));
   }
 
-pub gave_back : (l : Layout) (j : ℕ) (w : Way) (old mid new : List Seat) → AreTaking l old → GaveWay j w old mid → TookBack l j w mid new
-    → AreTaking l new
-gave_back l j w old mid new of gave back = record {
-  some = of.some;
-  small = of.small;
-  few = rw (back.places, gave.places) of.few;
-  each = back.each;
-  parts = λ i less. rw (back.places, gave.places) (omega (arith, of.parts i less, gave.parts i, back.parts i));
+pub can_take_back : (l : Layout) (j : ℕ) (w : Way) (old mid : List Seat) → AreWhole l old → GaveWay j w old mid → CanTakeBack l j w mid
+can_take_back l j w old mid now gave = record {
+  small = now.of.small;
+  each = gave.each l now.of.each;
+  whole = gave.places ∙ now.whole;
+  less = (gave.way l now.of.each).0;
+  way = (gave.way l now.of.each).1;
 }
+
+pub gave_back : (l : Layout) (j : ℕ) (w : Way) (old mid new : List Seat) → AreWhole l old → GaveWay j w old mid → TookBack l j w mid new
+    → AreWhole l new
+gave_back l j w old mid new now gave back = record {
+  of = record {
+    some = now.of.some;
+    small = now.of.small;
+    few = rw (back.places, gave.places) now.of.few;
+    each = back.each;
+    parts = λ i less. rw (back.places, gave.places) (omega (arith, now.of.parts i less, gave.parts i, back.parts i));
+  };
+  whole = back.places ∙ (gave.places ∙ now.whole);
+}
+
+-- where the numbers below a number go on with another, this is it
+pub next_number : (n total a : ℕ) (rest : List ℕ) → numbers_below n ++ a ∷ rest ≡ numbers_below total → a ≡ n
+next_number n total a rest is =
+    let many = ap length is in
+    let less : n < total = omega (arith, many, length-append (numbers_below n) (a ∷ rest), length-numbers n, length-numbers total) in
+    let here : get_or (numbers_below n ++ a ∷ rest) n 0 ≡ a =
+    subst (λ (k : ℕ). get_or (numbers_below n ++ a ∷ rest) k 0 ≡ a) (length-numbers n) (get_or-append_seam (numbers_below n) a rest 0) in
+    sym here ∙ (ap (λ (l : List ℕ). get_or l n 0) is ∙ number_at total n 0 less)

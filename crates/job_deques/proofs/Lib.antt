@@ -3,3 +3,5 @@ mod Seated
 mod Listed
 mod Given
 mod Placed
+mod Once
+mod Made

@@ -2,7 +2,7 @@
 use Rattle.std.proofs.Common.{◌≡◌, ℕ, zero, suc, ◌+◌, ◌<◌, ◌∙◌, Result, Ok, Err, List, [], ◌∷◌, ◌++◌, length, get_or, set, take, drop, sym, refl, ap, arith}
 use Rattle.std.proofs.lemmas.List.{length-take, length-drop, get_or-drop}
 use Rattle.std.specs.List.{All, AllZip}
-use Rattle.std.specs.Prelude.{Option, Some, None, IfNone}
+use Rattle.std.specs.Prelude.{Option, Some, None, IfNone, IfSome}
 use Rattle.std.specs.Prelude.{OnOk, IfOk, is_ok, if◌then◌else◌}
 
 -- an element that changed in the part behind
@@ -66,3 +66,11 @@ pub front_of : {X : Type 0} (xs rest : List X) (i : ℕ) (s : X) → rest ≡ dr
 front_of xs rest i s behind first =
     let here : i + 0 ≡ i = omega arith in
     first ∙ (ap (λ l. get_or l 0 s) behind ∙ (get_or-drop i xs 0 s ∙ ap (λ (n : ℕ). get_or xs n s) here))
+
+pub if_some : {X : Type 0} (r : Option X) {P : Type 0} → P → IfSome r (λ _. P)
+if_some None p = tt
+if_some (Some x) p = p
+
+pub if_none : {X : Type 0} (r : Option X) {P : Type 0} → P → IfNone r P
+if_none None p = p
+if_none (Some x) p = tt

@@ -3,9 +3,10 @@ use Rattle.std.proofs.Common.{◌≡◌, ◌≢◌, ℕ, suc, ◌+◌, ◌%◌, 
 use Rattle.std.proofs.Common.{◌⊎◌, inl, inr, true≢false, append-nil}
 use Rattle.std.specs.Prelude.{Bool, true, false, cond, ltb, ◌==◌}
 use Rattle.std.proofs.lemmas.Bool.Decides.{nat_tests}
-use Rattle.std.proofs.lemmas.List.{get_or-set_same, get_or-set_other, length-set, length-append}
+use Rattle.std.proofs.Math.Seq.{get_or-append_seam}
+use Rattle.std.proofs.lemmas.List.{get_or_append_left, get_or-set_same, get_or-set_other, length-set, length-append}
 use Rattle.std.proofs.lemmas.List.Sums.{sum_by_push}
-use Rattle.job_counter.specs.Rule.{times}
+use Rattle.job_counter.specs.Numbers.{times}
 use Rattle.job_deques.specs.declared.view.Hold.{Hold}
 use Rattle.job_deques.specs.declared.view.TheConstants.{ALL_PARTS}
 use Rattle.job_deques.specs.declared.way.Way.{Way}
@@ -14,7 +15,6 @@ use Rattle.job_deques.specs.declared.seat.Seat.{Seat}
 use Rattle.job_deques.specs.Rule.{hold, one_part, without_part}
 use Rattle.job_deques.specs.Seats.{Layout, IsWay, AreWays, own_view, own_deque, way_view, way_deque, stole, took}
 use Rattle.job_deques.specs.Dealt.{IsSet, AreSet, AreApart, AreJoined, AreLending, numbered, dealt}
-use Rattle.job_deques.proofs.Given.{get_or-front, get_or-last}
 
 -- one seat changed, and the others are as they were
 seats_set : (l m : Layout) (ways owed ways' owed' : ℕ → ℕ) (seats : List Seat) (k : ℕ) (s : Seat) → AreSet l ways owed seats → m.total ≡ l.total
@@ -88,9 +88,9 @@ more_ways : (l : Layout) (ways : List Way) (j : ℕ) (w : Way) → length ways �
 more_ways l ways j w many new all k d inside =
     let same : (k < length ways) ⊎ (k ≡ length ways) = grind (arith, length-append ways (w ∷ [])) in
     elim same [
-      | inl less ↦ subst (IsWay l k) (sym (get_or-front ways w d k less)) (all k d less)
+      | inl less ↦ subst (IsWay l k) (sym (get_or_append_left ways (w ∷ []) d k less)) (all k d less)
       | inr e ↦
-          let here : get_or (ways ++ w ∷ []) k d ≡ w = ap (λ (n : ℕ). get_or (ways ++ w ∷ []) n d) e ∙ get_or-last ways w d in
+          let here : get_or (ways ++ w ∷ []) k d ≡ w = ap (λ (n : ℕ). get_or (ways ++ w ∷ []) n d) e ∙ get_or-append_seam ways w [] d in
           subst (IsWay l k) (sym here) (subst (λ (n : ℕ). IsWay l n w) (sym many ∙ sym e) new)
     ]
 
@@ -120,6 +120,7 @@ module _ (l : Layout) (i j : ℕ) (seats : List Seat) (s : Seat) (less : j < len
   its_way w all deque view = record {
     name = rw deque (was all).name;
     pushed = ap (λ (v : Hold). v.pushed) view ∙ (was all).pushed;
+    within = λ x. let none = ap (λ (v : Hold). times x v.taken) view in omega (arith, none);
     part = ap (λ (v : Hold). v.parts) view;
   }
 

@@ -3,7 +3,7 @@ use Rattle.std.proofs.Common.{◌≡◌, ℕ, ◌+◌, ◌<◌, List, [], ◌∷
 use Rattle.std.proofs.lemmas.Bool.Decides.{nat_tests}
 use Rattle.std.proofs.lemmas.List.{get_or-set_same, get_or-set_other, length-set}
 use Rattle.std.proofs.lemmas.List.Sums.{sum_by-set, sum_by-append}
-use Rattle.job_counter.specs.Rule.{times}
+use Rattle.job_counter.specs.Numbers.{times}
 use Rattle.job_deques.specs.declared.view.Hold.{Hold}
 use Rattle.job_deques.specs.declared.way.Way.{Way}
 use Rattle.job_deques.specs.declared.own.Own.{Own}
@@ -50,6 +50,7 @@ own_used s own deque pushed parts within = record {
     within = within h.within;
     few = h.few;
     ways = h.ways;
+    idle = h.idle;
   };
 }
 
@@ -58,21 +59,23 @@ own_same s own deque view =
     own_used s own deque (ap (λ (v : Hold). v.pushed) view) (ap (λ (v : Hold). v.parts) view) (λ within. rw view within)
 
 module _ (s t : Seat) (i : ℕ) (old w : Way) (less : i < length s.ways.items) (is : old ≡ get_or s.ways.items i old)
-    (at : t.at ≡ s.at) (own : t.own ≡ s.own) (ways : t.ways.items ≡ set s.ways.items i w) (deque : way_deque w ≡ way_deque old)
-    (pushed : (way_view w).pushed ≡ (way_view old).pushed) (parts : (way_view w).parts ≡ (way_view old).parts) where
+    (apart : i ≢ s.at) (at : t.at ≡ s.at) (own : t.own ≡ s.own) (ways : t.ways.items ≡ set s.ways.items i w) (deque : way_deque w ≡ way_deque old)
+    (pushed : (way_view w).pushed ≡ (way_view old).pushed) (parts : (way_view w).parts ≡ (way_view old).parts)
+    (within : IsWithin (way_view old) → IsWithin (way_view w)) where
   ways_set : (l : Layout) → AreWays l s.ways.items → AreWays l (set s.ways.items i w)
   ways_set l all j d inside =
       let same : (j ≡ i) ⊎ (j ≢ i) = grind arith in
-      let within : j < length s.ways.items = rw (sym (length-set s.ways.items i w)) inside in
+      let there : j < length s.ways.items = rw (sym (length-set s.ways.items i w)) inside in
       elim same [
         | inl e ↦
-            let was : IsWay l j old = subst (IsWay l j) (ap (λ (k : ℕ). get_or s.ways.items k old) e ∙ sym is) (all j old within) in
+            let was : IsWay l j old = subst (IsWay l j) (ap (λ (k : ℕ). get_or s.ways.items k old) e ∙ sym is) (all j old there) in
             rw (e, get_or-set_same s.ways.items i w d less) (rw (sym e) (record {
               name = rw deque was.name;
               pushed = pushed ∙ was.pushed;
+              within = within was.within;
               part = parts ∙ was.part;
             }))
-        | inr ne ↦ rw (get_or-set_other s.ways.items i j w d ne) (all j d within)
+        | inr ne ↦ rw (get_or-set_other s.ways.items i j w d ne) (all j d there)
       ]
 
   pub way_used : StaysAtWork s t
@@ -87,6 +90,9 @@ module _ (s t : Seat) (i : ℕ) (old w : Way) (less : i < length s.ways.items) (
       within = rw own h.within;
       few = rw (ways, length-set s.ways.items i w) h.few;
       ways = rw ways (ways_set l h.ways);
+      idle = λ x d inside.
+          let there : s.at < length s.ways.items = omega (arith, inside, at, ap length ways, length-set s.ways.items i w) in
+          rw (at, ways, get_or-set_other s.ways.items i s.at w d (λ e. apart (sym e))) (h.idle x d there);
     };
   }
 

@@ -3,7 +3,7 @@ use Rattle.std.specs.Prelude.{◌≡◌, ℕ, ◌+◌, ◌-◌, ◌<◌, ◌≤�
 use Rattle.std.specs.List.{sum_by}
 use mathlib.Core.Option.{some}
 use lib.ListN.{get_elem?}
-use Rattle.job_counter.specs.Rule.{times}
+use Rattle.job_counter.specs.Numbers.{times}
 use Rattle.job_deques.specs.declared.view.Hold.{Hold}
 use Rattle.job_deques.specs.declared.view.TheConstants.{ALL_PARTS}
 

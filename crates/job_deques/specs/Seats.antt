@@ -4,7 +4,7 @@ use Rattle.std.specs.List.{sum_by}
 use Rattle.std.specs.Global.{Global}
 use mathlib.Core.Option.{Option, some}
 use Rattle.crossbeam_deque.specs.Handles.{view, worker_view, worker_deque, stealer_deque}
-use Rattle.job_counter.specs.Rule.{times}
+use Rattle.job_counter.specs.Numbers.{times}
 use Rattle.job_deques.specs.Rule.{IsWithin}
 use Rattle.job_deques.specs.declared.view.Hold.{Hold}
 use Rattle.job_deques.specs.declared.view.TheConstants.{ALL_PARTS}
@@ -46,13 +46,14 @@ all_took seats x = sum_by (λ s. took s x) seats
 pub record IsWay (l : Layout) (j : ℕ) (w : Way) : Type 0 where
   pub name : l.name j ≡ some (way_deque w)
   pub pushed : (way_view w).pushed ≡ l.pushed j
+  pub within : IsWithin (way_view w)
   pub part : (way_view w).parts ≡ 1
 
 -- ways by the numbers of their deques
 abbrev pub AreWays : Layout → List Way → Type 0
 AreWays l ways = (j : ℕ) (d : Way) → j < length ways → IsWay l j (get_or ways j d)
 
--- a seat at work, and one that gave back some of its ways or all of them
+-- a seat at work, and one that gave back some of its ways or all of them. It takes nothing by the way to its own deque
 pub record IsTaking (l : Layout) (s : Seat) : Type 0 where
   pub at : s.at < l.total
   pub name : l.name s.at ≡ some (own_deque s.own)
@@ -60,6 +61,7 @@ pub record IsTaking (l : Layout) (s : Seat) : Type 0 where
   pub within : IsWithin (own_view s.own)
   pub few : length s.ways.items ≤ l.total
   pub ways : AreWays l s.ways.items
+  pub idle : (x : ℕ) (d : Way) → s.at < length s.ways.items → times x (way_view (get_or s.ways.items s.at d)).taken ≡ 0
 
 -- each number that was pushed is below the count
 abbrev pub AreBelow : Layout → Type 0

@@ -2,7 +2,7 @@
 ghost use Rattle.std.specs.Prelude.{◌≡◌, ◌+◌, ◌<◌, ◌≤◌, ℕ, [], ◌∷◌, length, IfSome, IfNone};
 ghost use Rattle.std.specs.Prelude.{All};
 ghost use Rattle.std.specs.List.{AllZip};
-ghost use Rattle.job_counter.specs.Rule.{times};
+ghost use Rattle.job_counter.specs.Numbers.{times};
 ghost use Rattle.job_deques.specs.declared.view.TheConstants.{ALL_PARTS};
 ghost use Rattle.job_deques.specs.Rule.{TookAll};
 ghost use Rattle.job_deques.specs.Seats.{Layout, IsTaking, AreBelow, StaysAtWork};

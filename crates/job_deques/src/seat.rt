@@ -1,6 +1,6 @@
 //! What one worker takes numbers with.
 ghost use Rattle.std.specs.Prelude.{◌≡◌, ◌+◌, ◌<◌, ℕ, [], ◌∷◌, ◌++◌, IfSome, IfNone, MatchOption, OnOk};
-ghost use Rattle.job_counter.specs.Rule.{times};
+ghost use Rattle.job_counter.specs.Numbers.{times};
 ghost use Rattle.job_deques.specs.Rule.{TookAll};
 ghost use Rattle.job_deques.specs.Seats.{Layout, IsTaking, AreBelow, StaysAtWork, own_view, took};
 
@@ -47,8 +47,11 @@ impl Seat {
         ensures none { IfNone result ((x : ℕ) → took self.new x ≡ took self.old x) }
     {
         let total = self.ways.len();
-        for turn in 1..total {
+        for turn in 0..total {
             let from = (self.at as usize + turn) % total;
+            if from == self.at as usize {
+                continue;
+            }
             if let Some(number) = self.ways[from].steal(count) {
                 return Some(number);
             }

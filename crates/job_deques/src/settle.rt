@@ -1,9 +1,9 @@
 //! All passes are taken in, once all workers have ended.
-ghost use Rattle.std.specs.Prelude.{◌≡◌, ◌<◌, ◌≤◌, ℕ, length, IfSome, IfNone, All};
+ghost use Rattle.std.specs.Prelude.{◌≡◌, ◌≤◌, ℕ, length, IfSome, IfNone, All};
 ghost use Rattle.job_deques.specs.declared.view.TheConstants.{ALL_PARTS};
-ghost use Rattle.job_deques.specs.Seats.{Layout, IsTaking, IsWay, all_took};
-ghost use Rattle.job_deques.specs.Hands.{AreTaking, GaveWay, TookBack, HasNoWay};
-ghost use Rattle.job_deques.specs.Hands.{places, numbers_below};
+ghost use Rattle.job_deques.specs.Seats.{Layout, all_took};
+ghost use Rattle.job_deques.specs.Hands.{AreWhole, CanTakeBack, GaveWay, TookBack, HasNoWay};
+ghost use Rattle.job_deques.specs.Hands.{places};
 
 use crate::seat::Seat;
 use crate::way::Way;
@@ -29,12 +29,9 @@ fn next_way(seats: &mut LinkedList<Seat>) -> Option<(usize, Way)>
 
 // The owner of the deque of the number takes in the way.
 fn give_back(seats: &mut LinkedList<Seat>, deque: usize, way: Way)
-    ghost l: { Layout }
-    requires each { All (IsTaking l) seats.old }
-    requires whole { places seats.old ≡ numbers_below l.total }
-    requires small { l.total ≤ ALL_PARTS }
-    requires way { (deque < l.total) × IsWay l deque way }
-    ensures { TookBack l deque way seats.old seats.new }
+    requires { (l : Layout) × CanTakeBack l deque way seats.old }
+    ensures { (l : Layout) → CanTakeBack l deque way seats.old
+        → TookBack l deque way seats.old seats.new }
 {
     let mut rest = seats.split_off(deque).unwrap();
     let seat = rest.front_mut().unwrap();
@@ -44,10 +41,8 @@ fn give_back(seats: &mut LinkedList<Seat>, deque: usize, way: Way)
 
 /// Each owner takes in all ways to its deque.
 pub(crate) fn settle(seats: &mut LinkedList<Seat>)
-    ghost l: { Layout }
-    requires of { AreTaking l seats.old }
-    requires whole { places seats.old ≡ numbers_below l.total }
-    ensures of { AreTaking l seats.new }
+    requires { (l : Layout) × AreWhole l seats.old }
+    ensures whole { (l : Layout) → AreWhole l seats.old → AreWhole l seats.new }
     ensures places { places seats.new ≡ places seats.old }
     ensures took { (x : ℕ) → all_took seats.new x ≡ all_took seats.old x }
     ensures bare { All HasNoWay seats.new }

@@ -1,6 +1,6 @@
 use Rattle.std.proofs.Math.Nat.{mod-lt}
 use Rattle.std.proofs.Common.{◌+◌, ◌%◌, ◌<◌, ◌∙◌, ℕ, length, arith, refl, ap, sym}
-use Rattle.job_counter.specs.Rule.{times}
+use Rattle.job_counter.specs.Numbers.{times}
 use Rattle.job_deques.specs.declared.view.Hold.{Hold}
 use Rattle.job_deques.specs.Seats.{way_view}
 use Rattle.job_deques.proofs.Seated.{more, stays_on, way_used, stole_set, below_of}
@@ -14,7 +14,7 @@ returns-in-Some-clause-same c =
     omega (arith, within, c.len-total.ensures, c.loop-turn.invariant.same.many, c.args.self.now.ways.ok.0) in
     let m = more c.in-Some.number (way_view c.index_mut.result.now) (way_view c.steal.new.self) c.in-Some.ensures.rule in
     stays_on c.loop-turn.invariant.same (way_used c.loop-turn.self _ from c.index_mut.result.now c.steal.new.self less c.index_mut.ensures.value
-    refl refl refl c.in-Some.ensures.deque m.0 m.1)
+    c.if-from-self.false refl refl refl c.in-Some.ensures.deque m.0 m.1 (λ _. c.in-Some.ensures.rule.1))
 
 pub returns-in-Some-clause-below : goal.returns-in-Some-clause-below
 returns-in-Some-clause-below c l h below =
@@ -34,7 +34,8 @@ loop-turn-preserved c =
     omega (arith, within, c.len-total.ensures, c.loop-turn.invariant.same.many, c.args.self.now.ways.ok.0) in
     let view = c.in_default.ensures.rule in record {
       same = stays_on c.loop-turn.invariant.same (way_used c.loop-turn.self _ from c.index_mut.result.now c.steal.new.self less
-          c.index_mut.ensures.value refl refl refl c.in_default.ensures.deque (ap (λ (v : Hold). v.pushed) view) (ap (λ (v : Hold). v.parts) view));
+          c.index_mut.ensures.value c.if-from-self.false refl refl refl c.in_default.ensures.deque (ap (λ (v : Hold). v.pushed) view)
+          (ap (λ (v : Hold). v.parts) view) (λ within. rw view within));
       own = c.loop-turn.invariant.own;
       took = λ x.
           let e = ap (λ (v : Hold). times x v.taken) view in
