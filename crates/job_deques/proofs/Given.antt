@@ -1,8 +1,8 @@
 -- A way leaves its seat, and its owner takes it in.
-use Rattle.std.proofs.Common.{◌≡◌, ◌≢◌, ℕ, zero, suc, ◌+◌, ◌<◌, ◌≤◌, List, [], ◌∷◌, ◌++◌, length, get_or, set, map, sym, refl, ap, ◌∙◌, subst, arith}
+use Rattle.std.proofs.Common.{◌≡◌, ℕ, zero, suc, ◌+◌, ◌<◌, List, [], ◌∷◌, ◌++◌, length, get_or, set, sym, refl, ap, ◌∙◌, subst, arith}
 use Rattle.std.proofs.Common.{◌⊎◌, inl, inr}
 use Rattle.std.specs.Prelude.{Bool, true, false, cond, ltb, ◌==◌}
-use mathlib.Core.Option.{some, some-injective}
+use mathlib.Core.Option.{some-injective}
 use Rattle.std.specs.List.{All, sum_by}
 use Rattle.std.proofs.lemmas.Bool.Decides.{nat_tests}
 use Rattle.std.proofs.Math.Seq.{get_or-append_seam}
@@ -15,8 +15,8 @@ use Rattle.job_deques.specs.declared.way.Way.{Way}
 use Rattle.job_deques.specs.declared.own.Own.{Own}
 use Rattle.job_deques.specs.declared.seat.Seat.{Seat}
 use Rattle.job_deques.specs.Rule.{IsWithin, together}
-use Rattle.job_deques.specs.Seats.{Layout, IsWay, AreWays, IsTaking, parts_of, took, all_took, stole, own_view, way_view, own_deque, way_deque}
-use Rattle.job_deques.specs.Hands.{AreWhole, CanTakeBack, GaveWay, TookBack, places, numbers_below, ways_in}
+use Rattle.job_deques.specs.Seats.{Layout, IsWay, IsTaking, parts_of, took, stole, own_view, way_view, own_deque, way_deque}
+use Rattle.job_deques.specs.Hands.{AreWhole, CanTakeBack, GaveWay, TookBack, places, numbers_below}
 use Rattle.job_deques.proofs.Listed.{all_behind}
 
 -- ---- a seat gives its last way
@@ -137,7 +137,8 @@ more_parts : (b : Bool) (p : ℕ) → cond b (p + 1) 0 ≡ cond b p 0 + cond b 1
 more_parts true p = refl
 more_parts false p = refl
 
-places_set : (seats : List Seat) (i : ℕ) (s t : Seat) → s ≡ get_or seats i s → i < length seats → t.at ≡ s.at → places (set seats i t) ≡ places seats
+places_set : (seats : List Seat) (i : ℕ) (s t : Seat) → s ≡ get_or seats i s → i < length seats → t.at ≡ s.at
+    → places (set seats i t) ≡ places seats
 places_set [] i s t is less at = refl
 places_set (x ∷ seats) zero s t is less at = ap (λ (n : ℕ). n ∷ places seats) (at ∙ ap (λ (u : Seat). u.at) is)
 places_set (x ∷ seats) (suc i) s t is less at = ap (λ (l : List ℕ). x.at ∷ l) (places_set seats i s t is (omega (arith, less)) at)

@@ -2,12 +2,13 @@
 use Rattle.std.proofs.Common.{◌≡◌, ℕ, zero, suc, ◌+◌, ◌<◌, ◌≤◌, List, [], ◌∷◌, ◌++◌, length, get_or, set, sym, refl, ap}
 use Rattle.std.proofs.Common.{◌∙◌, ◌≢◌, subst, ⊎_elim, arith}
 use Rattle.std.specs.List.{sum_by}
-use Rattle.std.proofs.lemmas.List.Sums.{get_or-le-sum_by, sum_by-cons, sum_by-set, sum_by_push, sum_by-append}
+use Rattle.std.proofs.lemmas.List.Sums.{get_or-le-sum_by, sum_by-cons, sum_by-set, sum_by_push}
 use mathlib.Core.Option.{some, some-ne-none, some-injective}
 use lib.ListN.{get_elem?}
 use Rattle.crossbeam_deque.proofs.Lists.{at_set, at_snoc, set_else}
 use Rattle.crossbeam_deque.specs.Tasks.{Pushes, Takes, Finds, Learns, Forks, Merges}
 use Rattle.job_counter.specs.Numbers.{times}
+use Rattle.job_counter.proofs.Times.{times-append}
 use Rattle.job_deques.specs.declared.view.TheConstants.{ALL_PARTS}
 use Rattle.job_deques.specs.declared.view.Hold.{Hold}
 use Rattle.job_deques.specs.Rule.{Kept, hold, IsWithin, Pushed, Took, TookAll, without_part, one_part, together}
@@ -26,9 +27,6 @@ total-set f l i v w e = let at = found l i v e in grind (arith, sum_by-set f l i
 -- a pass has no more of anything than all have
 one_of_all : (f : Hold → ℕ) (l : List Hold) (i : ℕ) (v : Hold) → get_elem? l i ≡ some v → f v ≤ sum_by f l
 one_of_all f l i v e = let at = found l i v e in rw (sym (ap f at.1)) (get_or-le-sum_by f l i v at.0)
-
-times-append : (x : ℕ) (xs ys : List ℕ) → times x (xs ++ ys) ≡ times x xs + times x ys
-times-append x xs ys = sum_by-append _ xs ys
 
 -- where one pass has all parts, each other has none
 others_idle : (l : List Hold) (i : ℕ) (v : Hold) → get_elem? l i ≡ some v → v.parts ≡ sum_by (λ v. v.parts) l

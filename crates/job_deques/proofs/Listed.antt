@@ -1,9 +1,14 @@
 -- Lists that were taken apart for one element, which changed, and put together again.
-use Rattle.std.proofs.Common.{◌≡◌, ℕ, zero, suc, ◌+◌, ◌<◌, ◌∙◌, Result, Ok, Err, List, [], ◌∷◌, ◌++◌, length, get_or, set, take, drop, sym, refl, ap, arith}
+use Rattle.std.proofs.Common.{◌≡◌, ℕ, zero, suc, ◌+◌, ◌<◌, ◌∙◌, Result, Ok, Err, List, [], ◌∷◌, ◌++◌, length, get_or, set, take, drop}
+use Rattle.std.proofs.Common.{sym, refl, ap, arith}
 use Rattle.std.proofs.lemmas.List.{length-take, length-drop, get_or-drop}
 use Rattle.std.specs.List.{All, AllZip}
 use Rattle.std.specs.Prelude.{Option, Some, None, IfNone, IfSome}
 use Rattle.std.specs.Prelude.{OnOk, IfOk, is_ok, if◌then◌else◌}
+
+pub head : {X : Type 0} (xs : List X) → 0 < length xs → X
+head [] any = absurd (omega (arith, any))
+head (x ∷ xs) any = x
 
 -- an element that changed in the part behind
 pub set_apart : {X : Type 0} (xs : List X) (i : ℕ) (t : X) → i < length xs → take i xs ++ set (drop i xs) 0 t ≡ set xs i t

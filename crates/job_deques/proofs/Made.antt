@@ -1,6 +1,6 @@
 -- Seats as they are made, and as they are before the start.
-use Rattle.std.proofs.Common.{◌≡◌, ℕ, zero, suc, ◌+◌, ◌-◌, ◌<◌, ◌≤◌, List, [], ◌∷◌, ◌++◌, length, get_or, map, sym, refl, ap, ◌∙◌, subst, arith}
-use Rattle.std.proofs.Common.{◌⊎◌, inl, inr}
+use Rattle.std.proofs.Common.{◌≡◌, ℕ, zero, suc, ◌+◌, ◌-◌, ◌<◌, ◌≤◌, List, [], ◌∷◌, ◌++◌, length, get_or, map}
+use Rattle.std.proofs.Common.{sym, refl, ap, ◌∙◌, subst, arith, ◌⊎◌, inl, inr}
 use Rattle.std.specs.Prelude.{cond, ltb, ◌==◌}
 use Rattle.std.specs.List.{All, sum_by}
 use Rattle.std.proofs.lemmas.Bool.Decides.{nat_tests}
@@ -16,10 +16,11 @@ use Rattle.job_deques.specs.declared.view.TheConstants.{ALL_PARTS}
 use Rattle.job_deques.specs.declared.way.Way.{Way}
 use Rattle.job_deques.specs.declared.seat.Seat.{Seat}
 use Rattle.job_deques.specs.Rule.{hold}
-use Rattle.job_deques.specs.Seats.{Layout, IsTaking, own_deque, own_view, way_view, stole, took, all_took, parts_of, first_parts}
-use Rattle.job_deques.specs.Dealt.{AreFresh, AreApart, AreJoined, IsSet, layout_of, numbered}
+use Rattle.job_deques.specs.Seats.{Layout, IsTaking, own_deque, own_view, way_view, took, all_took, parts_of, first_parts}
+use Rattle.job_deques.specs.Dealt.{AreFresh, AreApart, AreJoined, layout_of, numbered}
 use Rattle.job_deques.specs.Hands.{AreTaking, IsUnused, places, numbers_below}
-use Rattle.job_deques.proofs.Listed.{all_behind}
+use Rattle.job_deques.proofs.Listed.{all_behind, head}
+use Rattle.job_deques.proofs.Seated.{stole_none}
 use Rattle.job_deques.proofs.Given.{length-numbers, number_at}
 
 -- ---- as they are made
@@ -42,10 +43,6 @@ name_at f [] i d less = absurd (omega (arith, less))
 name_at f (x ∷ xs) zero d less = refl
 name_at f (x ∷ xs) (suc i) d less = name_at f xs i d (omega (arith, less))
 
-no_ways : (ways : List Way) (x : ℕ) → length ways ≡ 0 → stole ways x ≡ 0
-no_ways [] x none = refl
-no_ways (w ∷ ways) x none = absurd (omega (arith, none))
-
 pub begun : (seats : List Seat) (count : ℕ) → AreFresh seats → AreApart (numbered (layout_of seats count) 0) seats
 begun seats count all = record {
   total = refl;
@@ -57,24 +54,17 @@ begun seats count all = record {
         parts = omega (arith, ap (λ (v : Hold). v.parts) f.1);
         many = f.2;
         each = λ k w inside. absurd (omega (arith, inside, f.2));
-        idle = λ x. let none = ap (λ (v : Hold). times x v.taken) f.1 in omega (arith, none, no_ways (get_or seats i d).ways.items x f.2);
+        idle = λ x. let none = ap (λ (v : Hold). times x v.taken) f.1 in omega (arith, none, stole_none (get_or seats i d).ways.items x f.2);
       };
 }
 
 -- ---- before the start
-
-first : {X : Type 0} (xs : List X) → 0 < length xs → X
-first [] any = absurd (omega (arith, any))
-first (x ∷ xs) any = x
 
 first_of : (own total at j : ℕ) → own ≡ ALL_PARTS - total → j < total
     → cond (at == j) own 0 + cond (ltb j total) 1 0 ≡ cond (at == j) (ALL_PARTS - total) 0 + 1
 first_of own total at j is less = grind (arith, nat_tests)
 
 module _ (l : Layout) (seats : List Seat) (all : AreJoined l seats) where
-  at_number : (i : ℕ) (d : Seat) → i < length seats → IsSet l i l.total l.total (get_or seats i d)
-  at_number i d less = all.each i d less
-
   pub joined_places : places seats ≡ numbers_below l.total
   joined_places = same_lists (places seats) (numbers_below l.total)
       (omega (arith, length-map seats (λ (s : Seat). s.at), length-numbers l.total, all.total)) same
@@ -82,19 +72,19 @@ module _ (l : Layout) (seats : List Seat) (all : AreJoined l seats) where
       same : (k d : ℕ) → k < length (places seats) → get_or (places seats) k d ≡ get_or (numbers_below l.total) k d
       same k d less =
           let inside : k < length seats = omega (arith, less, length-map seats (λ (s : Seat). s.at)) in
-          let below : k < l.total = omega (arith, inside, all.total) in let s : Seat = first seats (omega (arith, inside)) in
+          let below : k < l.total = omega (arith, inside, all.total) in let s : Seat = head seats (omega (arith, inside)) in
           get_or-map (λ (u : Seat). u.at) seats k s d inside ∙ ((all.each k s inside).number ∙ sym (number_at l.total k d below))
 
   pub joined_unused : All (IsUnused l) seats
   joined_unused i d less =
-      let s : Seat = get_or seats i d in let h = at_number i d less in record {
+      let s : Seat = get_or seats i d in let h = all.each i d less in record {
         parts = λ j below. rw h.many (first_of (own_view s.own).parts l.total s.at j (omega (arith, h.parts)) below);
         none = h.idle;
       }
 
   pub joined_each : All (IsTaking l) seats
   joined_each i d less =
-      let s : Seat = get_or seats i d in let h = at_number i d less in
+      let s : Seat = get_or seats i d in let h = all.each i d less in
       let inside : i < l.total = omega (arith, less, all.total) in record {
         at = omega (arith, h.number, inside);
         name = rw h.number h.name;

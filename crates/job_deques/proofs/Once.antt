@@ -1,5 +1,6 @@
 -- What the seats of a hand took, of one seat and of all.
-use Rattle.std.proofs.Common.{◌≡◌, ◌≢◌, ℕ, zero, suc, ◌+◌, ◌-◌, ◌%◌, ◌<◌, ◌≤◌, List, [], ◌∷◌, ◌++◌, length, get_or, take, map, sym, refl, ap, ap₂, ◌∙◌, subst, arith}
+use Rattle.std.proofs.Common.{◌≡◌, ◌≢◌, ℕ, zero, suc, ◌+◌, ◌-◌, ◌%◌, ◌<◌, ◌≤◌, List, [], ◌∷◌, length, get_or, take}
+use Rattle.std.proofs.Common.{sym, refl, ap, ap₂, ◌∙◌, subst, arith}
 use Rattle.std.proofs.Common.{◌⊎◌, inl, inr, add-one}
 use Rattle.std.specs.Prelude.{Bool, true, false, cond, ltb, ◌==◌}
 use Rattle.std.specs.List.{All, AllZip, sum_by}
@@ -9,15 +10,29 @@ use Rattle.std.proofs.Math.Seq.{take-length}
 use Rattle.std.proofs.lemmas.List.Elements.{AllZip-get_or, length_all_zip}
 use Rattle.std.proofs.lemmas.List.Sums.{sum_by-cons, sum_by_push, sum_by_more, sum_by-append}
 use Rattle.job_counter.specs.Numbers.{times, once_below}
+use Rattle.job_counter.proofs.Times.{once_more}
 use Rattle.job_deques.specs.declared.view.TheConstants.{ALL_PARTS}
 use Rattle.job_deques.specs.declared.way.Way.{Way}
 use Rattle.job_deques.specs.declared.seat.Seat.{Seat}
 use Rattle.job_deques.specs.Rule.{TookAll}
-use Rattle.job_deques.specs.Seats.{Layout, IsTaking, AreBelow, StaysAtWork, parts_of, first_parts, took, all_took, stole, own_view, way_view}
+use Rattle.job_deques.specs.Seats.{Layout, IsTaking, AreBelow, StaysAtWork, parts_of, first_parts, took, all_took, stole}
+use Rattle.job_deques.specs.Seats.{own_view, way_view}
 use Rattle.job_deques.specs.Hands.{AreTaking, AreWhole, HasNoWay, places, numbers_below, pushed_to}
 use Rattle.job_deques.specs.Dealt.{numbered, dealt}
-use Rattle.job_deques.proofs.Listed.{all_behind}
+use Rattle.job_deques.proofs.Listed.{all_behind, head}
+use Rattle.job_deques.proofs.Seated.{stole_none}
 use Rattle.job_deques.proofs.Given.{all_seats, number_of}
+
+-- ---- a test of numbers
+
+next_one : (j n k : ℕ) → cond (ltb j n) k 0 + cond (n == j) k 0 ≡ cond (ltb j (suc n)) k 0
+next_one j n k = grind (arith, nat_tests)
+
+none_yet : (j k : ℕ) → cond (ltb j zero) k 0 ≡ 0
+none_yet j k = grind (arith, nat_tests)
+
+there_now : (j n k : ℕ) → j < n → cond (ltb j n) k 0 ≡ k
+there_now j n k less = grind (arith, nat_tests)
 
 -- ---- seats that went on taking
 
@@ -91,17 +106,11 @@ none_dealt l x (suc m) = omega (arith, none_dealt l x m, more_pushed (numbered l
 once_none : (x : ℕ) → once_below x zero ≡ 0
 once_none x = grind (arith, nat_tests)
 
-once_more : (x n : ℕ) → once_below x n + times x (n ∷ []) ≡ once_below x (suc n)
-once_more x n = grind (arith, nat_tests)
-
 pub dealt_once : (l : Layout) (x n : ℕ) → 0 < l.total → pushed_to (numbered l n) x (numbers_below l.total) ≡ once_below x n
 dealt_once l x zero some = none_dealt l x l.total ∙ sym (once_none x)
 dealt_once l x (suc n) some =
-    let hit : cond (ltb (n % l.total) l.total) (times x (n ∷ [])) 0 ≡ times x (n ∷ []) = hits (n % l.total) l.total _ (mod-lt n some) in
-    omega (arith, one_more_dealt l x n l.total, hit, dealt_once l x n some, once_more x n)
-  where
-    hits : (r m t : ℕ) → r < m → cond (ltb r m) t 0 ≡ t
-    hits r m t less = grind (arith, nat_tests)
+    let hit : cond (ltb (n % l.total) l.total) (times x (n ∷ [])) 0 ≡ times x (n ∷ []) = there_now (n % l.total) l.total _ (mod-lt n some) in
+    omega (arith, one_more_dealt l x n l.total, hit, dealt_once l x n some, once_more x n) ∙ ap (once_below x) (add-one n)
 
 -- a number that was dealt is below the count
 dealt_below : (total j n x : ℕ) → 0 < times x (dealt total j n) → x < n
@@ -125,18 +134,11 @@ all_below l j x inside some = dealt_below l.total j l.count x some
 
 -- ---- one seat took each number once
 
-head : {X : Type 0} (xs : List X) → 0 < length xs → X
-head [] some = absurd (omega (arith, some))
-head (x ∷ xs) some = x
-
 more_own : (at n own : ℕ) → at ≢ n → cond (ltb at (suc n)) own 0 ≡ cond (ltb at n) own 0
 more_own at n own apart = grind (arith, nat_tests)
 
 first_own : (at own : ℕ) → (cond (ltb at at) own 0 ≡ 0) × (cond (ltb at (suc at)) own 0 ≡ own)
 first_own at own = (grind (arith, nat_tests), grind (arith, nat_tests))
-
-no_own : (at own : ℕ) → cond (ltb at zero) own 0 ≡ 0
-no_own at own = grind (arith, nat_tests)
 
 module _ (l : Layout) (s : Seat) (h : IsTaking l s) (x : ℕ) where
   abbrev own_took : ℕ
@@ -147,7 +149,7 @@ module _ (l : Layout) (s : Seat) (h : IsTaking l s) (x : ℕ) where
 
   of_ways : (n : ℕ) → n ≤ length s.ways.items
       → stole (take n s.ways.items) x + cond (ltb s.at n) own_took 0 ≤ pushed_to l x (numbers_below n)
-  of_ways zero le = omega (arith, no_own s.at own_took)
+  of_ways zero le = omega (arith, none_yet s.at own_took)
   of_ways (suc n) le =
       let less : n < length s.ways.items = omega (arith, le) in
       let d : Way = head s.ways.items (omega (arith, le)) in let way = h.ways n d less in
@@ -189,16 +191,9 @@ module _ (l : Layout) (s : Seat) (h : IsTaking l s) (x : ℕ) where
   pub seat_once : took s x ≤ pushed_to l x (numbers_below l.total)
   seat_once =
       let all = of_others (l.total - length s.ways.items) l.total (omega (arith, h.few)) in
-      let mine : cond (ltb s.at l.total) own_took 0 ≡ own_took = is_own s.at l.total own_took h.at in omega (arith, all, mine)
-    where
-      is_own : (at n own : ℕ) → at < n → cond (ltb at n) own 0 ≡ own
-      is_own at n own less = grind (arith, nat_tests)
+      omega (arith, all, there_now s.at l.total own_took h.at)
 
 -- ---- all seats that gave back their ways
-
-stole_none : (ways : List Way) (x : ℕ) → length ways ≡ 0 → stole ways x ≡ 0
-stole_none [] x none = refl
-stole_none (w ∷ ways) x none = absurd (omega (arith, none))
 
 pub whole_once : (l : Layout) (x : ℕ) (seats : List Seat) → All (IsTaking l) seats → All HasNoWay seats
     → all_took seats x ≤ pushed_to l x (places seats)
@@ -223,7 +218,8 @@ whole_taken l x (s ∷ seats) each bare all =
     let P : Seat → Type 0 = λ u. times x (own_view u.own).taken ≡ times x (own_view u.own).pushed in
     let rest = whole_taken l x seats (all_behind (IsTaking l) s seats each) (all_behind HasNoWay s seats bare) (all_behind P s seats all) in
     let none = stole_none s.ways.items x (bare 0 s (omega arith)) in
-    let here : times x (own_view s.own).taken ≡ times x (l.pushed s.at) = all 0 s (omega arith) ∙ ap (times x) (each 0 s (omega arith)).pushed in
+    let here : times x (own_view s.own).taken ≡ times x (l.pushed s.at) =
+    all 0 s (omega arith) ∙ ap (times x) (each 0 s (omega arith)).pushed in
     omega (
       arith,
       rest,
@@ -292,15 +288,6 @@ sum_places g [] = refl
 sum_places g (s ∷ seats) =
     omega (arith, sum_places g seats, sum_by-cons (λ (u : Seat). g u.at) s seats, sum_by-cons g s.at (places seats))
 
-next_one : (j n k : ℕ) → cond (ltb j n) k 0 + cond (n == j) k 0 ≡ cond (ltb j (suc n)) k 0
-next_one j n k = grind (arith, nat_tests)
-
-none_yet : (j k : ℕ) → cond (ltb j zero) k 0 ≡ 0
-none_yet j k = grind (arith, nat_tests)
-
-there_now : (j n k : ℕ) → j < n → cond (ltb j n) k 0 ≡ k
-there_now j n k less = grind (arith, nat_tests)
-
 one_number : (j n : ℕ) → sum_by (λ i. cond (i == j) 1 0) (numbers_below n) ≡ cond (ltb j n) 1 0
 one_number j zero = sym (none_yet j 1)
 one_number j (suc n) = omega (arith, one_number j n, sum_by_push (λ (i : ℕ). cond (i == j) 1 0) (numbers_below n) n, next_one j n 1)
@@ -317,7 +304,8 @@ bare_parts j (s ∷ seats) bare =
     let one : ℕ = 1 in
     let here : cond (ltb j (length s.ways.items)) one 0 ≡ 0 = rw (bare 0 s (omega arith)) (none_yet j one) in
     let rest = bare_parts j seats (all_behind HasNoWay s seats bare) in
-    omega (arith, here, rest, sum_by-cons (parts_of j) s seats, sum_by-cons (λ (u : Seat). cond (u.at == j) (own_view u.own).parts 0) s seats)
+    let sum = sum_by-cons (λ (u : Seat). cond (u.at == j) (own_view u.own).parts 0) s seats in
+    omega (arith, here, rest, sum_by-cons (parts_of j) s seats, sum)
 
 module _ (l : Layout) (seats : List Seat) (now : AreWhole l seats) (bare : All HasNoWay seats) where
   all_parts : (k : ℕ) (d : Seat) → k < length seats → (own_view (get_or seats k d).own).parts ≡ ALL_PARTS

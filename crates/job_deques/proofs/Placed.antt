@@ -1,6 +1,6 @@
 -- Seats before the start, of which one changed.
 use Rattle.std.proofs.Common.{◌≡◌, ◌≢◌, ℕ, suc, ◌+◌, ◌%◌, ◌<◌, List, [], ◌∷◌, ◌++◌, length, get_or, set, sym, refl, ap, ◌∙◌, subst, arith}
-use Rattle.std.proofs.Common.{◌⊎◌, inl, inr, true≢false, append-nil}
+use Rattle.std.proofs.Common.{◌⊎◌, inl, inr, append-nil}
 use Rattle.std.specs.Prelude.{Bool, true, false, cond, ltb, ◌==◌}
 use Rattle.std.proofs.lemmas.Bool.Decides.{nat_tests}
 use Rattle.std.proofs.Math.Seq.{get_or-append_seam}
@@ -13,12 +13,12 @@ use Rattle.job_deques.specs.declared.way.Way.{Way}
 use Rattle.job_deques.specs.declared.own.Own.{Own}
 use Rattle.job_deques.specs.declared.seat.Seat.{Seat}
 use Rattle.job_deques.specs.Rule.{hold, one_part, without_part}
-use Rattle.job_deques.specs.Seats.{Layout, IsWay, AreWays, own_view, own_deque, way_view, way_deque, stole, took}
-use Rattle.job_deques.specs.Dealt.{IsSet, AreSet, AreApart, AreJoined, AreLending, numbered, dealt}
+use Rattle.job_deques.specs.Seats.{Layout, IsWay, AreWays, own_view, own_deque, way_view, way_deque, stole}
+use Rattle.job_deques.specs.Dealt.{IsSet, AreSet, AreApart, AreLending, numbered, dealt}
 
 -- one seat changed, and the others are as they were
-seats_set : (l m : Layout) (ways owed ways' owed' : ℕ → ℕ) (seats : List Seat) (k : ℕ) (s : Seat) → AreSet l ways owed seats → m.total ≡ l.total
-    → IsSet m k (ways' k) (owed' k) s
+seats_set : (l m : Layout) (ways owed ways' owed' : ℕ → ℕ) (seats : List Seat) (k : ℕ) (s : Seat) → AreSet l ways owed seats
+    → m.total ≡ l.total → IsSet m k (ways' k) (owed' k) s
     → ((i : ℕ) (u : Seat) → i ≢ k → IsSet l i (ways i) (owed i) u → IsSet m i (ways' i) (owed' i) u) → AreSet m ways' owed' (set seats k s)
 seats_set l m ways owed ways' owed' seats k s all same new others = record {
   total = length-set seats k s ∙ (all.total ∙ sym same);
@@ -29,13 +29,6 @@ seats_set l m ways owed ways' owed' seats k s all same new others = record {
         | inl e ↦ rw (e, get_or-set_same seats k s d (rw (sym e) within)) new
         | inr ne ↦ rw (get_or-set_other seats k i s d ne) (others i (get_or seats i d) ne (all.each i d within))
       ];
-}
-
-seats_same : (l : Layout) (ways owed ways' owed' : ℕ → ℕ) (seats : List Seat)
-    → ((i : ℕ) → i < l.total → (ways' i ≡ ways i) × (owed' i ≡ owed i)) → AreSet l ways owed seats → AreSet l ways' owed' seats
-seats_same l ways owed ways' owed' seats same all = record {
-  total = all.total;
-  each = λ i d less. let e = same i (omega (arith, less, all.total)) in rw (e.0, e.1) (all.each i d less);
 }
 
 seat_at : (l : Layout) (ways owed : ℕ → ℕ) (seats : List Seat) (i : ℕ) (s : Seat) → i < length seats → s ≡ get_or seats i s
@@ -57,8 +50,9 @@ pub has_all : (l : Layout) (seats : List Seat) (j : ℕ) (s : Seat) → j < leng
     → (own_view s.own).parts ≡ ALL_PARTS
 has_all l seats j s less is all = let here = seat_at l _ _ seats j s less is all in omega (arith, here.parts)
 
-pub dealt_more : (l : Layout) (n j : ℕ) (seats : List Seat) (s : Seat) (own : Own) → j ≡ n % l.total → j < length seats → s ≡ get_or seats j s
-    → own_deque own ≡ own_deque s.own → own_view own ≡ hold (own_view s.own).parts ((own_view s.own).pushed ++ n ∷ []) (own_view s.own).taken
+pub dealt_more : (l : Layout) (n j : ℕ) (seats : List Seat) (s : Seat) (own : Own) → j ≡ n % l.total → j < length seats
+    → s ≡ get_or seats j s → own_deque own ≡ own_deque s.own
+    → own_view own ≡ hold (own_view s.own).parts ((own_view s.own).pushed ++ n ∷ []) (own_view s.own).taken
     → AreApart (numbered l n) seats → AreApart (numbered l (suc n)) (set seats j (record s { own = own }))
 dealt_more l n j seats s own rest less is deque view all =
     let here = seat_at (numbered l n) _ _ seats j s less is all in
@@ -124,8 +118,8 @@ module _ (l : Layout) (i j : ℕ) (seats : List Seat) (s : Seat) (less : j < len
     part = ap (λ (v : Hold). v.parts) view;
   }
 
-  pub lent : (own : Own) → own_deque own ≡ own_deque s.own → own_view own ≡ without_part (own_view s.own) → i < l.total → l.total < ALL_PARTS
-      → AreLending l i j seats → AreSet l Ways (λ k. i + cond (ltb k (j + 1)) 1 0) (set seats j (record s { own = own }))
+  pub lent : (own : Own) → own_deque own ≡ own_deque s.own → own_view own ≡ without_part (own_view s.own) → i < l.total
+      → l.total < ALL_PARTS → AreLending l i j seats → AreSet l Ways (λ k. i + cond (ltb k (j + 1)) 1 0) (set seats j (record s { own = own }))
   lent own deque view inside small all = let here = was all in
       seats_set l l _ _ _ _ seats j _ all refl (record {
         number = here.number;
@@ -139,7 +133,8 @@ module _ (l : Layout) (i j : ℕ) (seats : List Seat) (s : Seat) (less : j < len
 
 pub received : (l : Layout) (i j : ℕ) (seats : List Seat) (s t : Seat) (w : Way) → i < length seats → s ≡ get_or seats i s
     → t.ways.items ≡ s.ways.items ++ w ∷ [] → t.own ≡ s.own → t.at ≡ s.at → IsWay l j w → (way_view w).taken ≡ []
-    → AreSet l (λ k. cond (ltb k i) l.total (cond (k == i) j 0)) (λ k. i + cond (ltb k (j + 1)) 1 0) seats → AreLending l i (j + 1) (set seats i t)
+    → AreSet l (λ k. cond (ltb k i) l.total (cond (k == i) j 0)) (λ k. i + cond (ltb k (j + 1)) 1 0) seats
+    → AreLending l i (j + 1) (set seats i t)
 received l i j seats s t w less is more kept number way unused all =
     let there = seat_at l (λ k. cond (ltb k i) l.total (cond (k == i) j 0)) (λ k. i + cond (ltb k (j + 1)) 1 0) seats i s less is all in
     let here = subst (λ (n : ℕ). IsSet l i n (i + cond (ltb i (j + 1)) 1 0) s) (ways_here l.total i j) there in
@@ -157,20 +152,3 @@ received l i j seats s t w less is more kept number way unused all =
           ap (λ (ws : List Way). stole ws x) more ∙ sum_by_push (λ (u : Way). times x (way_view u).taken) s.ways.items w in
           omega (arith, own, none, longer, here.idle x);
     }) (λ k u ne h. rw (ways_other l.total i j k ne) h)
-
--- ---- from seat to seat
-
-pub begin_lending : (l : Layout) (seats : List Seat) → AreApart l seats → AreLending l 0 0 seats
-begin_lending l seats all = seats_same l (λ _. 0) (λ _. 0) (λ k. cond (ltb k 0) l.total (cond (k == 0) 0 0)) (λ k. 0 + cond (ltb k 0) 1 0)
-    seats (λ k less. (grind (arith, nat_tests), grind (arith, nat_tests))) all
-
-pub next_seat : (l : Layout) (i : ℕ) (seats : List Seat) → AreLending l i l.total seats → AreLending l (i + 1) 0 seats
-next_seat l i seats all =
-    seats_same l (λ k. cond (ltb k i) l.total (cond (k == i) l.total 0)) (λ k. i + cond (ltb k l.total) 1 0)
-    (λ k. cond (ltb k (i + 1)) l.total (cond (k == (i + 1)) 0 0)) (λ k. i + 1 + cond (ltb k 0) 1 0)
-    seats (λ k less. (grind (arith, nat_tests), grind (arith, nat_tests))) all
-
-pub end_lending : (l : Layout) (seats : List Seat) → AreLending l l.total 0 seats → AreJoined l seats
-end_lending l seats all =
-    seats_same l (λ k. cond (ltb k l.total) l.total (cond (k == l.total) 0 0)) (λ k. l.total + cond (ltb k 0) 1 0) (λ _. l.total) (λ _. l.total)
-    seats (λ k less. (grind (arith, nat_tests), grind (arith, nat_tests))) all

@@ -1,5 +1,6 @@
 -- What a worker took, and from whom.
-use Rattle.std.proofs.Common.{◌≡◌, ℕ, ◌+◌, ◌<◌, List, [], ◌∷◌, length, get_or, set, sym, refl, ap, ◌∙◌, ◌≢◌, subst, arith, ◌⊎◌, inl, inr}
+use Rattle.std.proofs.Common.{◌≡◌, ℕ, ◌+◌, ◌%◌, ◌<◌, List, [], ◌∷◌, length, get_or, set, sym, refl, ap, ◌∙◌, ◌≢◌, subst, arith, ◌⊎◌, inl, inr}
+use Rattle.std.proofs.Math.Nat.{mod-lt}
 use Rattle.std.proofs.lemmas.Bool.Decides.{nat_tests}
 use Rattle.std.proofs.lemmas.List.{get_or-set_same, get_or-set_other, length-set}
 use Rattle.std.proofs.lemmas.List.Sums.{sum_by-set, sum_by-append}
@@ -13,7 +14,8 @@ use Rattle.job_deques.specs.Seats.{Layout, IsWay, AreWays, AreBelow, IsTaking, S
 
 -- a number that was taken was taken once more, and was pushed
 pub more : (n : ℕ) (v w : Hold) → Took v (n ∷ []) w
-    → (w.pushed ≡ v.pushed) × (w.parts ≡ v.parts) × ((x : ℕ) → times x w.taken ≡ times x v.taken + times x (n ∷ [])) × (0 < times n v.pushed)
+    → (w.pushed ≡ v.pushed) × (w.parts ≡ v.parts) × ((x : ℕ) → times x w.taken ≡ times x v.taken + times x (n ∷ []))
+    × (0 < times n v.pushed)
 more n v w took =
     let longer : (x : ℕ) → times x w.taken ≡ times x v.taken + times x (n ∷ []) =
     λ x. ap (λ (u : Hold). times x u.taken) took.0 ∙ sum_by-append _ v.taken (n ∷ []) in
@@ -38,7 +40,8 @@ stays_on one two = record {
 
 -- a seat after its own deque was used, and after a way was
 pub own_used : (s : Seat) (own : Own) → own_deque own ≡ own_deque s.own → (own_view own).pushed ≡ (own_view s.own).pushed
-    → (own_view own).parts ≡ (own_view s.own).parts → (IsWithin (own_view s.own) → IsWithin (own_view own)) → StaysAtWork s (record s { own = own })
+    → (own_view own).parts ≡ (own_view s.own).parts → (IsWithin (own_view s.own) → IsWithin (own_view own))
+    → StaysAtWork s (record s { own = own })
 own_used s own deque pushed parts within = record {
   at = refl;
   parts = parts;
@@ -54,13 +57,14 @@ own_used s own deque pushed parts within = record {
   };
 }
 
-pub own_same : (s : Seat) (own : Own) → own_deque own ≡ own_deque s.own → own_view own ≡ own_view s.own → StaysAtWork s (record s { own = own })
+pub own_same : (s : Seat) (own : Own) → own_deque own ≡ own_deque s.own → own_view own ≡ own_view s.own
+    → StaysAtWork s (record s { own = own })
 own_same s own deque view =
     own_used s own deque (ap (λ (v : Hold). v.pushed) view) (ap (λ (v : Hold). v.parts) view) (λ within. rw view within)
 
 module _ (s t : Seat) (i : ℕ) (old w : Way) (less : i < length s.ways.items) (is : old ≡ get_or s.ways.items i old)
-    (apart : i ≢ s.at) (at : t.at ≡ s.at) (own : t.own ≡ s.own) (ways : t.ways.items ≡ set s.ways.items i w) (deque : way_deque w ≡ way_deque old)
-    (pushed : (way_view w).pushed ≡ (way_view old).pushed) (parts : (way_view w).parts ≡ (way_view old).parts)
+    (apart : i ≢ s.at) (at : t.at ≡ s.at) (own : t.own ≡ s.own) (ways : t.ways.items ≡ set s.ways.items i w)
+    (deque : way_deque w ≡ way_deque old) (pushed : (way_view w).pushed ≡ (way_view old).pushed) (parts : (way_view w).parts ≡ (way_view old).parts)
     (within : IsWithin (way_view old) → IsWithin (way_view w)) where
   ways_set : (l : Layout) → AreWays l s.ways.items → AreWays l (set s.ways.items i w)
   ways_set l all j d inside =
@@ -95,6 +99,14 @@ module _ (s t : Seat) (i : ℕ) (old w : Way) (less : i < length s.ways.items) (
           rw (at, ways, get_or-set_other s.ways.items i s.at w d (λ e. apart (sym e))) (h.idle x d there);
     };
   }
+
+-- where a number lies that is taken by the length
+pub inside : (n total len : ℕ) → 0 < total → total ≡ len → n % total < len
+inside n total len any same = rw (sym same) (mod-lt n any)
+
+pub stole_none : (ways : List Way) (x : ℕ) → length ways ≡ 0 → stole ways x ≡ 0
+stole_none [] x none = refl
+stole_none (w ∷ ways) x none = absurd (omega (arith, none))
 
 pub stole_set : (ways : List Way) (i : ℕ) (w old : Way) (x : ℕ) → i < length ways → old ≡ get_or ways i old
     → stole (set ways i w) x + times x (way_view old).taken ≡ stole ways x + times x (way_view w).taken

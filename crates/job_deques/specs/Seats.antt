@@ -1,5 +1,5 @@
 -- What a worker took, and what is fixed of a dealing's deques.
-use Rattle.std.specs.Prelude.{◌≡◌, ℕ, zero, suc, ◌+◌, ◌-◌, ◌<◌, ◌≤◌, ◌==◌, ltb, cond, List, get_or, length}
+use Rattle.std.specs.Prelude.{◌≡◌, ℕ, ◌+◌, ◌-◌, ◌<◌, ◌≤◌, ◌==◌, ltb, cond, List, get_or, length}
 use Rattle.std.specs.List.{sum_by}
 use Rattle.std.specs.Global.{Global}
 use mathlib.Core.Option.{Option, some}

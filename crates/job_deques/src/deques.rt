@@ -11,8 +11,8 @@ use std::collections::LinkedList;
 use std::snapshot::Snapshot;
 
 /// The numbers below a count, dealt to the deques of so many workers before the start: each number
-/// to that of its rest. A worker takes the numbers of its own deque in order, and once that is empty
-/// those of the others in turn. Nobody puts a number into a deque after the start.
+/// to that of its rest. A worker takes the numbers of its own deque in order, and once that is
+/// empty those of the others in turn. Nobody puts a number into a deque after the start.
 #[derive(Drop)]
 pub struct Deques {
     count: u32,
@@ -58,7 +58,7 @@ impl Dealing for Deques {
     }
 
     // With all seats each owner takes in all ways first. With more than one seat, but not all, it
-    // takes nothing, since what two seats take of one deque is known to be each once only after that.
+    // takes nothing: that two seats take no number twice is known only after that.
     fn take(&self, hand: &mut Hand) -> Option<u32> {
         if are_whole(&hand.seats, self.total) {
             settle(&mut hand.seats);

@@ -1,5 +1,6 @@
 //! What one worker takes numbers with.
-ghost use Rattle.std.specs.Prelude.{◌≡◌, ◌+◌, ◌<◌, ℕ, [], ◌∷◌, ◌++◌, IfSome, IfNone, MatchOption, OnOk};
+ghost use Rattle.std.specs.Prelude.{◌≡◌, ◌+◌, ◌<◌, ℕ, [], ◌∷◌, ◌++◌, IfSome, IfNone, OnOk};
+ghost use Rattle.std.specs.Prelude.{MatchOption};
 ghost use Rattle.job_counter.specs.Numbers.{times};
 ghost use Rattle.job_deques.specs.Rule.{TookAll};
 ghost use Rattle.job_deques.specs.Seats.{Layout, IsTaking, AreBelow, StaysAtWork, own_view, took};

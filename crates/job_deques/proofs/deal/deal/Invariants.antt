@@ -1,4 +1,3 @@
-use Rattle.std.proofs.Common.{◌≡◌, length}
 use Rattle.job_deques.specs.Dealt.{AreApart, numbered}
 use Rattle.job_deques.proofs.deal.deal.Given as goal
 

@@ -1,4 +1,4 @@
-use Rattle.std.proofs.Common.{◌<◌, length, set, arith, refl, ap, length-set}
+use Rattle.std.proofs.Common.{◌<◌, length, set, arith, ap, length-set}
 use Rattle.job_deques.specs.declared.view.Hold.{Hold}
 use Rattle.job_deques.specs.declared.seat.Seat.{Seat}
 use Rattle.job_deques.proofs.Placed.{enough, its_way, lent, received}

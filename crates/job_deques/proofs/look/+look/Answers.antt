@@ -1,4 +1,4 @@
-use Rattle.std.proofs.Common.{List, All, set, refl, subst, arith}
+use Rattle.std.proofs.Common.{◌≡◌, ◌∷◌, ℕ, List, All, set, refl, subst, arith}
 use Rattle.std.proofs.lemmas.Option.{IfSome_then}
 use Rattle.std.proofs.lemmas.List.Elements.{length_all_zip, All-cons}
 use Rattle.std.proofs.lemmas.List.{length-set}
@@ -20,26 +20,27 @@ unwrap-requires t c =
     let same = length_all_zip StaysAtWork c.unwrap-rest.result c.look-found.new.seats c.look-found.ensures.same in
     c.append.ensures.succeeds (omega (arith, both, same, length-set c.args.seats.now 0 c.take.new.self, c.requires))
 
+put_together : (t : ℕ) (c : goal.After-drop-rest t)
+    → (c.args.seats.now ≡ c.in_ok-first.first.now ∷ c.unwrap-rest.result) × (c.append.new.self ≡ c.take.new.self ∷ c.look-found.new.seats)
+put_together t c = opened c.split_off.result c.append.result c.args.seats.now c.unwrap-rest.result c.split_off.new.self c.look-found.new.seats
+    c.append.new.self c.in_ok-first.first.now c.take.new.self (c.in_ok-first.ensures.variant.0 refl) c.in_ok-first.ensures.value
+    c.unwrap-rest.ensures c.split_off.ensures.items c.split_off.ensures.tail c.unwrap.result c.unwrap.ensures c.append.ensures.items
+
 pub returns-clause-same : goal.returns-clause-same
 returns-clause-same t c =
-    let e = opened c.split_off.result c.append.result c.args.seats.now c.unwrap-rest.result c.split_off.new.self c.look-found.new.seats
-    c.append.new.self c.in_ok-first.first.now c.take.new.self (c.in_ok-first.ensures.variant.0 refl) c.in_ok-first.ensures.value
-    c.unwrap-rest.ensures c.split_off.ensures.items c.split_off.ensures.tail c.unwrap.result c.unwrap.ensures c.append.ensures.items in
+    let e = put_together t c in
     rw (e.0, e.1) (c.in_default.ensures.same, c.look-found.ensures.same)
 
 pub returns-clause-below : goal.returns-clause-below
 returns-clause-below t c =
     let s = c.in_ok-first.first.now in let rest = c.unwrap-rest.result in
-    let e = opened c.split_off.result c.append.result c.args.seats.now rest c.split_off.new.self c.look-found.new.seats
-    c.append.new.self s c.take.new.self (c.in_ok-first.ensures.variant.0 refl) c.in_ok-first.ensures.value
-    c.unwrap-rest.ensures c.split_off.ensures.items c.split_off.ensures.tail c.unwrap.result c.unwrap.ensures c.append.ensures.items in
+    let e = put_together t c in
     IfSome_then c.look-found.result c.look-found.ensures.below
-    (λ n p l all below. let here = subst (λ (xs : List Seat). All (IsTaking l) xs) e.0 all in p l (all_behind (IsTaking l) s rest here) below)
+    (λ n p l all below.
+    let here = subst (λ (xs : List Seat). All (IsTaking l) xs) e.0 all in p l (all_behind (IsTaking l) s rest here) below)
 
 pub returns-clause-all : goal.returns-clause-all
 returns-clause-all t c =
-    let e = opened c.split_off.result c.append.result c.args.seats.now c.unwrap-rest.result c.split_off.new.self c.look-found.new.seats
-    c.append.new.self c.in_ok-first.first.now c.take.new.self (c.in_ok-first.ensures.variant.0 refl) c.in_ok-first.ensures.value
-    c.unwrap-rest.ensures c.split_off.ensures.items c.split_off.ensures.tail c.unwrap.result c.unwrap.ensures c.append.ensures.items in
+    let e = put_together t c in
     if_none_then c.look-found.result c.look-found.ensures.all
     (λ all. rw e.1 (All-cons (λ (s : Seat). TookAll (own_view s.own)) c.take.new.self c.look-found.new.seats c.in_default.ensures.all all))

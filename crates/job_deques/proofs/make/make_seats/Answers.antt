@@ -1,9 +1,8 @@
-use Rattle.std.proofs.Common.{◌<◌, ◌∙◌, ℕ, length, arith, sym, refl, ap, subst}
+use Rattle.std.proofs.Common.{◌<◌, ◌∙◌, length, arith, sym, refl, ap, subst}
 use Rattle.std.proofs.Math.Nat.{div-le_self}
 use Rattle.std.specs.Global.{Vec}
 use Rattle.std.specs.List.{All}
 use Rattle.job_deques.specs.declared.seat.Seat.{Seat}
-use Rattle.job_deques.specs.declared.view.TheConstants.{ALL_PARTS}
 use Rattle.job_deques.specs.Seats.{Layout}
 use Rattle.job_deques.specs.Dealt.{AreJoined, layout_of}
 use Rattle.job_deques.specs.Hands.{AreTaking, IsUnused}

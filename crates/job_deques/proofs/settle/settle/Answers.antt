@@ -15,7 +15,8 @@ give_back-requires c =
 pub loop-deque-smaller : goal.loop-deque-smaller
 loop-deque-smaller c =
     let l = c.requires.0 in let gave = c.in-Some.ensures.some in
-    let back = c.give_back.ensures l (can_take_back l c.in-Some.deque c.in-Some.way _ _ (c.loop-deque.invariant.whole l c.requires.1) gave) in
+    let now = c.loop-deque.invariant.whole l c.requires.1 in
+    let back = c.give_back.ensures l (can_take_back l c.in-Some.deque c.in-Some.way _ _ now gave) in
     omega (arith, gave.fewer, back.same)
 
 pub loop-deque-preserved : goal.loop-deque-preserved

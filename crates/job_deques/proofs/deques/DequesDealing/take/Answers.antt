@@ -1,10 +1,9 @@
-use Rattle.std.proofs.Common.{◌≡◌, ◌≤◌, ◌∙◌, ℕ, List, All, length, Some, None, IfSome, refl, sym, ap, arith, true≢false}
+use Rattle.std.proofs.Common.{◌≤◌, ◌∙◌, List, All, length, sym, ap, arith, true≢false}
 use Rattle.std.proofs.lemmas.Option.{IfSome_then}
 use Rattle.std.proofs.lemmas.List.Elements.{length_all_zip}
-use Rattle.job_counter.specs.Numbers.{once_below}
 use Rattle.job_deques.specs.declared.seat.Seat.{Seat}
-use Rattle.job_deques.specs.Seats.{Layout, StaysAtWork, all_took}
-use Rattle.job_deques.specs.Hands.{AreTaking, AreWhole, HasNoWay, places, numbers_below, pushed_to}
+use Rattle.job_deques.specs.Seats.{Layout, StaysAtWork}
+use Rattle.job_deques.specs.Hands.{AreTaking, AreWhole, HasNoWay, numbers_below, pushed_to}
 use Rattle.job_deques.specs.Deals.{layout}
 use Rattle.job_deques.proofs.Listed.{if_none, if_none_then, if_some}
 use Rattle.job_deques.proofs.Once.{stay_places, stay_taking, stay_whole, stay_bare, all_below, dealt_once, whole_once, whole_over, few_once}
@@ -66,7 +65,8 @@ returns-clause-below c =
 pub returns-clause-once : goal.returns-clause-once
 returns-clause-once c =
     let l : Layout = layout c.args.self.now in let old : List Seat = c.args.hand.now.seats in let new : List Seat = c.look-2.new.seats in
-    let few : length new ≤ 1 = omega (arith, c.len.ensures.value, c.if-len-gt1.false, length_all_zip StaysAtWork old new c.look-2.ensures.same) in
+    let same = length_all_zip StaysAtWork old new c.look-2.ensures.same in
+    let few : length new ≤ 1 = omega (arith, c.len.ensures.value, c.if-len-gt1.false, same) in
     if_some c.look-2.result (λ x. omega (arith, few_once l x new few (going c).each, dealt_once l x l.count (going c).some))
 
 pub returns-clause-over : goal.returns-clause-over

@@ -1,7 +1,7 @@
 use Rattle.std.proofs.Common.{◌≡◌, ◌≤◌, ◌++◌, List, length, arith}
 use Rattle.job_deques.specs.declared.seat.Seat.{Seat}
 use Rattle.job_deques.specs.Seats.{Layout}
-use Rattle.job_deques.specs.Hands.{AreTaking, places}
+use Rattle.job_deques.specs.Hands.{places}
 use Rattle.job_deques.specs.Deals.{layout}
 use Rattle.job_deques.proofs.Given.{length-numbers}
 use Rattle.job_deques.proofs.Made.{taking_both}

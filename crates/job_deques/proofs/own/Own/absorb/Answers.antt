@@ -1,7 +1,6 @@
-use Rattle.std.proofs.Common.{◌<◌, ap, arith, sym}
+use Rattle.std.proofs.Common.{◌<◌, ap, arith}
 use Rattle.crossbeam_deque.specs.Handles.{worker_view}
 use Rattle.job_deques.specs.declared.view.Hold.{Hold}
-use Rattle.job_deques.specs.Rule.{IsWithin}
 use Rattle.job_deques.proofs.Keeps.{merges, learns}
 use Rattle.job_deques.proofs.own.Own.absorb.Goals as goal
 

@@ -1,8 +1,7 @@
-use Rattle.std.proofs.Common.{◌∙◌, ℕ, Some, None, IfNone, arith, sym, ap}
+use Rattle.std.proofs.Common.{Some, None, IfNone, arith, sym}
 use Rattle.std.proofs.lemmas.Option.{IfSome_then}
-use Rattle.job_deques.specs.declared.view.Hold.{Hold}
 use Rattle.job_deques.specs.Rule.{TookAll}
-use Rattle.job_deques.specs.Seats.{StaysAtWork, own_view}
+use Rattle.job_deques.specs.Seats.{own_view}
 use Rattle.job_deques.proofs.Seated.{more, own_used, own_same, stays_on}
 use Rattle.job_deques.proofs.seat.Seat.take.Goals as goal
 
