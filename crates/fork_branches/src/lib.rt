@@ -18,5 +18,5 @@ pub use crate::forked::Forked;
 pub use crate::jobs::Jobs;
 pub use crate::pool::{Drawn, Pool, Solved};
 pub use crate::shares::Shares;
-pub use crate::solve::{Solution, solve_all, solve_by};
+pub use crate::solve::{Deal, Solution, solve_all, solve_as, solve_by};
 pub use node_store::SolveRefusal;

@@ -1,8 +1,7 @@
 //! What runs lists of jobs and counts the jobs that it answered.
 use crate::jobs::Jobs;
-use crate::solve::solve_by;
+use crate::solve::{Deal, solve_as};
 use computed_cache::CachedPass;
-use job_counter::{Counting, Dealing};
 use node_store::{Handle, SolveRefusal};
 use outside::Rendezvous;
 use std::alloc::Global;
@@ -27,9 +26,6 @@ impl Solved {
 
 /// What runs lists of jobs, and counts the jobs that it answered: `done`.
 pub trait Pool {
-    /// What deals the numbers of the jobs to the job workers.
-    type Dealer: Dealing;
-
     ghost use Rattle.std.specs.Prelude.{◌≡◌, ◌≤◌, ◌<◌, ◌+◌, ◌^◌, ℕ, length, IfOk, IfErr, OnOk};
     ghost use Rattle.std.specs.Prelude.{OnErr, min};
     ghost use Rattle.node_store.specs.Stores.{Grows};
@@ -38,6 +34,9 @@ pub trait Pool {
     ghost use Rattle.fork_branches.specs.Solves.{AreSolved, Refuses, AreRun};
 
     ghost done: { Self → ℕ };
+
+    /// How the numbers of the jobs are dealt to the job workers.
+    fn deal(&self) -> Deal;
 
     /// Counts the jobs of a list, and gives their handles. Whoever writes a pool of their own
     /// counts here, and passes on.
@@ -70,7 +69,7 @@ pub trait Pool {
         ensures done { OnOk result (done self.new ≡ done self.old + (J.tasks jobs.now).total) }
         ensures undone { OnErr result (done self.new ≡ done self.old) }
     {
-        let solution = solve_by::<R, J, Self::Dealer>(rt, alloc, pass, jobs, gate, workers)?;
+        let solution = solve_as(self.deal(), rt, alloc, pass, jobs, gate, workers)?;
         let handles = solution.handles;
         Ok(self.answered(Solved { handles }))
     }
@@ -94,9 +93,11 @@ impl Drawn {
 }
 
 impl Pool for Drawn {
-    type Dealer = Counting;
-
     ghost done = { λ pool. pool.done };
+
+    fn deal(&self) -> Deal {
+        Deal::ByCounter
+    }
 
     fn answered(&mut self, solved: Solved) -> Vec<Handle> {
         let handles = solved.into_handles();

@@ -18,6 +18,7 @@ use crate::shares::Shares;
 use crate::work::work;
 use computed_cache::CachedPass;
 use job_counter::{Counting, Dealing};
+use job_deques::Deques;
 use lattice::Memory;
 use node_store::{Full, Handle, SolveRefusal};
 use outside::Rendezvous;
@@ -177,6 +178,45 @@ pub fn solve_by<R: Threads + Sync, J: Jobs, D: Dealing>(
         handles,
         shares: Shares { crew, rest },
     })
+}
+
+/// How the numbers of a list of jobs are dealt to the job workers.
+#[derive(Clone, Copy, Debug, PartialEq, Eq)]
+pub enum Deal {
+    /// They draw them of one counter.
+    ByCounter,
+    /// Each pops those of its own deque, and then steals from the others.
+    ByDeques,
+}
+
+/// Runs all jobs as `solve_by` does, by the dealing that is named.
+pub fn solve_as<R: Threads + Sync, J: Jobs>(
+    deal: Deal,
+    rt: &R,
+    alloc: Global,
+    pass: &mut CachedPass,
+    jobs: &J,
+    gate: &Rendezvous,
+    workers: u32,
+) -> Result<Solution, SolveRefusal>
+    requires workers { (1 ≤ workers) × (workers ≤ 16) }
+    requires may { MayWork (J.tasks jobs.now) (cached_state pass.old) }
+    ensures grows { Grows (cached_state pass.old) (cached_state pass.new) }
+    ensures solved { IfOk result (λ s. AreSolved (J.tasks jobs.now) (cached_state pass.old)
+        (cached_state pass.new) s.handles.items) }
+    ensures refused { IfErr result (Refuses (cached_state pass.old) (cached_state pass.new)) }
+    ensures worked { AreRun result → 1 ≤ (J.tasks jobs.now).total
+        → WorkedOut (J.tasks jobs.now) (min workers (J.tasks jobs.now).total)
+        (cached_state pass.old) (cached_state pass.new) }
+    ensures lists { IfOk result
+        (λ s. length s.shares ≡ min workers (J.tasks jobs.now).total) }
+    ensures once { IfOk result (λ s. (x : ℕ)
+        → times x (concat s.shares) ≡ once_below x (J.tasks jobs.now).total) }
+{
+    match deal {
+        Deal::ByCounter => solve_by::<R, J, Counting>(rt, alloc, pass, jobs, gate, workers),
+        Deal::ByDeques => solve_by::<R, J, Deques>(rt, alloc, pass, jobs, gate, workers),
+    }
 }
 
 /// Runs all jobs as `solve_by` does, whose numbers the job workers draw of one counter, and gives

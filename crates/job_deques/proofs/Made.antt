@@ -54,7 +54,7 @@ begun seats count all = record {
         parts = omega (arith, ap (λ (v : Hold). v.parts) f.1);
         many = f.2;
         each = λ k w inside. absurd (omega (arith, inside, f.2));
-        idle = λ x. let none = ap (λ (v : Hold). times x v.taken) f.1 in omega (arith, none, stole_none (get_or seats i d).ways.items x f.2);
+        idle = λ x. omega (arith, ap (λ (v : Hold). times x v.taken) f.1, stole_none (get_or seats i d).ways.items x f.2);
       };
 }
 

@@ -36,23 +36,21 @@ there_now j n k less = grind (arith, nat_tests)
 
 -- ---- seats that went on taking
 
-zip_places : (old new : List Seat) → AllZip StaysAtWork old new → places new ≡ places old
-zip_places [] [] same = refl
-zip_places [] (t ∷ new) same = absurd same
-zip_places (s ∷ old) [] same = absurd same
-zip_places (s ∷ old) (t ∷ new) same = ap₂ (λ (n : ℕ) (l : List ℕ). n ∷ l) same.0.at (zip_places old new same.1)
-
-zip_parts : (j : ℕ) (old new : List Seat) → AllZip StaysAtWork old new → sum_by (parts_of j) new ≡ sum_by (parts_of j) old
-zip_parts j [] [] same = refl
-zip_parts j [] (t ∷ new) same = absurd same
-zip_parts j (s ∷ old) [] same = absurd same
-zip_parts j (s ∷ old) (t ∷ new) same =
+zip_same : (j : ℕ) (old new : List Seat) → AllZip StaysAtWork old new
+    → (places new ≡ places old) × (sum_by (parts_of j) new ≡ sum_by (parts_of j) old)
+zip_same j [] [] same = (refl, refl)
+zip_same j [] (t ∷ new) same = absurd same
+zip_same j (s ∷ old) [] same = absurd same
+zip_same j (s ∷ old) (t ∷ new) same =
     let here : parts_of j t ≡ parts_of j s = rw (same.0.at, same.0.parts, same.0.many) refl in
-    omega (arith, here, zip_parts j old new same.1, sum_by-cons (parts_of j) s old, sum_by-cons (parts_of j) t new)
+    let rest = zip_same j old new same.1 in (
+      ap₂ (λ (n : ℕ) (l : List ℕ). n ∷ l) same.0.at rest.0,
+      omega (arith, here, rest.1, sum_by-cons (parts_of j) s old, sum_by-cons (parts_of j) t new),
+    )
 
 module _ (old new : List Seat) (same : AllZip StaysAtWork old new) where
   pub stay_places : places new ≡ places old
-  stay_places = zip_places old new same
+  stay_places = (zip_same 0 old new same).0
 
   stay_at : (k : ℕ) (d : Seat) → k < length new → (k < length old) × StaysAtWork (get_or old k d) (get_or new k d)
   stay_at k d less =
@@ -65,7 +63,7 @@ module _ (old new : List Seat) (same : AllZip StaysAtWork old new) where
     small = of.small;
     few = rw stay_places of.few;
     each = λ k d less. let at = stay_at k d less in at.1.taking l (of.each k d at.0);
-    parts = λ j less. rw stay_places (zip_parts j old new same ∙ of.parts j less);
+    parts = λ j less. rw stay_places ((zip_same j old new same).1 ∙ of.parts j less);
   }
 
   pub stay_bare : All HasNoWay old → All HasNoWay new
@@ -109,7 +107,7 @@ once_none x = grind (arith, nat_tests)
 pub dealt_once : (l : Layout) (x n : ℕ) → 0 < l.total → pushed_to (numbered l n) x (numbers_below l.total) ≡ once_below x n
 dealt_once l x zero some = none_dealt l x l.total ∙ sym (once_none x)
 dealt_once l x (suc n) some =
-    let hit : cond (ltb (n % l.total) l.total) (times x (n ∷ [])) 0 ≡ times x (n ∷ []) = there_now (n % l.total) l.total _ (mod-lt n some) in
+    let hit = there_now (n % l.total) l.total (times x (n ∷ [])) (mod-lt n some) in
     omega (arith, one_more_dealt l x n l.total, hit, dealt_once l x n some, once_more x n) ∙ ap (once_below x) (add-one n)
 
 -- a number that was dealt is below the count

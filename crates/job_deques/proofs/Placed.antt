@@ -119,7 +119,8 @@ module _ (l : Layout) (i j : ℕ) (seats : List Seat) (s : Seat) (less : j < len
   }
 
   pub lent : (own : Own) → own_deque own ≡ own_deque s.own → own_view own ≡ without_part (own_view s.own) → i < l.total
-      → l.total < ALL_PARTS → AreLending l i j seats → AreSet l Ways (λ k. i + cond (ltb k (j + 1)) 1 0) (set seats j (record s { own = own }))
+      → l.total < ALL_PARTS → AreLending l i j seats
+      → AreSet l Ways (λ k. i + cond (ltb k (j + 1)) 1 0) (set seats j (record s { own = own }))
   lent own deque view inside small all = let here = was all in
       seats_set l l _ _ _ _ seats j _ all refl (record {
         number = here.number;

@@ -1,5 +1,6 @@
 -- What a worker took, and from whom.
-use Rattle.std.proofs.Common.{◌≡◌, ℕ, ◌+◌, ◌%◌, ◌<◌, List, [], ◌∷◌, length, get_or, set, sym, refl, ap, ◌∙◌, ◌≢◌, subst, arith, ◌⊎◌, inl, inr}
+use Rattle.std.proofs.Common.{◌≡◌, ℕ, ◌+◌, ◌%◌, ◌<◌, List, [], ◌∷◌, length, get_or, set, sym, refl, ap, ◌∙◌, ◌≢◌, subst}
+use Rattle.std.proofs.Common.{arith, ◌⊎◌, inl, inr}
 use Rattle.std.proofs.Math.Nat.{mod-lt}
 use Rattle.std.proofs.lemmas.Bool.Decides.{nat_tests}
 use Rattle.std.proofs.lemmas.List.{get_or-set_same, get_or-set_other, length-set}
@@ -64,8 +65,8 @@ own_same s own deque view =
 
 module _ (s t : Seat) (i : ℕ) (old w : Way) (less : i < length s.ways.items) (is : old ≡ get_or s.ways.items i old)
     (apart : i ≢ s.at) (at : t.at ≡ s.at) (own : t.own ≡ s.own) (ways : t.ways.items ≡ set s.ways.items i w)
-    (deque : way_deque w ≡ way_deque old) (pushed : (way_view w).pushed ≡ (way_view old).pushed) (parts : (way_view w).parts ≡ (way_view old).parts)
-    (within : IsWithin (way_view old) → IsWithin (way_view w)) where
+    (deque : way_deque w ≡ way_deque old) (pushed : (way_view w).pushed ≡ (way_view old).pushed)
+    (parts : (way_view w).parts ≡ (way_view old).parts) (within : IsWithin (way_view old) → IsWithin (way_view w)) where
   ways_set : (l : Layout) → AreWays l s.ways.items → AreWays l (set s.ways.items i w)
   ways_set l all j d inside =
       let same : (j ≡ i) ⊎ (j ≢ i) = grind arith in

@@ -9,8 +9,6 @@ use Rattle.job_deques.proofs.Listed.{if_none, if_none_then, if_some}
 use Rattle.job_deques.proofs.Once.{stay_places, stay_taking, stay_whole, stay_bare, all_below, dealt_once, whole_once, whole_over, few_once}
 use Rattle.job_deques.proofs.deques.DequesDealing.take.Goals as goal
 
--- ---- with all seats
-
 settled : (c : goal.After-look) → AreWhole (layout c.args.self.now) c.settle.new.seats
 settled c = c.settle.ensures.whole (layout c.args.self.now)
     (record { of = c.requires.seats; whole = c.are_whole.ensures.0 c.if-are_whole.true ∙ ap numbers_below c.requires.total })
@@ -45,8 +43,6 @@ returns-then-are_whole-clause-over c =
     let l : Layout = layout c.args.self.now in let now = after c in
     if_none_then c.look.result c.look.ensures.all
     (λ all whole x. whole_over l c.look.new.seats now (bare c) all x ∙ dealt_once l x l.count now.of.some)
-
--- ---- with one seat, or with none
 
 going : (c : goal.After-look-2) → AreTaking (layout c.args.self.now) c.look-2.new.seats
 going c = stay_taking c.args.hand.now.seats c.look-2.new.seats c.look-2.ensures.same (layout c.args.self.now) c.requires.seats
