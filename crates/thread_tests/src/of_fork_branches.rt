@@ -4,7 +4,7 @@ ghost use Rattle.node_store.specs.AnyFamily.{MayHoldAny};
 
 use bool_poly::SetOps;
 use computed_cache::CachedPass;
-use fork_branches::{Drawn, Forked, Jobs, Pool, Solution, Solved, solve_by};
+use fork_branches::{Deal, Drawn, Forked, Jobs, Pool, Solution, Solved, solve_by};
 use job_counter::Dealing;
 use lattice::{Mono, Monos, Op};
 use node_store::{Full, Handle, Store, any_plan};
@@ -108,9 +108,11 @@ struct Counting {
 }
 
 impl Pool for Counting {
-    type Dealer = <Drawn as Pool>::Dealer;
-
     ghost done = { λ pool. pool.pool.done };
+
+    fn deal(&self) -> Deal {
+        self.pool.deal()
+    }
 
     fn answered(&mut self, solved: Solved) -> Vec<Handle> {
         self.lists = self.lists.saturating_add(1);

@@ -1,5 +1,5 @@
 use crate::of_interp_run::{ADDER, NEVER, PAIR, SUMS, answers, check_at, words_of};
-use fork_branches::{Drawn, Pool, Solved};
+use fork_branches::{Deal, Drawn, Pool, Solved};
 use interp_run::run;
 use node_store::Handle;
 use outside::{MemSink, MemSource, Rendezvous};
@@ -72,9 +72,11 @@ struct Counting {
 }
 
 impl Pool for Counting {
-    type Dealer = <Drawn as Pool>::Dealer;
-
     ghost done = { λ pool. pool.pool.done };
+
+    fn deal(&self) -> Deal {
+        self.pool.deal()
+    }
 
     fn answered(&mut self, solved: Solved) -> Vec<Handle> {
         let handles = self.pool.answered(solved);
