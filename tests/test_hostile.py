@@ -92,5 +92,5 @@ class Memory(Test):
         self.assertEqual(whole.status, 0)
         with self.case("48 MiB for two tables of 16 MiB, one after the other"):
             self.assertEqual(self.basis(20, 48), whole)
-        with self.case("64 MiB for smaller tables than the greatest, of 128 MiB"):
-            self.assertEqual(self.basis(23, 64), whole)
+        with self.case("100 MiB for smaller tables than the greatest, of 128 MiB"):
+            self.assertEqual(self.basis(23, 100), whole)
