@@ -2,6 +2,7 @@ mod judged;
 mod limited;
 mod ordered;
 mod refused;
+mod stealing;
 mod texts;
 mod told;
 mod workers;

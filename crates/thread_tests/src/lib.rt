@@ -11,4 +11,8 @@ mod of_job_counter;
 #[cfg(test)]
 mod of_probe_core;
 #[cfg(test)]
+mod of_job_deques;
+#[cfg(test)]
+mod of_steal_pool;
+#[cfg(test)]
 mod of_unique_table;

@@ -23,7 +23,7 @@ const LOOKS: u64 = 100_000_000;
 // and the even ones that of the empty family. The first ones, as many as `waiting` says, wait until
 // `awaited` jobs have begun.
 #[derive(Drop)]
-struct Noted {
+pub(crate) struct Noted {
     count: u32,
     calls: Vec<AtomicU64>,
     begun: AtomicU64,
@@ -34,7 +34,12 @@ struct Noted {
 
 impl Noted {
     // So many jobs, which nobody called yet.
-    fn new(alloc: Global, count: u32, waiting: u32, awaited: u64) -> Result<Noted, Fail>
+    pub(crate) fn new(
+        alloc: Global,
+        count: u32,
+        waiting: u32,
+        awaited: u64,
+    ) -> Result<Noted, Fail>
         ensures { IfOk result (λ n. n.count ≡ count) }
     {
         let mut calls = Vec::new(alloc);
@@ -62,7 +67,7 @@ impl Noted {
     }
 
     // Whether each job was called once, and those that waited saw the others begin.
-    fn went_well(&self) -> bool {
+    pub(crate) fn went_well(&self) -> bool {
         self.missed.load(Ordering::SeqCst) == 0
             && self
                 .calls

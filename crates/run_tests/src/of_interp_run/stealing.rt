@@ -1,0 +1,37 @@
+use super::{ADDER, SUMS, words_of};
+use interp_run::run;
+use outside::{MemSink, MemSource, Rendezvous};
+use steal_pool::Stealing;
+use std::test::Fail;
+
+// Runs with workers that steal jobs from each other write what all others write.
+#[test]
+fn stolen_jobs(rt: HostRuntime) -> Result<(), Fail> {
+    let alloc = rt.alloc();
+    let generated = "points 256\nf1 8\nf2 7\n";
+    for (line, text, answer) in [
+        ("steal anf --workers 8", ADDER, SUMS),
+        ("steal gen --seed 0 --workers 1", "", generated),
+        ("steal gen --seed 0 --workers 8", "", generated),
+    ] {
+        let words = words_of(alloc, line)?;
+        let mut source = MemSource::make(alloc, text.as_bytes(), 4, &[]).map_err(|_| "memory")?;
+        let mut out = MemSink::make(alloc, 400, 4, &[]).map_err(|_| "memory")?;
+        let mut err = MemSink::make(alloc, 200, 7, &[]).map_err(|_| "memory")?;
+        let status = run(
+            &rt,
+            alloc,
+            &words,
+            &mut source,
+            &mut out,
+            &mut err,
+            &mut Stealing::new(),
+            &Rendezvous::open(),
+            &mut Vec::new(alloc),
+        );
+        assert_eq!(rt; status, 0, "{line}");
+        assert_eq!(rt; out.bytes(), answer.as_bytes(), "{line}");
+        assert_eq!(rt; err.bytes(), b"".as_slice(), "{line}");
+    }
+    Ok(())
+}
