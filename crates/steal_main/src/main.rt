@@ -1,5 +1,5 @@
-//! `steal MODE [--workers N] [--nodes B] [--terms T] [--seed S] [--order NAMES]`: does what `interp`
-//! does, with workers that steal jobs from each other.
+//! `steal MODE [--workers N] [--nodes B] [--terms T] [--seed S] [--order NAMES]`: does what
+//! `interp` does, with workers that steal jobs from each other.
 #![tactic(auto)]
 
 ghost use Rattle.std.specs.Prelude.{◌≡◌, [], All, IfOk};

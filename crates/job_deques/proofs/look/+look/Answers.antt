@@ -23,7 +23,8 @@ unwrap-requires t c =
 put_together : (t : ℕ) (c : goal.After-drop-rest t)
     → (c.args.seats.now ≡ c.in_ok-first.first.now ∷ c.unwrap-rest.result) × (c.append.new.self ≡ c.take.new.self ∷ c.look-found.new.seats)
 put_together t c = opened c.split_off.result c.append.result c.args.seats.now c.unwrap-rest.result c.split_off.new.self
-    c.look-found.new.seats c.append.new.self c.in_ok-first.first.now c.take.new.self (c.in_ok-first.ensures.variant.0 refl) c.in_ok-first.ensures.value
+    c.look-found.new.seats c.append.new.self c.in_ok-first.first.now c.take.new.self (c.in_ok-first.ensures.variant.0 refl)
+    c.in_ok-first.ensures.value
     c.unwrap-rest.ensures c.split_off.ensures.items c.split_off.ensures.tail c.unwrap.result c.unwrap.ensures c.append.ensures.items
 
 pub returns-clause-same : goal.returns-clause-same
