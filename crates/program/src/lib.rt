@@ -19,4 +19,4 @@ pub use crate::outcome::{End, NoEnd, Outcome};
 pub use crate::pages::{write_page, write_pages};
 pub use crate::programs::Program;
 pub use crate::runs::{report, run};
-pub use crate::start::{start_program, words_of};
+pub use crate::start::{alone, end_without_memory, start_program, words_of};

@@ -1,5 +1,5 @@
 //! What a program's `main` does.
-ghost use Rattle.std.specs.Prelude.{◌≡◌, ◌⊎◌, ◌+◌, All, List, [], ℕ};
+ghost use Rattle.std.specs.Prelude.{◌≡◌, ◌⊎◌, ◌+◌, All, IfOk, List, [], ℕ};
 ghost use Rattle.std.specs.Io.KnownBytes.{Keeps};
 ghost use Rattle.lattice.specs.Counts.{Rose};
 ghost use Rattle.outside.specs.Causes.{GainsUnlessRose, LosesAtMost};
@@ -38,6 +38,28 @@ pub fn words_of<R: Env + Alloc>(rt: &R, alloc: Global) -> Result<Words, Memory> 
     Ok(words)
 }
 
+/// A list of one watcher, who was told nothing.
+pub fn alone(alloc: Global, watcher: Box<dyn Watch>) -> Result<Vec<Box<dyn Watch>>, Memory>
+    requires { told watcher ≡ [] }
+    ensures { IfOk result (λ watchers. All (λ s. s.told ≡ [])
+        (states_by told patience watchers.items)) }
+{
+    let mut watchers = Vec::with_capacity(alloc, 1)?;
+    watchers.push(watcher)?;
+    Ok(watchers)
+}
+
+/// Ends a run before which there was no memory: writes its line to err, and answers its status.
+pub fn end_without_memory<G: Program, E: Sink>(err: &mut E, program: &G) -> u8
+    ensures status { result ≡ status_of (G.duty program.now).way outcomes.Memory }
+    ensures line { GainsUnlessRose (E.held err.old) (E.held err.new)
+        (line_of (G.duty program.now).way (G.duty program.now).name (G.duty program.now).usage
+        outcomes.Memory) (E.faults err.old) (E.faults err.new) }
+{
+    let outcome: Outcome<G::Ends> = Outcome::Memory;
+    report(err, program.name(), program.usage(), outcome)
+}
+
 /// Runs the program on the words of the command line, and answers its status. Where there is no
 /// memory for them, the run ends as one that is out of memory.
 pub fn start_program<R: Env + Alloc, G: Program, S: Source, K: Sink, E: Sink>(
@@ -74,8 +96,7 @@ pub fn start_program<R: Env + Alloc, G: Program, S: Source, K: Sink, E: Sink>(
         ((G.duty program.old).limit + 1) }
 {
     let Ok(words) = words_of(rt, alloc) else {
-        let outcome: Outcome<G::Ends> = Outcome::Memory;
-        return report(err, program.name(), program.usage(), outcome);
+        return end_without_memory(err, program);
     };
     run(alloc, program, &words, source, out, err, watchers)
 }

@@ -6,7 +6,7 @@ use Rattle.program.proofs.start.start_program.Goals as goal
 pub returns-in_default-clause-ran : goal.returns-in_default-clause-ran
 returns-in_default-clause-ran g c = (
   ends.Memory,
-  c.report.ensures.status,
+  c.end_without_memory.ensures.status,
   inr (refl, keeps_same (g.K.Sink.held c.args.out.now), refl),
-  rw (← c.name.ensures.name) c.report.ensures.line,
+  c.end_without_memory.ensures.line,
 )
