@@ -7,3 +7,7 @@ pub use Rattle.bool_poly.proofs.Families.{needs_ones, any_ones_set, covers_singl
 pub use Rattle.bool_poly.proofs.Steps.{with_later, sum_asks, with_after, ones_finish}
 -- the product is a family, and what it needs under a plan that has every family
 pub use Rattle.bool_poly.proofs.Families.{IsFamily-product_of, any_product_list}
+-- a polynomial is given by its values
+pub use Rattle.bool_poly.proofs.Families.{same_values}
+-- calls for a product and for a sum of two polynomials at hand, which come next
+pub use Rattle.bool_poly.proofs.Steps.{product_asked, product_found, sum_asked}

@@ -7,6 +7,8 @@ mod of_bool_poly;
 #[cfg(test)]
 mod of_cube_build;
 #[cfg(test)]
+mod of_gate_build;
+#[cfg(test)]
 mod of_interp_list;
 #[cfg(test)]
 mod of_node_store;

@@ -1,0 +1,5 @@
+mod BuiltLemmas
+mod GateLemmas
+mod StepCalls
+mod StepLemmas
+pub mod GateValues

@@ -1,0 +1,4 @@
+pub mod Polynomials
+pub mod Steps
+pub mod Laws
+pub mod Built
