@@ -269,6 +269,7 @@ constant_is : (f : Family) → IsFamily 0 f → f ≡ cond (has f 0) (0 ∷ []) 
 unfolding family_where numbers_below
 constant_is f is = family_where_has 0 f is
 
+-- Polynomials with the same value at each point are equal.
 pub same_values : (d : ℕ) (p q : Family) → IsFamily d p → IsFamily d q → ((a : ℕ) → a < 2 ^ d → value p a ≡ value q a) → p ≡ q
 same_values zero p q pf qf same = grind (arith, constant_is p pf, constant_is q qf, value-one 0, value-nil 0, same 0 (pow_pos 0))
 same_values (suc d) p q pf qf same =

@@ -276,9 +276,11 @@ module _ {s t : State} {d : ℕ} {all : List Family} {hs : List (Handle × Famil
   unfolding needs operation_list
   product_needs = rw (k.reads.grows.vars, l.0, r.0, product_list-narrow d s.vars A B l.1 r.1 k.le) refl
 
+  -- What the call asks is given.
   pub product_asked : Knows t x × (Knows t y × Covers t.plan (needs_of t Product x y.0))
   product_asked = (Denotes-knows t x A l.0, (Denotes-knows t y B r.0, call_planned (product_list d A B) rest k product_needs))
 
+  -- After the call the product is at hand.
   pub product_found : {u : State} {h : Handle} → DoesProduct t x y u (Ok h) → Calls s u d all rest ((h, product_of d A B) ∷ hs)
   product_found does = after_call (product_list d A B) rest k product_needs
       (rw (k.reads.grows.vars, l.0, r.0, product_of-narrow d s.vars A B l.1 r.1 k.le) refl) (IsFamily-product_of d A B) does

@@ -5,7 +5,8 @@ use Rattle.std.specs.Prelude.{slice_set, nat_le, not}
 use Rattle.std.specs.List.{All, AllZip, flat_map}
 use Rattle.std.proofs.lemmas.Bool.{cases_lt}
 use Rattle.std.proofs.lemmas.Grind.{flat_map-append}
-use Rattle.std.proofs.lemmas.List.{get_or-map, get_or-set_other, get_or-set_same, length-map, map-append, map_more, take_more, take_more_set}
+use Rattle.std.proofs.lemmas.List.{get_or-map, get_or-set_other, get_or-set_same, length-map, map-append, map_more, take_more}
+use Rattle.std.proofs.lemmas.List.{take_more_set}
 use Rattle.std.proofs.lemmas.Nat.{one_shl, pow_below}
 use Rattle.std.proofs.lemmas.Option.{slice_get-get_or}
 use Rattle.std.proofs.lemmas.Slice.Zip.{all_zipped_more}
@@ -16,20 +17,19 @@ use Rattle.lattice.proofs.Polynomials.{length-numbers_below, zip_weaker}
 use Rattle.node_store.specs.Stores.{State, Denotes, family, no_handle, IsSound, IsPlanned, Grows, Reads, Gives, Builds}
 use Rattle.node_store.specs.declared.store.Handle.{Handle}
 use Rattle.node_store.specs.declared.store.Full.{Full}
-use Rattle.node_store.proofs.StoreLaws.{Denotes-family, Denotes-knows, Found, Grows-trans, IsFull-later, found_after, found_built, found_one}
+use Rattle.node_store.proofs.StoreLaws.{Denotes-family, Denotes-knows, Found, Grows-trans, IsFull-later, found_after, found_built}
+use Rattle.node_store.proofs.StoreLaws.{found_one}
 use Rattle.aig_reader.specs.Circuit.{Circuit}
 use Rattle.gate_build.specs.declared.steps.Step.{Step}
 use Rattle.gate_build.specs.declared.steps.Step.TheVariants.{Skip, And, Xor, Mux}
 use Rattle.gate_build.specs.Polynomials.{at_variable, input_polynomial, polynomial_of, polynomials_of}
 use Rattle.gate_build.specs.Steps.{gates_list, literals_of, step_list, step_polynomial, steps_of}
 use Rattle.gate_build.specs.Built.{AreBuilt, Finds, GivesStep, KnowsLiteral, PlansStep, handle_of, is_found, is_skip, literal_family}
-use Rattle.gate_build.proofs.GateLemmas.{IsOrdered, at_literal-same, map_below, polynomial_of-constant, polynomial_of-even, polynomial_of-input}
+use Rattle.gate_build.proofs.GateLemmas.{IsOrdered, at_literal-same, map_below, polynomial_of-constant, polynomial_of-even}
+use Rattle.gate_build.proofs.GateLemmas.{polynomial_of-input}
 use Rattle.gate_build.proofs.StepLemmas.{kept_is, length-steps_of, step_finds}
 
 -- ---- what calls found, as a whole
-
-pub finds_ok : {A : Type 0} {s t : State} {x : A} {list : List Family} → Found s t list → Finds s t (Ok x) (working_set s.vars list)
-finds_ok {s = s} {t} found = record { grows = found.reads.grows; held = found.held; quiet = found.reads.quiet; full = tt }
 
 pub finds_err : {A : Type 0} {s t u : State} {r : Result A Full} {e : Full} {f : Family} {needed more : List Family} → IsErr r → Reads s t
     → Gives t u (Err e) f needed → Finds s u r more
@@ -53,14 +53,17 @@ inputs_have : (n k : ℕ) → k < n → Has (map (input_polynomial n) (numbers_b
 inputs_have n k less =
     let long : length (map (input_polynomial n) (numbers_below n)) ≡ n = simp (length-map, length-numbers_below) in
     Has_at (map (input_polynomial n) (numbers_below n)) k (input_polynomial n k)
-    (slice_get-get_or (map (input_polynomial n) (numbers_below n)) k [] (omega arith) ∙ ap Some (map_below (input_polynomial n) n k [] less))
+    (slice_get-get_or (map (input_polynomial n) (numbers_below n)) k [] (omega arith)
+    ∙ ap Some (map_below (input_polynomial n) n k [] less))
 
 pub input_planned : (s t : State) (n k : ℕ) → Grows s t → s.vars ≡ n → k < n → n ≤ 62
     → Covers s.plan (working_set n (map (input_polynomial n) (numbers_below n))) → IsPlanned t (1 * 2 ^ (n - (k + 1)) % 2 ^ 64 ∷ [])
 input_planned s t n k grows vars less few planned =
-    rw (weight_is n k less few, grows.plan, grows.vars, vars) (covers_family n s.plan _ (input_polynomial n k) planned (inputs_have n k less))
+    rw (weight_is n k less few, grows.plan, grows.vars, vars) (covers_family n s.plan _ (input_polynomial n k) planned (inputs_have n k
+    less))
 
-inputs_next : (n k : ℕ) → map (input_polynomial n) (numbers_below (k + 1)) ≡ map (input_polynomial n) (numbers_below k) ++ input_polynomial n k ∷ []
+inputs_next : (n k : ℕ) → map (input_polynomial n) (numbers_below (k + 1)) ≡ map (input_polynomial n) (numbers_below k) ++
+    input_polynomial n k ∷ []
 unfolding numbers_below
 inputs_next n k = let place : k + 1 ≡ suc k = omega arith in
     ap (λ m. map (input_polynomial n) (numbers_below m)) place ∙ map-append (input_polynomial n) (numbers_below k) (k ∷ [])
@@ -90,18 +93,19 @@ input_built c {t} {u} handles h k less few room before built v le = elim (cases_
 
 -- ---- literals whose variables are built
 
--- what is known of literals below a count
-abbrev pub AreFound : Circuit → ℕ → List ℕ → Type 0
-AreFound c count = All (λ l. (l / 2 < count) × (is_found c (l / 2) ≡ true))
-
 module _ (c : Circuit) (t : State) (count : ℕ) (handles : List Handle) (built : AreBuilt t c count handles) where
   denoted : (l : ℕ) → l / 2 < count → is_found c (l / 2) ≡ true → Denotes t (handle_of handles (l / 2)) (polynomial_of c (2 * (l / 2)))
   denoted l less found = built (l / 2) less found
 
   pub literal_known : count ≤ length handles → (l : ℕ) → (l / 2 < count) × (is_found c (l / 2) ≡ true) → KnowsLiteral t handles l
-  literal_known room l is = record { within = omega (arith, is.0); known = Denotes-knows t (handle_of handles (l / 2)) _ (denoted l is.0 is.1) }
+  literal_known room l is = record {
+    within = omega (arith, is.0);
+    known = Denotes-knows t (handle_of handles (l / 2)) _ (denoted l
+        is.0 is.1);
+  }
 
-  pub literal_is : t.vars ≡ c.inputs → (l : ℕ) → (l / 2 < count) × (is_found c (l / 2) ≡ true) → literal_family t handles l ≡ polynomial_of c l
+  pub literal_is : t.vars ≡ c.inputs → (l : ℕ) → (l / 2 < count) × (is_found c (l / 2) ≡ true)
+      → literal_family t handles l ≡ polynomial_of c l
   unfolding polynomial_of
   literal_is vars l is = rw vars (at_literal-same c.inputs (λ v. family t (handle_of handles v)) (at_variable (polynomials_of c)) l
       (Denotes-family t (handle_of handles (l / 2)) _ (denoted l is.0 is.1) ∙ polynomial_of-even c (l / 2)))
@@ -164,7 +168,8 @@ module _ (c : Circuit) (is : IsOrdered c) (s t : State) (k : ℕ) (handles : Lis
         let f = step_list c.inputs (polynomial_of c) in
         let next : flat_map f (take (k + 1) (steps_of c)) ≡ flat_map f (take k (steps_of c)) ++ f step =
         ap (flat_map f) (take_more (steps_of c) k Skip (omega (arith, length-steps_of c)))
-        ∙ (flat_map-append f (take k (steps_of c)) (step ∷ []) ∙ ap (λ (fs : List Family). flat_map f (take k (steps_of c)) ++ fs) (append-nil (f step))) in
+        ∙ (flat_map-append f (take k (steps_of c)) (step ∷ []) ∙ ap (λ (fs : List Family). flat_map f (take k (steps_of c)) ++ fs)
+        (append-nil (f step))) in
         rw next (found_after s t u _ (f step) found (rw list_same at (found_one t u h _ _ given)))
 
     pub gate_built : (v : ℕ) → v < c.inputs + 1 + (k + 1) → is_found c v ≡ true
@@ -188,7 +193,8 @@ module _ (c : Circuit) (is : IsOrdered c) (s t : State) (k : ℕ) (handles : Lis
 
 -- ---- outputs
 
-module _ (c : Circuit) (s t : State) (j : ℕ) (handles : List Handle) (vars : s.vars ≡ c.inputs) (grows : Grows s t) (less : j < length c.outputs)
+module _ (c : Circuit) (s t : State) (j : ℕ) (handles : List Handle) (vars : s.vars ≡ c.inputs) (grows : Grows s t) (less : j < length
+    c.outputs)
     (l : ℕ) (here : l ≡ get_or c.outputs j 0) (same : literal_family t handles l ≡ polynomial_of c l) where
   pub output_planned : Covers s.plan (working_set c.inputs (map (polynomial_of c) c.outputs)) → IsPlanned t (literal_family t handles l)
   output_planned planned = rw (same, grows.plan, grows.vars, vars) (covers_family c.inputs s.plan _ (polynomial_of c l) planned

@@ -28,7 +28,8 @@ at_literal-odd n f v =
     let odd : (2 * v + 1) % 2 ≡ 1 = omega arith in let half : (2 * v + 1) / 2 ≡ v = omega arith in rw (odd, half)
 
 -- it is given by the polynomial of its variable
-pub at_literal-same : (n : ℕ) (f g : ℕ → Family) (literal : ℕ) → f (literal / 2) ≡ g (literal / 2) → at_literal n f literal ≡ at_literal n g literal
+pub at_literal-same : (n : ℕ) (f g : ℕ → Family) (literal : ℕ) → f (literal / 2) ≡ g (literal / 2)
+    → at_literal n f literal ≡ at_literal n g literal
 unfolding at_literal
 at_literal-same n f g literal e = rw e
 
@@ -73,7 +74,8 @@ with_gates-gate n ps (h ∷ gates) zero g at left right =
     let of_literal = at_literal n (at_variable ps) in let next = product_of n (of_literal h.left) (of_literal h.right) in
     let whole = with_gates n (ps ++ next ∷ []) gates in
     let front : (v : ℕ) → v < length ps → at_variable whole v ≡ at_variable ps v = λ v less.
-    with_gates-front n (ps ++ next ∷ []) gates v (omega (arith, length-append ps (next ∷ []))) ∙ get_or_append_left ps (next ∷ []) [] v less in
+    with_gates-front n (ps ++ next ∷ []) gates v (omega (arith, length-append ps (next ∷ [])))
+    ∙ get_or_append_left ps (next ∷ []) [] v less in
     let here : at_variable whole (length ps) ≡ next =
     with_gates-front n (ps ++ next ∷ []) gates (length ps) (omega (arith, length-append ps (next ∷ [])))
     ∙ get_or-append_seam ps next [] [] in
@@ -177,7 +179,11 @@ module _ (c : Circuit) where
         let long = length-input_polynomials c.inputs in
         let place : length (input_polynomials c.inputs) + k ≡ c.inputs + 1 + k = omega arith in
         polynomial_of-even (c.inputs + 1 + k) ∙ rw (← place)
-        (with_gates-gate c.inputs (input_polynomials c.inputs) c.gates k g at (omega (arith, is.left k g at)) (omega (arith, is.right k g at)))
+        (with_gates-gate c.inputs (input_polynomials c.inputs) c.gates k g at (omega (arith, is.left k g at)) (omega (
+          arith,
+          is.right k
+              g at,
+        )))
 
     -- a literal's polynomial has the literal's value
     pub value_is : (point : ℕ) → point < 2 ^ c.inputs → {literal : ℕ} {x : Bool} → HasValue c point literal x
@@ -192,5 +198,6 @@ module _ (c : Circuit) where
         ∙ (ap₂ (λ (a b : ℕ). a * b) (value_is point less l) (value_is point less r) ∙ times_bits x y))
     value_is point less (complement v x d) =
         ap (λ p. value p point) (polynomial_of-odd v)
-        ∙ (value-sum c.inputs c.inputs (polynomial_of c (2 * v)) (0 ∷ []) point (IsFamily-polynomial_of (2 * v)) (IsFamily-unit c.inputs) (omega arith)
+        ∙ (value-sum c.inputs c.inputs (polynomial_of c (2 * v)) (0 ∷ []) point (IsFamily-polynomial_of (2 * v)) (IsFamily-unit
+        c.inputs) (omega arith)
         ∙ (ap₂ (λ (a b : ℕ). (a + b) % 2) (value_is point less d) (value-one point) ∙ other_bit x))

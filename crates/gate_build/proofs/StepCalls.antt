@@ -43,16 +43,15 @@ module _ {s : State} (handles : List Handle) (sound : IsSound s) where
   module _ {t : State} {all rest : List Family} {hs : List (Handle × Family)} (l : ℕ) (known : KnowsLiteral s handles l)
       (k : Calls s t s.vars all (of l ∷ rest) hs) where
     literal_same : literal_family t handles l ≡ of l
-    literal_same = rw k.reads.grows.vars (at_literal-same s.vars (λ v. family t (handle_of handles v)) (λ v. family s (handle_of handles v)) l
+    literal_same = rw k.reads.grows.vars (at_literal-same s.vars (λ v. family t (handle_of handles v)) (λ v. family s (handle_of
+        handles v)) l
         (Grows-family s t (handle_of handles (l / 2)) k.reads.grows known.known))
-
-    pub literal_known : KnowsLiteral t handles l
-    literal_known = record { within = known.within; known = Grows-knows s t (handle_of handles (l / 2)) k.reads.grows known.known }
 
     pub literal_planned : IsPlanned t (literal_family t handles l)
     literal_planned = built_planned k literal_same
 
-    pub literal_found : {u : State} {h : Handle} → Builds t u (Ok h) (literal_family t handles l) → Calls s u s.vars all rest ((h, of l) ∷ hs)
+    pub literal_found : {u : State} {h : Handle} → Builds t u (Ok h) (literal_family t handles l)
+        → Calls s u s.vars all rest ((h, of l) ∷ hs)
     literal_found built = after_built k literal_same (of_fits l known) built
 
   -- ---- before the first call
@@ -67,7 +66,8 @@ module _ {s : State} (handles : List Handle) (sound : IsSound s) where
   xor_start p planned = calls_start (Reads-refl s) (omega arith) planned refl tt
 
   pub mux_start : (c : Choice) → PlansStep s handles (Mux c) → (let differ = sum_of s.vars (of c.one) (of c.zero) in
-      Calls s s s.vars (step_list s.vars of (Mux c)) (of c.select ∷ of c.one ∷ of c.zero ∷ differ ∷ (product_list s.vars (of c.select) differ
+      Calls s s s.vars (step_list s.vars of (Mux c)) (of c.select ∷ of c.one ∷ of c.zero ∷ differ ∷ (product_list s.vars (of c.select)
+      differ
       ++ sum_of s.vars (of c.zero) (product_of s.vars (of c.select) differ) ∷ [])) [])
   mux_start c planned = calls_start (Reads-refl s) (omega arith) planned refl tt
 

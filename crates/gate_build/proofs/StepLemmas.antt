@@ -1,6 +1,7 @@
 -- That steps give the polynomials of their gates, and that what they need is found.
 use Rattle.std.proofs.Common.{◌≡◌, ℕ, zero, suc, ◌+◌, ◌-◌, ◌*◌, ◌/◌, ◌%◌, ◌^◌, ◌<◌, ◌≤◌, Bool, true, false, not, ◌||◌, cond, ◌⊎◌, Option}
-use Rattle.std.proofs.Common.{List, [], ◌∷◌, ◌++◌, map, length, get_or, append_assoc, refl, sym, ◌∙◌, ap, ap₂, subst, arith, Some, None, inl, inr}
+use Rattle.std.proofs.Common.{List, [], ◌∷◌, ◌++◌, map, length, get_or, append_assoc, refl, sym, ◌∙◌, ap, ap₂, subst, arith, Some, None}
+use Rattle.std.proofs.Common.{inl, inr}
 use Rattle.std.specs.Prelude.{slice_get, slice_set, replicate, ◌==◌, nat_lt}
 use Rattle.std.proofs.Common.{drop, drop-cons}
 use Rattle.std.proofs.lemmas.Grind.{replicate_next}
@@ -14,6 +15,7 @@ use Rattle.std.proofs.lemmas.Option.{slice_get-get_or}
 use Rattle.lattice.specs.Words.{Family, IsFamily, exactly_one, product_of, sum_of, value}
 use Rattle.lattice.proofs.Diagrams.{IsFamily-unit}
 use Rattle.lattice.proofs.Polynomials.{IsFamily-combine, product_by_values, value-lt, value-one, value-sum}
+use Rattle.node_store.specs.PlainLaws.{some_same}
 use Rattle.bool_poly.proofs.OnesLemmas.{IsFamily-product_of, same_values}
 use Rattle.aig_reader.specs.declared.circuit.Gate.{Gate}
 use Rattle.aig_reader.specs.Circuit.{Circuit}
@@ -84,9 +86,6 @@ twice_other (suc (suc x)) y l e = absurd (omega arith)
 
 -- ---- the gates of a choice
 
-some_is : {X : Type 0} {x y : X} → Some x ≡ Some y → x ≡ y
-some_is e = cc
-
 inner_is : (n : ℕ) (gates : List Gate) (l : ℕ) (u : Gate) → inner_gate n gates l ≡ Some u
     → (j : ℕ) × (l ≡ 2 * (n + 1 + j) + 1) × (slice_get gates j ≡ Some u)
 unfolding inner_gate
@@ -113,16 +112,56 @@ choice_is : (u w : Gate) (c : Choice) → choice_of u w ≡ Some c → IsChoice 
 unfolding choice_of
 choice_is u w c h = elim (cases_Bool (complement_of u.left == w.left)) [
   | inl e ↦ let here = rw e at h in
-      record { s = u.left; a = u.right; b = w.right; is = sym (some_is here); splits = record { first = inl (refl, refl); second = inl (grind (arith, nat_tests, e), refl) } }
+      record {
+        s = u.left;
+        a = u.right;
+        b = w.right;
+        is = sym (some_same here);
+        splits = record {
+          first = inl (refl, refl);
+          second =
+              inl (grind (arith, nat_tests, e), refl);
+        };
+      }
   | inr n ↦ let h1 = rw n at h in elim (cases_Bool (complement_of u.left == w.right)) [
     | inl e ↦ let here = rw e at h1 in
-        record { s = u.left; a = u.right; b = w.left; is = sym (some_is here); splits = record { first = inl (refl, refl); second = inr (grind (arith, nat_tests, e), refl) } }
+        record {
+          s = u.left;
+          a = u.right;
+          b = w.left;
+          is = sym (some_same here);
+          splits = record {
+            first = inl (refl, refl);
+            second =
+                inr (grind (arith, nat_tests, e), refl);
+          };
+        }
     | inr m ↦ let h2 = rw m at h1 in elim (cases_Bool (complement_of u.right == w.left)) [
       | inl e ↦ let here = rw e at h2 in
-          record { s = u.right; a = u.left; b = w.right; is = sym (some_is here); splits = record { first = inr (refl, refl); second = inl (grind (arith, nat_tests, e), refl) } }
+          record {
+            s = u.right;
+            a = u.left;
+            b = w.right;
+            is = sym (some_same here);
+            splits = record {
+              first = inr (refl, refl);
+              second
+                  = inl (grind (arith, nat_tests, e), refl);
+            };
+          }
       | inr k ↦ let h3 = rw k at h2 in elim (cases_Bool (complement_of u.right == w.right)) [
         | inl e ↦ let here = rw e at h3 in
-            record { s = u.right; a = u.left; b = w.left; is = sym (some_is here); splits = record { first = inr (refl, refl); second = inr (grind (arith, nat_tests, e), refl) } }
+            record {
+              s = u.right;
+              a = u.left;
+              b = w.left;
+              is = sym (some_same here);
+              splits = record {
+                first = inr (refl, refl);
+                second
+                    = inr (grind (arith, nat_tests, e), refl);
+              };
+            }
         | inr j ↦ let none = rw j at h3 in cc
       ]
     ]
@@ -200,12 +239,10 @@ module _ (c : Circuit) (is : IsOrdered c) where
   sum_is : (p q : Family) (point : ℕ) → IsFamily n p → IsFamily n q → value (sum_of n p q) point ≡ (value p point + value q point) % 2
   sum_is p q point pf qf = value-sum n n p q point pf qf (omega arith)
 
-  P : ℕ → Family
-  P = polynomial_of c
-
   chosen : (k : ℕ) (g : Gate) → slice_get c.gates k ≡ Some g → (ch : Choice)
       → IsBetween (inner_gate n c.gates g.left) (inner_gate n c.gates g.right) ch → (test : Bool) → (complement_of ch.one == ch.zero) ≡ test
-      → step_polynomial n (polynomial_of c) (cond test (Xor (record { left = ch.select; right = ch.zero })) (Mux ch)) ≡ polynomial_of c (2 * (n + 1 + k))
+      → step_polynomial n (polynomial_of c) (cond test (Xor (record { left = ch.select; right = ch.zero })) (Mux ch)) ≡ polynomial_of c
+      (2 * (n + 1 + k))
   chosen k g at ch by true e =
       same_values n _ _ (IsFamily-combine exactly_one n (polynomial_of c ch.select) (polynomial_of c ch.zero)) (IsFamily-polynomial_of c _)
       (λ point less.
@@ -214,7 +251,8 @@ module _ (c : Circuit) (is : IsOrdered c) where
       (ap (V point less) zero_is ∙ V-complement point less ch.one) in
       sum_is (polynomial_of c ch.select) (polynomial_of c ch.zero) point (IsFamily-polynomial_of c _) (IsFamily-polynomial_of c _)
       ∙ sym (V-mux point less k g at ch by
-      ∙ xor_numbers (V point less ch.select) (V point less ch.one) (V point less ch.zero) (V-lt point less ch.select) (V-lt point less ch.zero) other))
+      ∙ xor_numbers (V point less ch.select) (V point less ch.one) (V point less ch.zero) (V-lt point less ch.select) (V-lt point less
+      ch.zero) other))
   chosen k g at ch by false e =
       let differ = sum_of n (polynomial_of c ch.one) (polynomial_of c ch.zero) in
       let differ_fits = IsFamily-combine exactly_one n (polynomial_of c ch.one) (polynomial_of c ch.zero) in
@@ -222,7 +260,8 @@ module _ (c : Circuit) (is : IsOrdered c) where
       same_values n _ _ (IsFamily-combine exactly_one n (polynomial_of c ch.zero) times) (IsFamily-polynomial_of c _)
       (λ point less. sum_is (polynomial_of c ch.zero) times point (IsFamily-polynomial_of c _) (IsFamily-product_of n _ _)
       ∙ (ap (λ x. (V point less ch.zero + x) % 2) (product_by_values n (polynomial_of c ch.select) differ point less
-      ∙ ap (λ x. V point less ch.select * x) (sum_is (polynomial_of c ch.one) (polynomial_of c ch.zero) point (IsFamily-polynomial_of c _) (IsFamily-polynomial_of c _)))
+      ∙ ap (λ x. V point less ch.select * x) (sum_is (polynomial_of c ch.one) (polynomial_of c ch.zero) point (IsFamily-polynomial_of c
+      _) (IsFamily-polynomial_of c _)))
       ∙ sym (V-mux point less k g at ch by)))
 
   by_step : (k : ℕ) (g : Gate) → slice_get c.gates k ≡ Some g → (o : Option Choice)
@@ -238,13 +277,11 @@ module _ (c : Circuit) (is : IsOrdered c) where
 
   -- ---- a step stands on what is before its gate
 
-  Below : ℕ → ℕ → Type 0
-  Below v l = l / 2 < v
-
   operands_below : (k : ℕ) (g : Gate) → slice_get c.gates k ≡ Some g → (g.left / 2 < n + 1 + k) × (g.right / 2 < n + 1 + k)
   operands_below k g at = (omega (arith, is.left k g at), omega (arith, is.right k g at))
 
-  inner_below : (k l : ℕ) (u : Gate) → l / 2 < n + 1 + k → inner_gate n c.gates l ≡ Some u → (u.left / 2 < n + 1 + k) × (u.right / 2 < n + 1 + k)
+  inner_below : (k l : ℕ) (u : Gate) → l / 2 < n + 1 + k → inner_gate n c.gates l ≡ Some u
+      → (u.left / 2 < n + 1 + k) × (u.right / 2 < n + 1 + k)
   inner_below k l u less h = let at = inner_is n c.gates l u h in let both = operands_below at.0 u at.2 in
       (omega (arith, at.1), omega (arith, at.1))
 
@@ -265,7 +302,8 @@ module _ (c : Circuit) (is : IsOrdered c) where
   two_below m x y p q = All-cons (λ l. l / 2 < m) x (y ∷ []) p (All-cons (λ l. l / 2 < m) y [] q (All-nil (λ l. l / 2 < m)))
 
   by_below : (k : ℕ) (g : Gate) → slice_get c.gates k ≡ Some g → (o : Option Choice)
-      → choice_between (inner_gate n c.gates g.left) (inner_gate n c.gates g.right) ≡ o → All (λ l. l / 2 < n + 1 + k) (literals_of (step_by g o))
+      → choice_between (inner_gate n c.gates g.left) (inner_gate n c.gates g.right) ≡ o
+      → All (λ l. l / 2 < n + 1 + k) (literals_of (step_by g o))
   by_below k g at None e = let both = operands_below k g at in two_below _ g.left g.right both.0 both.1
   by_below k g at (Some ch) e = let all = chosen_below k g at ch (between_is _ _ ch e) in
       elim (complement_of ch.one == ch.zero)
@@ -302,7 +340,12 @@ named_in_steps : (steps : List Step) (outputs : List ℕ) (k v : ℕ) → k < le
     → names (needed steps outputs) v ≡ true
 named_in_steps [] outputs k v less h = absurd (omega arith)
 named_in_steps (step ∷ steps) outputs zero v less h =
-    grind (arith, names-append (flat_map literals_of (step ∷ steps)) outputs v, names-append (literals_of step) (flat_map literals_of steps) v)
+    grind (
+      arith,
+      names-append (flat_map literals_of (step ∷ steps)) outputs v,
+      names-append (literals_of step) (flat_map literals_of
+          steps) v,
+    )
 named_in_steps (step ∷ steps) outputs (suc k) v less h =
     let again = named_in_steps steps outputs k v (omega arith) h in
     grind (
@@ -321,7 +364,8 @@ length-needed_steps v outputs [] = refl
 length-needed_steps v outputs (step ∷ steps) = ap suc (length-needed_steps (v + 1) outputs steps)
 
 -- a step stays, or is skipped
-pub kept_or_skipped : (v : ℕ) (outputs : List ℕ) (steps : List Step) (i : ℕ) → (get_or (needed_steps v outputs steps) i Skip ≡ get_or steps i Skip)
+pub kept_or_skipped : (v : ℕ) (outputs : List ℕ) (steps : List Step) (i : ℕ)
+    → (get_or (needed_steps v outputs steps) i Skip ≡ get_or steps i Skip)
     ⊎ (get_or (needed_steps v outputs steps) i Skip ≡ Skip)
 unfolding needed_steps
 kept_or_skipped v outputs [] i = inl refl
@@ -359,7 +403,8 @@ named_later v outputs step steps below i h =
 
 -- a step of a variable that is named stays
 pub kept_where_named : (v : ℕ) (outputs : List ℕ) (steps : List Step) → AreOrdered v steps → (i : ℕ) → i < length steps
-    → names (needed (needed_steps v outputs steps) outputs) (v + i) ≡ true → get_or (needed_steps v outputs steps) i Skip ≡ get_or steps i Skip
+    → names (needed (needed_steps v outputs steps) outputs) (v + i) ≡ true
+    → get_or (needed_steps v outputs steps) i Skip ≡ get_or steps i Skip
 unfolding needed_steps
 kept_where_named v outputs [] below i less h = absurd (omega arith)
 kept_where_named v outputs (step ∷ steps) below zero less h =
@@ -368,7 +413,8 @@ kept_where_named v outputs (step ∷ steps) below zero less h =
 kept_where_named v outputs (step ∷ steps) below (suc i) less h =
     let place : v + suc i ≡ v + 1 + i = omega arith in
     kept_where_named (v + 1) outputs steps
-    (λ j l. subst (λ w. All (λ l. l / 2 < w) (literals_of (get_or steps j Skip))) (omega arith) (below (suc j) (omega arith))) i (omega arith)
+    (λ j l. subst (λ w. All (λ l. l / 2 < w) (literals_of (get_or steps j Skip))) (omega arith) (below (suc j) (omega arith))) i (omega
+    arith)
     (rw place at (named_later v outputs step steps below (suc i) h))
 
 -- ---- the steps of a circuit
@@ -457,7 +503,8 @@ pub none_needed : (v : ℕ) (outputs : List ℕ) (steps : List Step) (m : ℕ) �
 unfolding needed_steps
 none_needed v outputs steps m le = ap (needed_steps v outputs) (drop_all m steps le)
 
-set_skipped : (i : ℕ) (later : List Step) (step : Step) → slice_set (replicate i Skip ++ Skip ∷ later) i step ≡ replicate i Skip ++ step ∷ later
+set_skipped : (i : ℕ) (later : List Step) (step : Step) → slice_set (replicate i Skip ++ Skip ∷ later) i step ≡ replicate i Skip ++
+    step ∷ later
 set_skipped zero later step = refl
 set_skipped (suc i) later step = ap (λ xs. Skip ∷ xs) (set_skipped i later step)
 

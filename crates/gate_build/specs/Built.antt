@@ -45,7 +45,8 @@ PlansStep s handles step = Covers s.plan (working_set s.vars (step_list s.vars (
 abbrev pub GivesStep : State → State → Result Handle Full → List Handle → Step → Type 0
 GivesStep before after result handles step =
     let of_literal = literal_family before handles in
-    Gives before after result (step_polynomial before.vars of_literal step) (working_set before.vars (step_list before.vars of_literal step))
+    Gives before after result (step_polynomial before.vars of_literal step) (working_set before.vars (step_list before.vars of_literal
+    step))
 
 abbrev pub is_skip : Step → Bool
 is_skip Skip = true

@@ -72,8 +72,8 @@ fn exclusive_or<S: Store, O: SetOps<S>>(
     ops.xor(store, left, right)
 }
 
-/// The polynomial of a choice: that of the literal for 0, and where the choosing one is 1 the sum of
-/// both besides.
+/// The polynomial of a choice: that of the literal for 0, and besides, where the choosing one is 1,
+/// the sum of both.
 fn multiplexer<S: Store, O: SetOps<S>>(
     store: &mut S,
     ops: &mut O,

@@ -4,7 +4,8 @@ ghost use Rattle.std.specs.Prelude.{replicate, vec_len, IfOk};
 ghost use Rattle.std.specs.List.{All, slice_index_or};
 ghost use Rattle.aig_reader.specs.Reading.{circuit};
 ghost use Rattle.gate_build.specs.Steps.{complement_of, inner_gate, between_complements, choice_of};
-ghost use Rattle.gate_build.specs.Steps.{choice_step, step_of, literals_of, names, steps_of, AreMarked};
+ghost use Rattle.gate_build.specs.Steps.{choice_step, step_of, literals_of, names, steps_of};
+ghost use Rattle.gate_build.specs.Steps.{AreMarked};
 ghost use Rattle.gate_build.specs.declared.steps.Step.TheVariants.{Skip};
 
 use aig_reader::{Aig, Gate};

@@ -19,7 +19,8 @@ step_polynomial-requires-clause-known g c =
     let less : c.loop-k.k < length c.args.aig.now.gates = omega arith in
     let room : length c.loop-k.handles ≡ c.args.aig.now.inputs + 1 + length c.args.aig.now.gates =
     omega (arith, c.requires.room, c.loop-k.auto.handles) in
-    rw c.requires.steps (step_known c1 c.args.aig.now.fits s t c.loop-k.k c.loop-k.handles c.requires.vars i.found.reads.grows less i.built room)
+    rw c.requires.steps (step_known c1 c.args.aig.now.fits s t c.loop-k.k c.loop-k.handles c.requires.vars i.found.reads.grows less
+    i.built room)
 
 pub step_polynomial-requires-clause-planned : goal.step_polynomial-requires-clause-planned
 step_polynomial-requires-clause-planned g c =
@@ -28,7 +29,8 @@ step_polynomial-requires-clause-planned g c =
     let less : c.loop-k.k < length c.args.aig.now.gates = omega arith in
     let room : length c.loop-k.handles ≡ c.args.aig.now.inputs + 1 + length c.args.aig.now.gates =
     omega (arith, c.requires.room, c.loop-k.auto.handles) in
-    rw c.requires.steps (step_planned c1 c.args.aig.now.fits s t c.loop-k.k c.loop-k.handles c.requires.vars i.found.reads.grows less i.built room
+    rw c.requires.steps (step_planned c1 c.args.aig.now.fits s t c.loop-k.k c.loop-k.handles c.requires.vars i.found.reads.grows less
+    i.built room
     c.requires.planned)
 
 pub returns-in_err-handles-clause-found : goal.returns-in_err-handles-clause-found
@@ -43,7 +45,8 @@ loop-k-preserved g c =
     omega (arith, c.requires.room, c.loop-k.auto.handles) in
     let given = rw c.requires.steps at c.in_ok-handles.ensures.result in record {
       ready = c.in_ok-handles.ensures.ready;
-      found = rw c.requires.steps (gates_found c1 c.args.aig.now.fits s t c.loop-k.k c.loop-k.handles c.requires.vars i.found.reads.grows less
+      found = rw c.requires.steps (gates_found c1 c.args.aig.now.fits s t c.loop-k.k c.loop-k.handles c.requires.vars
+          i.found.reads.grows less
           i.built room given (rw c.requires.steps at i.found));
       built = gate_built c1 c.args.aig.now.fits s t c.loop-k.k c.loop-k.handles c.requires.vars i.found.reads.grows less i.built room given;
     }

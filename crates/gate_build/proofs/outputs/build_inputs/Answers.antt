@@ -19,7 +19,8 @@ one-requires-clause-below g c = input_below c.args.aig.now.inputs c.loop-k.k _ c
     (omega (arith, c.loop-k.invariant.found.reads.grows.vars, c.requires.vars))
 
 pub one-requires-clause-planned : goal.one-requires-clause-planned
-one-requires-clause-planned g c = input_planned (g.S.Store.state c.args.store.now) (g.S.Store.state c.loop-k.store) c.args.aig.now.inputs c.loop-k.k
+one-requires-clause-planned g c = input_planned (g.S.Store.state c.args.store.now) (g.S.Store.state c.loop-k.store)
+    c.args.aig.now.inputs c.loop-k.k
     c.loop-k.invariant.found.reads.grows c.requires.vars c.loop-k-test.true c.args.aig.now.fits.few_inputs c.requires.planned
 
 pub loop-k-preserved : goal.loop-k-preserved
@@ -27,5 +28,6 @@ loop-k-preserved g c = record {
   found = inputs_found c.args.aig.now.inputs c.loop-k.k c.loop-k-test.true c.args.aig.now.fits.few_inputs c.loop-k.invariant.found
       c.in_ok-handles.ensures;
   built = input_built (circuit c.args.aig.now) c.loop-k.handles c.in_ok-handles.field-0 c.loop-k.k c.loop-k-test.true
-      c.args.aig.now.fits.few_inputs (omega (arith, c.requires.room, c.loop-k.auto.handles, length-set {A = Handle})) c.loop-k.invariant.built c.in_ok-handles.ensures;
+      c.args.aig.now.fits.few_inputs (omega (arith, c.requires.room, c.loop-k.auto.handles, length-set {A = Handle}))
+      c.loop-k.invariant.built c.in_ok-handles.ensures;
 }

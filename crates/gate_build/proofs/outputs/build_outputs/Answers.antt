@@ -26,7 +26,8 @@ literal_polynomial-requires-clause-planned g c =
     let here = ap (λ xs. get_or xs c.loop-j.j 0) c.as_slice-literal-items.ensures in
     let found = rw (← here) at (outputs_find c1 c.args.aig.now.fits c.loop-j.j 0 less) in
     let built = built_later c1 s t c.args.handles.now i.found.reads.grows c.requires.built in
-    let same = literal_is c1 t _ c.args.handles.now built (i.found.reads.grows.vars ∙ c.requires.vars) _ (rw (← c.requires.variables) at found) in
+    let same = literal_is c1 t _ c.args.handles.now built (i.found.reads.grows.vars
+    ∙ c.requires.vars) _ (rw (← c.requires.variables) at found) in
     output_planned c1 s t c.loop-j.j c.args.handles.now c.requires.vars i.found.reads.grows less _ here same c.requires.planned
 
 pub returns-in_err-outputs-clause-found : goal.returns-in_err-outputs-clause-found
@@ -40,7 +41,8 @@ loop-j-preserved g c =
     let here = ap (λ xs. get_or xs c.loop-j.j 0) c.as_slice-literal-items.ensures in
     let found = rw (← here) at (outputs_find c1 c.args.aig.now.fits c.loop-j.j 0 less) in
     let built = built_later c1 s t c.args.handles.now i.found.reads.grows c.requires.built in
-    let same = literal_is c1 t _ c.args.handles.now built (i.found.reads.grows.vars ∙ c.requires.vars) _ (rw (← c.requires.variables) at found) in
+    let same = literal_is c1 t _ c.args.handles.now built (i.found.reads.grows.vars
+    ∙ c.requires.vars) _ (rw (← c.requires.variables) at found) in
     record {
       ready = c.in_ok-outputs.ensures.ready;
       found = outputs_found c1 s t c.loop-j.j c.args.handles.now c.requires.vars i.found.reads.grows less _ here same

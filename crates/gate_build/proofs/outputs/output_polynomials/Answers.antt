@@ -14,7 +14,8 @@ pub build_gates-requires-clause-planned : goal.build_gates-requires-clause-plann
 unfolding circuit_list
 build_gates-requires-clause-planned g c =
     let n = c.args.aig.now.inputs in
-    rw c.in_ok-build_inputs.ensures.found.grows.plan (covers_left n _ (gates_list (circuit c.args.aig.now)) _ (covers_right n _ _ _ c.requires.planned))
+    rw c.in_ok-build_inputs.ensures.found.grows.plan (covers_left n _ (gates_list (circuit c.args.aig.now)) _ (covers_right n _ _ _
+    c.requires.planned))
 
 pub returns-in_err-build_gates-clause-grows : goal.returns-in_err-build_gates-clause-grows
 returns-in_err-build_gates-clause-grows g c =

@@ -8,7 +8,8 @@ use Rattle.gate_build.proofs.steps.keep_needed.Given as goal
 -- the steps from k on are found, and what they and the outputs need is marked
 abbrev pub invariant-loop-k : goal.invariant-loop-k
 invariant-loop-k l =
-    let later = needed_steps (l.aig.inputs + 1 + l.k) l.aig.outputs (drop l.k (map (step_of l.aig.inputs l.aig.gates) l.aig.gates)) in record {
+    let later = needed_steps (l.aig.inputs + 1 + l.k) l.aig.outputs (drop l.k (map (step_of l.aig.inputs l.aig.gates) l.aig.gates)) in
+    record {
       steps : l.steps ≡ replicate l.k Skip ++ later;
       variables : length l.needed ≡ l.aig.inputs + 1 + length l.aig.gates;
       marked : AreMarked l.needed (flat_map literals_of later ++ l.aig.outputs);
