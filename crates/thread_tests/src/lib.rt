@@ -9,9 +9,9 @@ mod of_fork_branches;
 #[cfg(test)]
 mod of_job_counter;
 #[cfg(test)]
-mod of_probe_core;
-#[cfg(test)]
 mod of_job_deques;
+#[cfg(test)]
+mod of_probe_core;
 #[cfg(test)]
 mod of_steal_pool;
 #[cfg(test)]

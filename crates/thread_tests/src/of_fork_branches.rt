@@ -34,12 +34,7 @@ pub(crate) struct Noted {
 
 impl Noted {
     // So many jobs, which nobody called yet.
-    pub(crate) fn new(
-        alloc: Global,
-        count: u32,
-        waiting: u32,
-        awaited: u64,
-    ) -> Result<Noted, Fail>
+    pub(crate) fn new(alloc: Global, count: u32, waiting: u32, awaited: u64) -> Result<Noted, Fail>
         ensures { IfOk result (λ n. n.count ≡ count) }
     {
         let mut calls = Vec::new(alloc);

@@ -47,7 +47,12 @@ fn each_stolen_job_is_run_once(rt: HostRuntime) -> Result<(), Fail> {
     let stolen = steal(&rt, rt.alloc(), &jobs, 5)?;
     assert!(rt; jobs.went_well());
     for number in 0..50 {
-        assert!(rt; stolen.taken.worker_of(number).is_some_and(|worker| worker < 5));
+        assert!(rt;
+            stolen
+                .taken
+                .worker_of(number)
+                .is_some_and(|worker| worker < 5)
+        );
     }
     assert_eq!(rt; stolen.taken.worker_of(50), None);
     Ok(())

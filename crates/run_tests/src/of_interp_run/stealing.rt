@@ -1,8 +1,8 @@
 use super::{ADDER, SUMS, words_of};
 use interp_run::run;
 use outside::{MemSink, MemSource, Rendezvous};
-use steal_pool::Stealing;
 use std::test::Fail;
+use steal_pool::Stealing;
 
 // Runs with workers that steal jobs from each other write what all others write.
 #[test]
