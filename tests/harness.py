@@ -47,7 +47,7 @@ def program(name):
     script = TOP / name
     if not script.is_file():
         raise unittest.SkipTest(f"there is no program {name}")
-    crate, mode = re.search(rf"/tools/run_proved\" {name} (\w+) '(\w+)", script.read_text()).groups()
+    crate, mode = re.search(r"/tools/run_proved\" \w+ (\w+) '(\w+)", script.read_text()).groups()
     path = TOP / "crates" / crate / "out" / crate
     if not path.is_file() and not shutil.which("rt"):
         raise unittest.SkipTest(f"{name} is not built, and there is no toolchain to build it")

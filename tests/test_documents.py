@@ -43,6 +43,7 @@ PRINTS = [
     ("-k ./batch anf < made/stream", "file 3 0\ns = a + b + cin\nc = a*b + a*cin + b*cin\n"),
     ("--joblog made/log", "file 3 0\ns = a + b + cin\nc = a*b + a*cin + b*cin\n"),
     ("tools/solve -o", "s = a + b + cin\nc = a*b + a*cin + b*cin\n"),
+    ("./steal anf --workers 8", "s = a + b + cin\nc = a*b + a*cin + b*cin\n"),
     ("answer_as python", "{'s': 0, 'c': 1} {'s': 6, 'c': 8}\n"),
     ("answer_as dot", 'label="cin"'),
 ]

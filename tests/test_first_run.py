@@ -27,6 +27,9 @@ ADVICE = {
     "interp": "interp reads standard input: interp anf < file.pla\n",
     "nfq": "nfq reads standard input: nfq reduce < file.pla\n",
 }
+# What steal says is what interp does.
+for said in (USAGE, ADVICE):
+    said["steal"] = said["interp"]
 REFUSED = [
     ("interp", []),
     ("interp", [""]),
@@ -43,6 +46,8 @@ REFUSED = [
     ("nfq", ["--help"]),
     ("nfq", ["anf"]),
     ("nfq", ["reduce", "file.pla"]),
+    ("steal", ["--help"]),
+    ("steal", ["anf", "file.pla"]),
 ]
 TAKEN = [
     ("interp", ["anf"]),
@@ -52,8 +57,9 @@ TAKEN = [
     ("nfq", ["reduce"]),
     ("nfq", ["union"]),
     ("nfq", ["meet"]),
+    ("steal", ["--nodes", "5", "basis"]),
 ]
-CRATES = {"interp": "interp_main", "nfq": "nf_query"}
+CRATES = {"interp": "interp_main", "nfq": "nf_query", "steal": "steal_main"}
 
 # It plays the command rt in the current folder, a crate: `rt lib` makes its library, and `rt run` its program, which
 # prints its words, where it is not there or other sources were. That takes a while, and in the middle of it half of the
