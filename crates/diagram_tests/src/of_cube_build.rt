@@ -52,13 +52,19 @@ impl Planned for CaresOf<'_> {
         (points_list (description c.0.now) c.1) };
 }
 
-// A store of 16 slots with this plan.
-fn store_for<P: Planned>(alloc: Global, vars: u32, plan: &P) -> Result<PlainStore, Memory>
-    requires { (1 ≤ vars) × (vars ≤ 62) }
+// A store of 2^bits slots with this plan.
+pub(crate) fn store_for<P: Planned>(
+    alloc: Global,
+    bits: u32,
+    vars: u32,
+    plan: &P,
+) -> Result<PlainStore, Memory>
+    requires bits { (4 ≤ bits) × (bits ≤ 23) }
+    requires few { (1 ≤ vars) × (vars ≤ 62) }
     ensures vars { IfOk result (λ s. (state_of s).vars ≡ vars) }
     ensures plan { IfOk result (λ s. (state_of s).plan ≡ P.families plan.now) }
 {
-    PlainStore::make(alloc, 4, vars, plan_of(plan))
+    PlainStore::make(alloc, bits, vars, plan_of(plan))
 }
 
 // The points of the row's cube.
@@ -67,7 +73,7 @@ fn points_of(alloc: Global, vars: u32, row: &Row) -> Result<Monos, Fail>
     requires care { row.now.care < 2 ^ vars }
     requires value { divides row.now.value row.now.care ≡ true }
 {
-    let mut store = store_for(alloc, vars, &CubeOf(vars, *row))?;
+    let mut store = store_for(alloc, 4, vars, &CubeOf(vars, *row))?;
     let points = cube(&mut store, row)?;
     let members = walk_upto(alloc, &mut store, points, 4)?;
     Ok(members)
@@ -104,7 +110,7 @@ fn points_of_cubes(rt: HostRuntime) -> Result<(), Fail> {
 fn care_points_of(alloc: Global, p: &Pla, output: u32) -> Result<(Monos, Monos, Monos), Fail>
     requires { (1 ≤ output) × (output ≤ p.now.outputs) }
 {
-    let mut store = store_for(alloc, p.inputs, &CaresOf(p, output))?;
+    let mut store = store_for(alloc, 4, p.inputs, &CaresOf(p, output))?;
     let zeros = zeros(&mut store, p, output)?;
     let ones = ones(&mut store, p, output)?;
     let all = care_points(&mut store, p, output)?;
@@ -177,7 +183,7 @@ fn points_of_outputs(rt: HostRuntime) -> Result<(), Fail> {
 fn points_of_set(alloc: Global, p: &Pla, place: usize) -> Result<Monos, Fail>
     requires { place < length (sets_of p.now.kind) }
 {
-    let mut store = store_for(alloc, p.inputs, &AllCares(p))?;
+    let mut store = store_for(alloc, 4, p.inputs, &AllCares(p))?;
     let cubes = row_cubes(alloc, &mut store, p)?;
     let set = sets_of(p.kind)[place];
     let points = cover(&mut store, p.rows.as_slice(), &cubes, set, 1)?;
@@ -227,7 +233,7 @@ fn refused(alloc: Global, bytes: &[u8]) -> Result<Option<SolveRefusal>, Fail>
     requires { length bytes.now < 100 }
 {
     let (p, _) = read(alloc, bytes)?;
-    let mut store = store_for(alloc, p.inputs, &AllCares(&p))?;
+    let mut store = store_for(alloc, 4, p.inputs, &AllCares(&p))?;
     Ok(row_cubes(alloc, &mut store, &p).err())
 }
 
@@ -248,7 +254,7 @@ fn zeros_without_rows(alloc: Global, bytes: &[u8]) -> Result<Result<Handle, Full
     requires { length bytes.now < 100 }
 {
     let (p, _) = read(alloc, bytes)?;
-    let mut store = store_for(alloc, p.inputs, &CaresOf(&p, 1))?;
+    let mut store = store_for(alloc, 4, p.inputs, &CaresOf(&p, 1))?;
     Ok(zeros(&mut store, &p, 1))
 }
 

@@ -3,11 +3,12 @@ ghost use Rattle.aig_reader.specs.Reading.{circuit};
 ghost use Rattle.gate_build.specs.Steps.{circuit_list, circuit_needs};
 ghost use Rattle.lattice.proofs.Diagrams.{working_set_is_node_list};
 
+use crate::of_cube_build::store_for;
 use aig_reader::{Aig, Gate, read};
 use bool_poly::Serial;
 use gate_build::{Choice, Pair, Step, output_polynomials, plan_steps};
-use lattice::{Mono, MonoLists, Planned, plan_of, value_at};
-use node_store::{PlainStore, SolveRefusal};
+use lattice::{Mono, MonoLists, Planned, value_at};
+use node_store::SolveRefusal;
 use set_algebra::lists_upto;
 use std::alloc::Global;
 use std::test::Fail;
@@ -55,7 +56,7 @@ fn terms_of_outputs(alloc: Global, aig: &Aig, bits: u32) -> Result<MonoLists, Fa
     requires bits { (4 ≤ bits) × (bits ≤ 23) }
 {
     let steps = plan_steps(alloc, aig)?;
-    let mut store = PlainStore::make(alloc, bits, aig.inputs, plan_of(&NeedsOf(aig)))?;
+    let mut store = store_for(alloc, bits, aig.inputs, &NeedsOf(aig))?;
     let outputs = output_polynomials(alloc, &mut store, &mut Serial, aig, &steps)?;
     Ok(lists_upto(alloc, &mut store, &outputs, 1000)?)
 }
