@@ -142,7 +142,7 @@ fn steps_of_circuits(rt: HostRuntime) -> Result<(), Fail> {
             &[
                 Step::Skip,
                 Step::Skip,
-                Step::Xor(Pair { left: 5, right: 2 }),
+                Step::Xor(Pair { left: 4, right: 3 }),
             ],
         ),
         // A choice between one and the same, and a gate that no output needs.
@@ -152,7 +152,7 @@ fn steps_of_circuits(rt: HostRuntime) -> Result<(), Fail> {
                 Step::Skip,
                 Step::Skip,
                 Step::Mux(Choice {
-                    select: 2,
+                    select: 3,
                     one: 4,
                     zero: 4,
                 }),
