@@ -4,7 +4,8 @@
     pools.py [--runs N] [--workers N,N..] [--program PATH] [--steal PATH]
 
 The files are made by a fixed rule: random points, all of which have a value for the great output, and few for the
-others. It stands first, in the middle or last. Both programs run in turn; the table has the least time of each in
+others. It stands first, in the middle or last; in a fourth file each eighth output is great, so that by deques the first
+of two, four or eight workers is dealt all of them. Both programs run in turn; the table has the least time of each in
 milliseconds, start and reading included. It fails where they print different bytes.
 """
 
@@ -20,20 +21,26 @@ HERE = pathlib.Path(__file__).resolve().parent
 
 INPUTS = 24
 OUTPUTS = 32
-POINTS = 8192
+POINTS = 4096
 # How many points the other outputs have a value at.
 FEW = 60
 
-PLACES = {"first": 0, "middle": OUTPUTS // 2, "last": OUTPUTS - 1}
+PLACES = {
+    "first": [0],
+    "middle": [OUTPUTS // 2],
+    "last": [OUTPUTS - 1],
+    "each eighth": range(0, OUTPUTS, 8),
+}
 
 
-def uneven(place):
-    """Random points, whose values the output at this place has, and the others for the first few."""
+def uneven(places):
+    """Random points, whose values the outputs at these places have, and the others for the first few."""
     draws = make_files.Draws(1)
     rows = []
     for number in range(POINTS):
         values = list(make_files.drawn_bits(draws, OUTPUTS) if number < FEW else "-" * OUTPUTS)
-        values[place] = draws.one_of("01")
+        for place in places:
+            values[place] = draws.one_of("01")
         rows.append((make_files.drawn_bits(draws, INPUTS), "".join(values)))
     # A point that was drawn before would contradict.
     return make_files.description(INPUTS, OUTPUTS, "fr", list(dict(reversed(rows)).items()))
@@ -53,12 +60,12 @@ def main():
         for name, path in programs.items()
     ]
     same = True
-    print(f"| great output | mode | {' | '.join(name for name, _ in columns)} | MB | bytes |")
+    print(f"| great outputs | mode | {' | '.join(name for name, _ in columns)} | MB | bytes |")
     print(f"|{'---|' * (len(columns) + 4)}")
     with tempfile.TemporaryDirectory() as folder:
-        for name, place in PLACES.items():
-            path = pathlib.Path(folder) / f"{name}.pla"
-            path.write_text(uneven(place))
+        for name, places in PLACES.items():
+            path = pathlib.Path(folder) / "uneven.pla"
+            path.write_text(uneven(places))
             same &= run.row(name, "anf", *run.measure(columns, path, options.runs))
     if not same:
         print("what is printed differs", file=sys.stderr)
