@@ -113,7 +113,7 @@ class Costs:
         if words == [""]:
             # (it has ended)
             return self.parts.get(number, above)
-        if process.parent == self.root:
+        if process.parent == self.root or "unittest" in words[:3]:
             # (bash copies itself before it starts a command)
             return OTHERS if words == words_of(self.root) else label(words)
         return part_in_gate(number, words) or above if above.startswith(GATE) else above

@@ -7,5 +7,5 @@ mod lines;
 mod polynomial;
 
 pub use crate::answer::{Shown, answer_text};
-pub use crate::lines::{Left, Line, lines_text};
+pub use crate::lines::{Left, Line, lines_text, lines_with};
 pub use crate::polynomial::poly_text;

@@ -55,8 +55,8 @@ fn left_text(outputs: &[Name], left: Left) -> &[u8]
     }
 }
 
-/// The lines with these names of inputs and outputs.
-fn lines_with(
+/// The text of the lines, with these names of inputs and outputs.
+pub fn lines_with(
     alloc: Global,
     names: &[Name],
     outputs: &[Name],

@@ -64,7 +64,7 @@ fn copied(alloc: Global, names: &[Name]) -> Result<Names, Memory>
 
 /// The names of the inputs, in the order.
 #[tactic(auto, using(crate::proofs::Orders::arranging_steps))]
-fn names_in_order(alloc: Global, order: &[u32], names: &[Name]) -> Result<Names, Memory>
+pub fn names_in_order(alloc: Global, order: &[u32], names: &[Name]) -> Result<Names, Memory>
     requires { IsOrder (length names.now) order.now }
     ensures { IfOk result (λ arranged. arranged ≡ names_in_order order.now names.now) }
 {

@@ -50,7 +50,7 @@ pub fn file_order(alloc: Global, p: &Pla) -> Result<Order, lattice::Memory>
 /// The position of the input of this name, from 1. Where no input has it, one more than there are
 /// inputs.
 #[tactic(auto, unfolding(crate::specs::Orders::position_named))]
-fn position_of(names: &[Name], name: &[u8]) -> u32
+pub fn position_of(names: &[Name], name: &[u8]) -> u32
     requires { length names.now ≤ MAX_VARS }
     ensures { result ≡ position_named names.now name.now }
 {
@@ -61,8 +61,11 @@ fn position_of(names: &[Name], name: &[u8]) -> u32
     place as u32 + 1
 }
 
-/// The positions of the inputs of these names that the text asks for.
-fn order_of(alloc: Global, names: &[Name], text: &[u8]) -> Result<Order, OrderRefusal>
+/// The order of the inputs of these names that the text asks for: the names, each once, with commas
+/// between them, the greatest variable's first.
+///
+/// `Bad` says that the text, cut at its commas, is no list of all the names, each once.
+pub fn order_of(alloc: Global, names: &[Name], text: &[u8]) -> Result<Order, OrderRefusal>
     requires { length names.now ≤ MAX_VARS }
     ensures order { IfOk result (λ order. order ≡ order_named names.now text.now) }
     ensures good { OnOk result (IsOrder (length names.now) (order_named names.now text.now)) }
