@@ -19,7 +19,7 @@ PUBLIC_MODULES = 2
 # with the reason. This last list may shrink and is not to grow.
 RATIO = 2
 DIAGRAM_RATIO = 4
-ON_DIAGRAMS = ("set_algebra", "cube_build", "bool_poly", "std_monomials", "gate_build", "interp_lex", "vanish_basis")
+ON_DIAGRAMS = ("set_algebra", "diagram_measures", "cube_build", "bool_poly", "std_monomials", "gate_build", "interp_lex", "vanish_basis")
 EXCEPTIONS = {
     "cli_words": (2.6, "what clap finds for each of six arguments is proved argument by argument"),
     "cube_sets": (2.4, "the search by buckets is shown to find what comparing all pairs finds"),

@@ -3,11 +3,11 @@ use Rattle.std.proofs.Common.{◌≡◌, ℕ, zero, suc, ◌-◌, ◌+◌, ◌*�
 use Rattle.std.proofs.Common.{List, [], ◌∷◌, length, get_or, set, take, drop, replicate, inl, inr, ◌⊎◌, Some, Result, Ok, Err}
 use Rattle.std.proofs.Common.{refl, sym, ap, ◌∙◌, subst, arith}
 use Rattle.std.specs.Prelude.{slice_get}
-use Rattle.std.proofs.lemmas.Bool.{ltb-false, leb-false}
+use Rattle.std.proofs.lemmas.Bool.{ltb-false}
 use Rattle.std.proofs.lemmas.Bool.Decides.{nat_tests}
 use Rattle.std.proofs.lemmas.Option.{get_or_from_slice_get, slice_get_within}
 use Rattle.std.proofs.lemmas.List.{length-set, length-replicate}
-use Rattle.aig_reader.specs.declared.refusal.Why.TheVariants.{LiteralRange, GateOrder, NotBefore}
+use Rattle.aig_reader.specs.declared.refusal.Why.TheVariants.{LiteralRange, GateOrder}
 use Rattle.aig_reader.specs.declared.refusal.Fault.{Fault}
 use Rattle.aig_reader.specs.declared.circuit.Gate.{Gate}
 use Rattle.aig_reader.specs.declared.header.Sizes.{Sizes}
@@ -15,7 +15,9 @@ use Rattle.aig_reader.specs.Circuit.{IsCircuit}
 use Rattle.aig_reader.specs.Fields.{◌>>=◌, stop, behind, number_at, literal_at, output_at}
 use Rattle.aig_reader.specs.Fields.{difference_at, operand_at, gate_at, many, through}
 use Rattle.aig_reader.specs.Ascii.{variable_at, input_line_at, gate_line_at, IsUpTo, renamed, renamed_at, renamed_output_at}
-use Rattle.aig_reader.specs.Ascii.{renamed_operand_at, renamed_gate_at}
+use Rattle.aig_reader.specs.Ascii.{renamed_gate_at}
+use Rattle.aig_reader.specs.Order.{AreGates}
+use Rattle.std.specs.List.{All}
 use Rattle.aig_reader.specs.Reading.{AreFew, Names, no_names, line_length, name_at, symbol_at, are_over, symbols_at, table_at}
 
 abbrev stopped : {A : Type 0} → Fault → Result A Fault
@@ -32,14 +34,14 @@ guard_ok true d r y e = absurd cc
 guard_ok false d r y e = (refl, e)
 
 -- which way a test went
-chosen : {A : Type 0} (b : Bool) (r s y : A) → cond b r s ≡ y → ((b ≡ true) × (r ≡ y)) ⊎ ((b ≡ false) × (s ≡ y))
+pub chosen : {A : Type 0} (b : Bool) (r s y : A) → cond b r s ≡ y → ((b ≡ true) × (r ≡ y)) ⊎ ((b ≡ false) × (s ≡ y))
 chosen true r s y e = inl (refl, e)
 chosen false r s y e = inr (refl, e)
 
 abbrev done : {A : Type 0} → A → Result A Fault
 done x = Ok x
 
-no_fault : {A : Type 0} (d : Fault) (y : A) → stopped d ≡ done y → ⊥
+pub no_fault : {A : Type 0} (d : Fault) (y : A) → stopped d ≡ done y → ⊥
 no_fault d y e = cc
 
 pub ok_is : {A : Type 0} (x y : A) → done x ≡ done y → x ≡ y
@@ -238,24 +240,16 @@ renamed_output_below most table bytes x all e =
     let b = bind_ok (behind 10 a.0.1) (λ rest. Ok (a.0.0, rest)) x a.2 in
     subst (λ y. y.0 < 2 * (most + 1)) (ok_is (a.0.0, b.0) x b.2) (renamed_below most table bytes a.0 all a.1)
 
-renamed_operand_below : (table : List ℕ) (literal : ℕ) (bytes : List ℕ) (x : ℕ × List ℕ) → renamed_operand_at table literal bytes ≡ Ok x
-    → x.0 < literal
-unfolding renamed_operand_at
-renamed_operand_below table literal bytes x e =
-    let a = bind_ok (renamed_at table bytes) (λ o. cond (leb literal o.0) (stop bytes NotBefore) (Ok o)) x e in
-    let g = guard_ok (leb literal a.0.0) _ (Ok a.0) x a.2 in
-    subst (λ y. y.0 < literal) (ok_is a.0 x g.1) (leb-false _ _ g.0)
-
-renamed_gate_below : (table : List ℕ) (literal : ℕ) (bytes : List ℕ) (x : Gate × List ℕ) → renamed_gate_at table literal bytes ≡ Ok x
-    → (x.0.left < literal) × (x.0.right < literal)
+renamed_gate_below : (most : ℕ) (table bytes : List ℕ) (x : Gate × List ℕ) → IsUpTo most table → renamed_gate_at table bytes ≡ Ok x
+    → (x.0.left < 2 * (most + 1)) × (x.0.right < 2 * (most + 1))
 unfolding renamed_gate_at
-renamed_gate_below table literal bytes x e =
+renamed_gate_below most table bytes x all e =
     let a = bind_ok (literal_at (length table - 1) bytes) _ x e in let b = bind_ok (behind 32 a.0.1) _ x a.2 in
-    let d = bind_ok (renamed_operand_at table literal b.0) _ x b.2 in let f = bind_ok (behind 32 d.0.1) _ x d.2 in
-    let g = bind_ok (renamed_operand_at table literal f.0) _ x f.2 in let h = bind_ok (behind 10 g.0.1) _ x g.2 in
+    let d = bind_ok (renamed_at table b.0) _ x b.2 in let f = bind_ok (behind 32 d.0.1) _ x d.2 in
+    let g = bind_ok (renamed_at table f.0) _ x f.2 in let h = bind_ok (behind 10 g.0.1) _ x g.2 in
     let made : Gate × List ℕ = (record { left = d.0.0; right = g.0.0 }, h.0) in
-    subst (λ y. (y.0.left < literal) × (y.0.right < literal)) (ok_is made x h.2)
-    (renamed_operand_below table literal b.0 d.0 d.1, renamed_operand_below table literal f.0 g.0 g.1)
+    subst (λ y. (y.0.left < 2 * (most + 1)) × (y.0.right < 2 * (most + 1))) (ok_is made x h.2)
+    (renamed_below most table b.0 d.0 all d.1, renamed_below most table f.0 g.0 all g.1)
 
 -- ---- the whole
 
@@ -297,14 +291,38 @@ module _ (sizes : Sizes) (few : AreFew sizes) (start middle later : List ℕ) (o
       middle (gates, later) f in
       fits sizes few outputs gates names o p (symbols_count (length later) (no_names sizes) later names symbols)
 
-  pub ascii_fits : (table : List ℕ) → IsUpTo (sizes.inputs + sizes.gates) table
-      → many (λ k. renamed_output_at table) 0 sizes.outputs start ≡ Ok (outputs, middle)
-      → many (λ k. renamed_gate_at table (2 * (sizes.inputs + 1 + k))) 0 sizes.gates middle ≡ Ok (gates, later)
-      → IsCircuit sizes.inputs gates outputs names.inputs names.outputs
-  ascii_fits table all e f =
+-- as many names as inputs and outputs
+pub names_count : (sizes : Sizes) (later : List ℕ) (names : Names) → symbols_at (length later) (no_names sizes) later ≡ Ok names
+    → (length names.inputs ≡ sizes.inputs) × (length names.outputs ≡ sizes.outputs)
+names_count sizes later names e = let q = symbols_count (length later) (no_names sizes) later names e in
+    (q.inputs ∙ length-replicate sizes.inputs [], q.outputs ∙ length-replicate sizes.outputs [])
+
+-- what the lines of gates and of outputs say by a table
+module _ (sizes : Sizes) (middle later : List ℕ) (gates : List Gate) (table : List ℕ)
+    (all : IsUpTo (sizes.inputs + sizes.gates) table)
+    (f : many (λ k. renamed_gate_at table) 0 sizes.gates middle ≡ Ok (gates, later)) where
+  abbrev below_all : ℕ → Gate → Type 0
+  below_all k gate = (gate.left < 2 * (sizes.inputs + sizes.gates + 1)) × (gate.right < 2 * (sizes.inputs + sizes.gates + 1))
+
+  so : AreSo below_all 0 sizes.gates gates
+  so = many_are_so below_all (λ k. renamed_gate_at table)
+      (λ k bytes x. renamed_gate_below (sizes.inputs + sizes.gates) table bytes x all) sizes.gates 0 middle (gates, later) f
+
+  each_below : (k : ℕ) (gate : Gate) → slice_get gates k ≡ Some gate → below_all k gate
+  each_below k gate is = let within : k < sizes.gates = omega (arith, slice_get_within gates k gate is, so.count_is) in
+      rw (get_or_from_slice_get gates k gate gate is) at (so.each k gate within)
+
+  pub lines_are_gates : AreFew sizes → AreGates sizes.inputs gates
+  lines_are_gates few = record {
+    few_inputs = few.inputs;
+    few_gates = rw so.count_is few.gates;
+    left = λ k gate is. omega (arith, (each_below k gate is).0, so.count_is);
+    right = λ k gate is. omega (arith, (each_below k gate is).1, so.count_is);
+  }
+
+  pub outputs_below : (start outputs : List ℕ) → many (λ k. renamed_output_at table) 0 sizes.outputs start ≡ Ok (outputs, middle)
+      → (length outputs ≡ sizes.outputs) × All (λ literal. literal < 2 * (sizes.inputs + 1 + length gates)) outputs
+  outputs_below start outputs e =
       let o = many_are_so (λ k literal. literal < 2 * (sizes.inputs + sizes.gates + 1)) (λ k. renamed_output_at table)
       (λ k bytes x is. renamed_output_below (sizes.inputs + sizes.gates) table bytes x all is) sizes.outputs 0 start (outputs, middle) e in
-      let p = many_are_so (λ k gate. (gate.left < 2 * (sizes.inputs + 1 + k)) × (gate.right < 2 * (sizes.inputs + 1 + k)))
-      (λ k. renamed_gate_at table (2 * (sizes.inputs + 1 + k)))
-      (λ k bytes x. renamed_gate_below table (2 * (sizes.inputs + 1 + k)) bytes x) sizes.gates 0 middle (gates, later) f in
-      fits sizes few outputs gates names o p (symbols_count (length later) (no_names sizes) later names symbols)
+      (o.count_is, λ k d lt. omega (arith, o.each k d (omega (arith, o.count_is)), so.count_is))

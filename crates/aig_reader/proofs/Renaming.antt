@@ -1,6 +1,6 @@
 -- In the ASCII form a literal has the value that it has by the lines as they are written.
 use Rattle.std.proofs.Common.{◌≡◌, ◌≢◌, ℕ, zero, suc, ◌-◌, ◌+◌, ◌*◌, ◌/◌, ◌%◌, ◌^◌, ◌≤◌, ◌<◌, Bool, false, not, leb, ltb, eqb, ◌||◌, ◌&&◌}
-use Rattle.std.proofs.Common.{List, [], ◌∷◌, length, get_or, set, replicate, inl, inr, ◌⊎◌, Some, Result, Ok}
+use Rattle.std.proofs.Common.{List, [], ◌∷◌, length, get_or, set, replicate, inl, inr, ◌⊎◌, Some, Result, Ok, Err, map}
 use Rattle.std.proofs.Common.{refl, sym, ap, ◌∙◌, subst, arith, eq-eqb}
 use Rattle.std.specs.Prelude.{slice_get}
 use Rattle.std.proofs.lemmas.Bool.{cases_Bool, cases_lt, eqb-true}
@@ -9,17 +9,21 @@ use Rattle.std.proofs.lemmas.List.{length-replicate, length-set, get_or-set_same
 use Rattle.aig_reader.specs.declared.refusal.Fault.{Fault}
 use Rattle.aig_reader.specs.declared.circuit.Gate.{Gate}
 use Rattle.aig_reader.specs.declared.header.Sizes.{Sizes}
-use Rattle.aig_reader.specs.Fields.{◌>>=◌, behind, literal_at, output_at, many, through}
+use Rattle.aig_reader.specs.Fields.{◌>>=◌, Then, behind, literal_at, output_at, many, through}
 use Rattle.aig_reader.specs.Ascii.{variable_at, input_line_at, gate_line_at, renamed, renamed_at}
-use Rattle.aig_reader.specs.Ascii.{renamed_output_at, renamed_operand_at, renamed_gate_at}
+use Rattle.aig_reader.specs.Ascii.{renamed_output_at, renamed_gate_at}
 use Rattle.lattice.specs.Family.{divides}
-use Rattle.std.proofs.lemmas.Option.{slice_get_within}
-use Rattle.aig_reader.specs.Circuit.{Circuit, HasValue, IsCircuit}
+use Rattle.std.proofs.lemmas.Option.{slice_get_within, slice_get-map}
+use Rattle.std.specs.Option.{option_map}
+use Rattle.aig_reader.specs.Circuit.{Circuit, HasValue}
 use Rattle.aig_reader.specs.Circuit as values
-use Rattle.aig_reader.specs.Reading.{sizes_at, no_names, symbols_at, table_at, by_table_at, ascii_at}
+use Rattle.aig_reader.specs.Reading.{sizes_at, no_names, symbols_at, table_at, ordered_at, on_itself_at, SaysInOrder, in_order, looped}
+use Rattle.aig_reader.specs.Order.{Ordered, ArePlaced, number, renumbered}
 use Rattle.aig_reader.specs.Laws.{ListedValues}
 use Rattle.aig_reader.specs.Listing.{Line, Listing, line_at, listing_at, IsListed, constant, input, gate, complement}
-use Rattle.aig_reader.proofs.Circuits.{bind_ok, guard_ok, ok_is, literal_below, zeros_up_to, many_are_so}
+use Rattle.aig_reader.proofs.Circuits.{bind_ok, guard_ok, ok_is, literal_below, zeros_up_to, many_are_so, no_fault}
+use Rattle.aig_reader.proofs.Placing.{placed_sound}
+use Rattle.aig_reader.proofs.Ordering.{lower_numbers, ordered_value}
 
 -- ---- what a line puts into the table
 
@@ -232,27 +236,19 @@ output_reads table bytes y e =
     subst (λ z. (x : ℕ) × (output_at (length table - 1) bytes ≡ Ok (x, z.1)) × IsSaid table x z.0)
     (ok_is (a.0.0, b.0) y b.2) (r.0, output_is (length table - 1) bytes r.0 a.0.1 b.0 r.1 b.1, r.2)
 
-operand_reads : (table : List ℕ) (literal : ℕ) (bytes : List ℕ) (y : ℕ × List ℕ) → renamed_operand_at table literal bytes ≡ Ok y
-    → (x : ℕ) × (literal_at (length table - 1) bytes ≡ Ok (x, y.1)) × IsSaid table x y.0
-unfolding renamed_operand_at
-operand_reads table literal bytes y e =
-    let a = bind_ok (renamed_at table bytes) _ y e in let g = guard_ok (leb literal a.0.0) _ (Ok a.0) y a.2 in
-    let r = renamed_reads table bytes a.0 a.1 in
-    subst (λ z. (x : ℕ) × (literal_at (length table - 1) bytes ≡ Ok (x, z.1)) × IsSaid table x z.0) (ok_is a.0 y g.1) r
-
 -- the gate has the operands of the line, renamed
 record IsRenamed (table : List ℕ) (line : Line) (g : Gate) : Type 0 where
   left : IsSaid table line.left g.left
   right : IsSaid table line.right g.right
 
-gate_reads : (table : List ℕ) (literal : ℕ) (bytes : List ℕ) (y : Gate × List ℕ) → renamed_gate_at table literal bytes ≡ Ok y
+gate_reads : (table bytes : List ℕ) (y : Gate × List ℕ) → renamed_gate_at table bytes ≡ Ok y
     → (x : Line) × (line_at (length table - 1) bytes ≡ Ok (x, y.1)) × IsRenamed table x y.0
 unfolding renamed_gate_at
-gate_reads table literal bytes y e =
+gate_reads table bytes y e =
     let a = bind_ok (literal_at (length table - 1) bytes) _ y e in let b = bind_ok (behind 32 a.0.1) _ y a.2 in
-    let d = bind_ok (renamed_operand_at table literal b.0) _ y b.2 in let f = bind_ok (behind 32 d.0.1) _ y d.2 in
-    let g = bind_ok (renamed_operand_at table literal f.0) _ y f.2 in let h = bind_ok (behind 10 g.0.1) _ y g.2 in
-    let l = operand_reads table literal b.0 d.0 d.1 in let r = operand_reads table literal f.0 g.0 g.1 in
+    let d = bind_ok (renamed_at table b.0) _ y b.2 in let f = bind_ok (behind 32 d.0.1) _ y d.2 in
+    let g = bind_ok (renamed_at table f.0) _ y f.2 in let h = bind_ok (behind 10 g.0.1) _ y g.2 in
+    let l = renamed_reads table b.0 d.0 d.1 in let r = renamed_reads table f.0 g.0 g.1 in
     let line : Line = record { own = a.0.0; left = l.0; right = r.0 } in
     let made : Gate × List ℕ = (record { left = d.0.0; right = g.0.0 }, h.0) in
     let so : (x : Line) × (line_at (length table - 1) bytes ≡ Ok (x, h.0)) × IsRenamed table x made.0 = (
@@ -327,15 +323,18 @@ module _ (l : Listing) (c : Circuit) (table : List ℕ) (point : ℕ) (zero_firs
 
 -- ---- each literal that is defined has a value
 
-module _ (l : Listing) (c : Circuit) (table : List ℕ) (point : ℕ) (is : IsCircuit c.inputs c.gates c.outputs c.in_names c.out_names)
+-- where the operands of each gate have a lower rank
+module _ (l : Listing) (c : Circuit) (table : List ℕ) (point : ℕ) (rank : ℕ → ℕ)
+    (lower : (k : ℕ) (g : Gate) → slice_get c.gates k ≡ Some g
+    → (rank (g.left / 2) < rank (c.inputs + 1 + k)) × (rank (g.right / 2) < rank (c.inputs + 1 + k)))
     (gates : (k : ℕ) (line : Line) → slice_get l.gates k ≡ Some line → IsNumber table line.own (c.inputs + 1 + k))
     (same : (k : ℕ) (line : Line) → slice_get l.gates k ≡ Some line → (g : Gate) × (slice_get c.gates k ≡ Some g) × IsRenamed table line g)
     (only : (v : ℕ) → get_or table v 0 ≢ 0 → ((i : ℕ) × (x : ℕ) × (slice_get l.inputs i ≡ Some x) × (x ≡ 2 * v))
     ⊎ ((i : ℕ) × (x : Line) × (slice_get l.gates i ≡ Some x) × (x.own ≡ 2 * v))) where
-  -- where the variables with numbers below n have one, so has a literal
+  -- where the variables with ranks below n have one, so has a literal
   literal_listed : (n literal : ℕ)
-      → ((v : ℕ) → get_or table v 0 < n → (v ≡ 0) ⊎ (get_or table v 0 ≢ 0) → (x : Bool) × IsListed l point (2 * v) x)
-      → get_or table (literal / 2) 0 < n → (2 ≤ literal → get_or table (literal / 2) 0 ≢ 0) → (x : Bool) × IsListed l point literal x
+      → ((v : ℕ) → rank (get_or table v 0) < n → (v ≡ 0) ⊎ (get_or table v 0 ≢ 0) → (x : Bool) × IsListed l point (2 * v) x)
+      → rank (get_or table (literal / 2) 0) < n → (2 ≤ literal → get_or table (literal / 2) 0 ≢ 0) → (x : Bool) × IsListed l point literal x
   literal_listed n literal before lt defined =
       let some : (literal / 2 ≡ 0) ⊎ (get_or table (literal / 2) 0 ≢ 0) =
       elim (cases_lt literal 2) [ inl less ↦ inl (omega arith) | inr more ↦ inr (defined more) ] in
@@ -346,7 +345,7 @@ module _ (l : Listing) (c : Circuit) (table : List ℕ) (point : ℕ) (is : IsCi
             (not value.0, subst (λ m. IsListed l point m (not value.0)) at (complement (literal / 2) value.0 value.1))
       ]
 
-  variable_listed : (n v : ℕ) → get_or table v 0 < n → (v ≡ 0) ⊎ (get_or table v 0 ≢ 0) → (x : Bool) × IsListed l point (2 * v) x
+  variable_listed : (n v : ℕ) → rank (get_or table v 0) < n → (v ≡ 0) ⊎ (get_or table v 0 ≢ 0) → (x : Bool) × IsListed l point (2 * v) x
   variable_listed zero v lt some = absurd (omega arith)
   variable_listed (suc n) v lt some = elim some [
     | inl none ↦ let at : 0 ≡ 2 * v = omega (arith, none) in (false, subst (λ m. IsListed l point m false) at constant)
@@ -358,10 +357,13 @@ module _ (l : Listing) (c : Circuit) (table : List ℕ) (point : ℕ) (is : IsCi
           let g = same q.0 q.1 q.2 in let own = gates q.0 q.1 q.2 in
           let half : q.1.own / 2 ≡ v = omega (arith, q.3) in
           let here : get_or table v 0 ≡ c.inputs + 1 + q.0 = ap (λ i. get_or table i 0) (sym half) ∙ own.there in
+          let low = lower q.0 g.0 g.1 in
+          let first : g.0.left / 2 ≡ get_or table (q.1.left / 2) 0 = omega (arith, g.2.left.is) in
+          let second : g.0.right / 2 ≡ get_or table (q.1.right / 2) 0 = omega (arith, g.2.right.is) in
           let left = literal_listed n q.1.left (variable_listed n)
-          (omega (arith, is.left q.0 g.0 g.1, g.2.left.is, here, lt)) g.2.left.defined in
+          (omega (arith, low.0, ap rank first, ap rank here, lt)) g.2.left.defined in
           let right = literal_listed n q.1.right (variable_listed n)
-          (omega (arith, is.right q.0 g.0 g.1, g.2.right.is, here, lt)) g.2.right.defined in
+          (omega (arith, low.1, ap rank second, ap rank here, lt)) g.2.right.defined in
           let x : Bool = left.0 && right.0 in
           (x, subst (λ m. IsListed l point m x) q.3 (gate q.0 q.1 left.0 right.0 q.2 left.1 right.1))
     ]
@@ -406,24 +408,22 @@ record ByTable (sizes : Sizes) (table bytes : List ℕ) (c : Circuit) : Type 0 w
   later : List ℕ
   gates : AllMatch (line_at sizes.variables) (IsRenamed table) 0 sizes.gates middle c.gates later
 
-by_table : (sizes : Sizes) (table bytes : List ℕ) (c : Circuit) → length table ≡ sizes.variables + 1 → by_table_at sizes table bytes ≡ Ok c
-    → ByTable sizes table bytes c
-unfolding by_table_at
-by_table sizes table bytes c len e =
+-- the circuit of the lines, whose gates stand as they are listed
+abbrev listed : Sizes → (outputs : List ℕ) → List Gate → Circuit
+listed sizes outputs gates = record { inputs = sizes.inputs; gates = gates; outputs = outputs; in_names = []; out_names = [] }
+
+by_table : (sizes : Sizes) (table bytes : List ℕ) (outputs : List ℕ × List ℕ) (gates : List Gate × List ℕ)
+    → length table ≡ sizes.variables + 1 → many (λ k. renamed_output_at table) 0 sizes.outputs bytes ≡ Ok outputs
+    → many (λ k. renamed_gate_at table) 0 sizes.gates outputs.1 ≡ Ok gates → ByTable sizes table bytes (listed sizes outputs.0 gates.0)
+by_table sizes table bytes outputs gates len e f =
     let less : length table - 1 ≡ sizes.variables = omega arith in
-    let a = bind_ok (many (λ k. renamed_output_at table) 0 sizes.outputs bytes) _ c e in
-    let b = bind_ok (many (λ k. renamed_gate_at table (2 * (sizes.inputs + 1 + k))) 0 sizes.gates a.0.1) _ c a.2 in
-    let d = bind_ok (symbols_at (length b.0.1) (no_names sizes) b.0.1) _ c b.2 in
     let outs = all_match (λ k. renamed_output_at table) (output_at sizes.variables) (IsSaid table)
     (λ k cs y is. subst (λ n. (x : ℕ) × (output_at n cs ≡ Ok (x, y.1)) × IsSaid table x y.0) less (output_reads table cs y is))
-    sizes.outputs 0 bytes a.0 a.1 in
-    let gates = all_match (λ k. renamed_gate_at table (2 * (sizes.inputs + 1 + k))) (line_at sizes.variables) (IsRenamed table)
-    (λ k cs y is. subst (λ n. (x : Line) × (line_at n cs ≡ Ok (x, y.1)) × IsRenamed table x y.0) less
-    (gate_reads table (2 * (sizes.inputs + 1 + k)) cs y is)) sizes.gates 0 a.0.1 b.0 b.1 in
-    let made : Circuit = record
-    { inputs = sizes.inputs; gates = b.0.0; outputs = a.0.0; in_names = d.0.inputs; out_names = d.0.outputs } in
-    subst (ByTable sizes table bytes) (ok_is made c d.2)
-    (record { inputs = refl; middle = a.0.1; outs = outs; later = b.0.1; gates = gates })
+    sizes.outputs 0 bytes outputs e in
+    let lines = all_match (λ k. renamed_gate_at table) (line_at sizes.variables) (IsRenamed table)
+    (λ k cs y is. subst (λ n. (x : Line) × (line_at n cs ≡ Ok (x, y.1)) × IsRenamed table x y.0) less (gate_reads table cs y is))
+    sizes.gates 0 outputs.1 gates f in
+    record { inputs = refl; middle = outputs.1; outs = outs; later = gates.1; gates = lines }
 
 listing_is : (bytes : List ℕ) (sizes : Sizes) (a b d f : List ℕ) (l : Listing) → sizes_at bytes ≡ Ok (sizes, a)
     → many (λ k. output_at sizes.variables) 0 sizes.inputs a ≡ Ok (l.inputs, b)
@@ -493,26 +493,75 @@ module _ (bytes : List ℕ) (sizes : Sizes) (start lines : List ℕ) (table : Li
     | inr one ↦ inr (one.0, one.1, subst (λ ls. slice_get ls one.0 ≡ Some one.1) same_lines one.2, one.3)
   ]
 
-  some_listed : (is : IsCircuit c.inputs c.gates c.outputs c.in_names c.out_names) (point j literal : ℕ)
-      → slice_get said.outs.values j ≡ Some literal → (x : Bool) × IsListed listing point literal x
-  some_listed is point j literal at =
-      let out = said.outs.each j literal at in
-      let variable = variable_listed listing c table point is numbered_gates (λ k line there. said.gates.each k line there) only_these in
-      literal_listed listing c table point is numbered_gates (λ k line there. said.gates.each k line there) only_these
-      (suc (get_or table (literal / 2) 0)) literal (variable (suc (get_or table (literal / 2) 0))) (omega arith) out.2.defined
+  some_listed : (rank : ℕ → ℕ) → ((k : ℕ) (g : Gate) → slice_get c.gates k ≡ Some g
+      → (rank (g.left / 2) < rank (c.inputs + 1 + k)) × (rank (g.right / 2) < rank (c.inputs + 1 + k)))
+      → (point j literal : ℕ) → slice_get said.outs.values j ≡ Some literal → (x : Bool) × IsListed listing point literal x
+  some_listed rank lower point j literal at =
+      let out = said.outs.each j literal at in let n : ℕ = suc (rank (get_or table (literal / 2) 0)) in
+      let variable = variable_listed listing c table point rank lower numbered_gates (λ k line there. said.gates.each k line there)
+      only_these in
+      literal_listed listing c table point rank lower numbered_gates (λ k line there. said.gates.each k line there) only_these
+      n literal (variable n) (omega arith) out.2.defined
+
+-- ---- a file that was read
+
+-- a part behind which a circuit was read
+then_ok : {A : Type 0} (r : Result A Fault) (IsRead : A → Result Circuit Fault → Type 0) (c : Circuit) → Then r IsRead (Ok c)
+    → (x : A) × (r ≡ Ok x) × IsRead x (Ok c)
+then_ok (Ok x) IsRead c t = (x, refl, t)
+then_ok (Err d) IsRead c t = absurd cc
+
+no_loop : (table : List ℕ) (k : ℕ) (bytes : List ℕ) (c : Circuit) → on_itself_at table k bytes ≡ Ok c → ⊥
+unfolding on_itself_at
+no_loop table k bytes c e = let a = bind_ok (many (λ j. renamed_gate_at table) 0 k bytes) _ c e in no_fault _ c a.2
+
+-- the circuit of gates that were placed
+record IsOrdered (sizes : Sizes) (outputs : List ℕ) (gates : List Gate) (c : Circuit) : Type 0 where
+  p : Ordered
+  placed : ArePlaced sizes.inputs gates (length gates) p
+  inputs : c.inputs ≡ sizes.inputs
+  same : c.gates ≡ p.gates
+  outs : c.outputs ≡ map (renumbered sizes.inputs p) outputs
+
+ordered_is : (sizes : Sizes) (outputs : List ℕ) (gates : List Gate) (p : Ordered) (rest : List ℕ) (c : Circuit)
+    → ArePlaced sizes.inputs gates (length gates) p → ordered_at sizes outputs p rest ≡ Ok c → IsOrdered sizes outputs gates c
+unfolding ordered_at
+ordered_is sizes outputs gates p rest c placed e =
+    let a = bind_ok (symbols_at (length rest) (no_names sizes) rest) _ c e in
+    let made : Circuit = record {
+      inputs = sizes.inputs;
+      gates = p.gates;
+      outputs = map (renumbered sizes.inputs p) outputs;
+      in_names = a.0.inputs;
+      out_names = a.0.outputs;
+    } in subst (IsOrdered sizes outputs gates) (ok_is made c a.2)
+    (record { p = p; placed = placed; inputs = refl; same = refl; outs = refl })
+
+in_order_is : (sizes : Sizes) (table outputs start : List ℕ) (gates : List Gate) (rest : List ℕ) (c : Circuit)
+    → SaysInOrder sizes table outputs start gates rest (Ok c) → IsOrdered sizes outputs gates c
+in_order_is sizes table outputs start gates rest c (in_order p placed e) = ordered_is sizes outputs gates p rest c placed (sym e)
+in_order_is sizes table outputs start gates rest c (looped k first e) = absurd (no_loop table k start c (sym e))
 
 pub values_as_listed : ListedValues
-unfolding ascii_at
-values_as_listed bytes c is e =
-    let a = bind_ok (sizes_at bytes) _ c e in
-    let b = bind_ok (table_at a.0.0 (replicate (a.0.0.variables + 1) 0) a.0.1) _ c a.2 in
-    let len = length-replicate (a.0.0.variables + 1) 0 in
-    let fill = filled a.0.0 (replicate (a.0.0.variables + 1) 0) a.0.1 b.0 len b.1 in
-    let said = by_table a.0.0 b.0.0 b.0.1 c (fill.gates.grows.size ∙ fill.ins.grows.size ∙ len) b.2 in (
-      listing bytes a.0.0 a.0.1 b.0.1 b.0.0 c a.1 fill said,
-      is_listing bytes a.0.0 a.0.1 b.0.1 b.0.0 c a.1 fill said,
-      λ point j literal at. (
-        some_listed bytes a.0.0 a.0.1 b.0.1 b.0.0 c a.1 fill said is point j literal at,
-        listed_values bytes a.0.0 a.0.1 b.0.1 b.0.0 c a.1 fill said point j literal at,
+values_as_listed bytes c e =
+    let a = then_ok (sizes_at bytes) _ c e in let sizes : Sizes = a.0.0 in let blank : List ℕ = replicate (sizes.variables + 1) 0 in
+    let b = then_ok (table_at sizes blank a.0.1) _ c a.2 in
+    let d = then_ok (many (λ k. renamed_output_at b.0.0) 0 sizes.outputs b.0.1) _ c b.2 in
+    let f = then_ok (many (λ k. renamed_gate_at b.0.0) 0 sizes.gates d.0.1) _ c d.2 in
+    let o = in_order_is sizes b.0.0 d.0.0 d.0.1 f.0.0 f.0.1 c f.2 in
+    let len = length-replicate (sizes.variables + 1) 0 in let fill = filled sizes blank a.0.1 b.0 len b.1 in
+    let said = by_table sizes b.0.0 b.0.1 d.0 f.0 (fill.gates.grows.size ∙ fill.ins.grows.size ∙ len) d.1 f.1 in
+    let l : Circuit = listed sizes d.0.0 f.0.0 in let placed = placed_sound sizes.inputs f.0.0 o.placed in
+    let lower = lower_numbers l c o.p 0 o.inputs o.same placed.0 placed.1 in
+    let own : ℕ → ℕ = λ n. renumbered sizes.inputs o.p n in (
+      listing bytes sizes a.0.1 b.0.1 b.0.0 l a.1 fill said,
+      is_listing bytes sizes a.0.1 b.0.1 b.0.0 l a.1 fill said,
+      λ point j literal at. let out = listed_values bytes sizes a.0.1 b.0.1 b.0.0 l a.1 fill said point j literal at in (
+        some_listed bytes sizes a.0.1 b.0.1 b.0.0 l a.1 fill said (λ v. number sizes.inputs o.p v) lower point j literal at,
+        (
+          own out.0,
+          ap (λ xs. slice_get xs j) o.outs ∙ slice_get-map own d.0.0 j ∙ ap (option_map own) out.1,
+          λ x value. ordered_value l c o.p point o.inputs o.same placed.0 placed.1 (out.2 x value),
+        ),
       ),
     )

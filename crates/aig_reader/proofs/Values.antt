@@ -7,6 +7,8 @@ use Rattle.std.proofs.lemmas.Option.{slice_get-get_or}
 use Rattle.lattice.specs.Family.{divides}
 use Rattle.aig_reader.specs.declared.circuit.Gate.{Gate}
 use Rattle.aig_reader.specs.Circuit.{Circuit, HasValue, constant, input, gate, complement, IsCircuit}
+-- A file has one reading at most.
+pub use Rattle.aig_reader.proofs.Readings.{one_reading}
 
 abbrev just : Gate → Option Gate
 just g = Some g

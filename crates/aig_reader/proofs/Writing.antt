@@ -1,6 +1,6 @@
 -- What is written is read again.
 use Rattle.std.proofs.Common.{◌≡◌, ℕ, zero, suc, ◌-◌, ◌+◌, ◌*◌, ◌/◌, ◌%◌, ◌≤◌, ◌<◌, true, false, not, leb, eqb}
-use Rattle.std.proofs.Common.{List, [], ◌∷◌, ◌++◌, ◌==◌, length, get_or, set, replicate, inl, inr, Some, Result, Ok}
+use Rattle.std.proofs.Common.{List, [], ◌∷◌, ◌++◌, ◌==◌, length, get_or, set, replicate, take, drop, codes, inl, inr, Some, Result, Ok}
 use Rattle.std.proofs.Common.{refl, sym, ap, ◌∙◌, subst, arith, append_assoc, length-append, eq-eqb}
 use Rattle.std.specs.Prelude.{slice_get, decimal}
 use Rattle.std.specs.List.{list_all}
@@ -25,7 +25,8 @@ use Rattle.aig_reader.specs.declared.circuit.TheConstants.{MAX_GATES, MAX_OUTPUT
 use Rattle.lattice.specs.declared.limits.TheConstants.{MAX_VARS}
 use Rattle.aig_reader.specs.Reading.{AreFew, size_at, header_end_at, sizes_at, Names, no_names}
 use Rattle.aig_reader.specs.Reading.{line_length, name_at, symbol_at, are_over, symbols_at}
-use Rattle.aig_reader.specs.Reading.{binary_at, circuit_at, reading_of}
+use Rattle.aig_reader.specs.Reading.{binary_at, binary, IsReading}
+use Rattle.std.specs.Str.{bytes_eq}
 use Rattle.aig_reader.specs.Written.{size_text, output_text, difference_text, gate_text, symbol_text, texts, written}
 use Rattle.aig_reader.specs.Laws.{are_lines}
 
@@ -320,6 +321,13 @@ module _ (c : Circuit) (comment : List ℕ) (is : IsCircuit c.inputs c.gates c.o
       rw (sizes_again sizes (texts (λ k. output_text) 0 c.outputs ++ (gates ++ symbols)) few, all, outputs_again, gates_again, symbols_read)
       refl
 
-  pub written_is_read : reading_of (written c comment) ≡ Ok c
-  unfolding circuit_at written
-  written_is_read = rw (append-nil comment, binary_again) refl
+  drop_again : binary_at (drop 3 (written c comment)) ≡ Ok c
+  unfolding written
+  drop_again = rw (append-nil comment, binary_again) refl
+
+  begins : bytes_eq (take 3 (written c comment)) (codes "aig") ≡ true
+  unfolding written
+  begins = refl
+
+  pub written_is_read : IsReading (written c comment) (Ok c)
+  written_is_read = record { read = Ok c; says = binary begins (sym drop_again); is = refl }

@@ -2,7 +2,7 @@
 -- and of the variables that no line defines.
 use Rattle.std.specs.Prelude.{ℕ, ◌+◌, ◌*◌, ◌/◌, ◌%◌, ◌-◌, not, ◌&&◌, ◌||◌, ◌==◌, ◌≤◌, nat_lt, nat_le, List, length, Result, Ok}
 use Rattle.std.specs.Prelude.{slice_index, slice_set, if◌then◌else◌}
-use Rattle.aig_reader.specs.declared.refusal.Why.TheVariants.{NoVariable, DefinedTwice, NotDefined, NotBefore}
+use Rattle.aig_reader.specs.declared.refusal.Why.TheVariants.{NoVariable, DefinedTwice, NotDefined}
 use Rattle.aig_reader.specs.declared.refusal.Fault.{Fault}
 use Rattle.aig_reader.specs.declared.circuit.Gate.{Gate}
 use Rattle.aig_reader.specs.Fields.{◌>>=◌, stop, behind, literal_at}
@@ -58,18 +58,13 @@ renamed_output_at table bytes = do
   rest ← behind 10 literal.1
   Ok (literal.0, rest)
 
--- an operand of the gate of this literal
-unfoldable pub renamed_operand_at : (table : List ℕ) → (literal : ℕ) → List ℕ → Result (ℕ × List ℕ) Fault
-renamed_operand_at table literal bytes = do
-  operand ← renamed_at table bytes
-  if nat_le literal operand.0 then stop bytes NotBefore else Ok operand
-
-unfoldable pub renamed_gate_at : (table : List ℕ) → (literal : ℕ) → List ℕ → Result (Gate × List ℕ) Fault
-renamed_gate_at table literal bytes = do
+-- the gate of a line, in the variables of the circuit
+unfoldable pub renamed_gate_at : (table : List ℕ) → List ℕ → Result (Gate × List ℕ) Fault
+renamed_gate_at table bytes = do
   own ← literal_at (length table - 1) bytes
   front ← behind 32 own.1
-  left ← renamed_operand_at table literal front
+  left ← renamed_at table front
   middle ← behind 32 left.1
-  right ← renamed_operand_at table literal middle
+  right ← renamed_at table middle
   rest ← behind 10 right.1
   Ok (record { left = left.0; right = right.0 }, rest)

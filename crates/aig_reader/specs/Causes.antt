@@ -3,7 +3,7 @@ use Rattle.std.specs.Prelude.{ℕ, List, codes}
 use Rattle.aig_reader.specs.declared.refusal.Why.{Why}
 use Rattle.aig_reader.specs.declared.refusal.Why.TheVariants.{NoFormat, Truncated, BadByte, BadNumber, LongNumber, VariableCount}
 use Rattle.aig_reader.specs.declared.refusal.Why.TheVariants.{TooManyInputs, TooManyOutputs, TooManyGates, Latch, Property, LiteralRange}
-use Rattle.aig_reader.specs.declared.refusal.Why.TheVariants.{GateOrder, NoVariable, DefinedTwice, NotDefined, NotBefore, BadSymbol, SymbolRange, Twice}
+use Rattle.aig_reader.specs.declared.refusal.Why.TheVariants.{GateOrder, NoVariable, DefinedTwice, NotDefined, OnItself, BadSymbol, SymbolRange, Twice}
 
 abbrev pub why_name : Why → List ℕ
 why_name NoFormat = codes "NoFormat"
@@ -22,7 +22,7 @@ why_name GateOrder = codes "GateOrder"
 why_name NoVariable = codes "NoVariable"
 why_name DefinedTwice = codes "DefinedTwice"
 why_name NotDefined = codes "NotDefined"
-why_name NotBefore = codes "NotBefore"
+why_name OnItself = codes "OnItself"
 why_name BadSymbol = codes "BadSymbol"
 why_name SymbolRange = codes "SymbolRange"
 why_name Twice = codes "Twice"

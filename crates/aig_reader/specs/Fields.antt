@@ -32,6 +32,20 @@ abbrev pub Gives : {A B : Type 0} → (A → B) → Result A Stop → Result B F
 Gives view (Ok x) read = read ≡ Ok (view x)
 Gives view (Err e) read = Fails e read
 
+-- the same where a relation says what is read
+abbrev pub FailsAs : {B : Type 0} → Stop → (Result B Fault → Type 0) → Type 0
+FailsAs (Bad fault) IsRead = IsRead (Err fault)
+FailsAs Memory IsRead = Unit {0}
+
+abbrev pub GivesAs : {A B : Type 0} → (A → B) → Result A Stop → (Result B Fault → Type 0) → Type 0
+GivesAs view (Ok x) IsRead = IsRead (Ok (view x))
+GivesAs view (Err e) IsRead = FailsAs e IsRead
+
+-- what is read behind a part that was read; else the fault of this part
+abbrev pub Then : {A B : Type 0} → Result A Fault → (A → Result B Fault → Type 0) → Result B Fault → Type 0
+Then (Ok x) IsRead read = IsRead x read
+Then (Err fault) IsRead read = read ≡ Err fault
+
 -- ---- fields
 
 -- a byte that must stand there

@@ -1,6 +1,7 @@
 pub mod Circuit
 pub mod Fields
 pub mod Ascii
+pub mod Order
 pub mod Reading
 pub mod Listing
 pub mod Causes

@@ -1,14 +1,14 @@
 -- What a file says, or why it is refused.
-use Rattle.std.specs.Prelude.{◌≡◌, ℕ, zero, suc, ◌+◌, ◌-◌, ◌*◌, ◌≤◌, Bool, true, not, ◌&&◌, ◌==◌, nat_lt, nat_le, List, [], ◌∷◌, length}
-use Rattle.std.specs.Prelude.{take, drop, replicate, codes, Result, Ok, Err, slice_set, if◌then◌else◌}
-use Rattle.std.specs.List.{list_any, position_or_len, slice_index_or}
+use Rattle.std.specs.Prelude.{◌≡◌, ℕ, zero, suc, ◌+◌, ◌-◌, ◌*◌, ◌<◌, ◌≤◌, Bool, true, not, ◌&&◌, ◌==◌, nat_lt, nat_le, List, [], ◌∷◌, length}
+use Rattle.std.specs.Prelude.{false, map, take, drop, replicate, codes, Result, Ok, Err, slice_set, if◌then◌else◌}
+use Rattle.std.specs.List.{All, list_any, position_or_len, slice_index_or}
 use Rattle.std.specs.Str.{bytes_eq}
 use Rattle.std.specs.Char.{is_ascii_digit}
 use Rattle.lattice.specs.declared.limits.TheConstants.{MAX_VARS}
 use Rattle.aig_reader.specs.declared.circuit.TheConstants.{MAX_GATES, MAX_OUTPUTS, MAX_VARIABLES}
 use Rattle.aig_reader.specs.declared.refusal.Why.{Why}
 use Rattle.aig_reader.specs.declared.refusal.Why.TheVariants.{NoFormat, VariableCount, TooManyInputs, TooManyOutputs, TooManyGates}
-use Rattle.aig_reader.specs.declared.refusal.Why.TheVariants.{Latch, Property, BadSymbol, SymbolRange, Twice}
+use Rattle.aig_reader.specs.declared.refusal.Why.TheVariants.{Latch, Property, OnItself, BadSymbol, SymbolRange, Twice}
 use Rattle.aig_reader.specs.declared.refusal.Fault.{Fault}
 use Rattle.aig_reader.specs.declared.refusal.Refusal.{Refusal}
 use Rattle.aig_reader.specs.declared.refusal.ReadRefusal.{ReadRefusal}
@@ -17,8 +17,10 @@ use Rattle.aig_reader.specs.declared.header.Sizes.{Sizes}
 use Rattle.aig_reader.specs.declared.circuit.Aig.{Aig}
 use Rattle.aig_reader.specs.declared.symbols.Table.{Table}
 use Rattle.aig_reader.specs.Circuit.{Circuit}
-use Rattle.aig_reader.specs.Fields.{◌>>=◌, stop, behind, number_at, output_at, gate_at, many, through}
+use Rattle.aig_reader.specs.Fields.{◌>>=◌, stop, Then, behind, number_at, output_at, gate_at, many, through}
+use Rattle.aig_reader.specs.declared.circuit.Gate.{Gate}
 use Rattle.aig_reader.specs.Ascii.{input_line_at, gate_line_at, renamed_output_at, renamed_gate_at}
+use Rattle.aig_reader.specs.Order.{Ordered, ArePlaced, IsFirstOnItself, IsSound, renumbered}
 
 -- ---- the header
 
@@ -125,34 +127,70 @@ table_at sizes table bytes = do
   gates ← through (gate_line_at sizes.inputs) 0 sizes.gates inputs.0 outputs.1
   Ok (gates.0, inputs.1)
 
+-- gates that are placed, and outputs of their lines, that make a circuit
+pub record AreSound (sizes : Sizes) (outputs : List ℕ) (p : Ordered) : Type 0 where
+  pub lines : List Gate
+  pub sound : IsSound sizes.inputs lines p
+  pub few : length p.gates ≤ MAX_GATES
+  pub count : length outputs ≡ sizes.outputs
+  pub literals : All (λ literal. literal < 2 * (sizes.inputs + 1 + length lines)) outputs
+
+-- the circuit of gates that are placed, with the outputs of the lines, and the symbols
+unfoldable pub ordered_at : Sizes → (outputs : List ℕ) → Ordered → List ℕ → Result Circuit Fault
+ordered_at sizes outputs p bytes = do
+  names ← symbols_at (length bytes) (no_names sizes) bytes
+  Ok (record {
+    inputs = sizes.inputs;
+    gates = p.gates;
+    outputs = map (renumbered sizes.inputs p) outputs;
+    in_names = names.inputs;
+    out_names = names.outputs;
+  })
+
+-- the fault of line k of the gates, counted from 0, which is found by going through the lines before it again
+unfoldable pub on_itself_at : (table : List ℕ) → (k : ℕ) → List ℕ → Result Circuit Fault
+on_itself_at table k bytes = do
+  before ← many (λ j. renamed_gate_at table) 0 k bytes
+  stop before.1 OnItself
+
+-- what the gates of the lines from start on say, where the others follow: a circuit in the order in which they are placed, or the
+-- fault of the first one that stands on one that stands on itself
+pub data SaysInOrder (sizes : Sizes) (table outputs start : List ℕ) (gates : List Gate) (rest : List ℕ) (read : Result Circuit Fault)
+    : Type 0 where
+  in_order : (p : Ordered) → ArePlaced sizes.inputs gates (length gates) p → read ≡ ordered_at sizes outputs p rest
+      → SaysInOrder sizes table outputs start gates rest read
+  looped : (k : ℕ) → IsFirstOnItself sizes.inputs gates k → read ≡ on_itself_at table k start
+      → SaysInOrder sizes table outputs start gates rest read
+
 -- then the lines from there on are read by it
-unfoldable pub by_table_at : Sizes → (table : List ℕ) → List ℕ → Result Circuit Fault
-by_table_at sizes table bytes = do
-  outputs ← many (λ k. renamed_output_at table) 0 sizes.outputs bytes
-  gates ← many (λ k. renamed_gate_at table (2 * (sizes.inputs + 1 + k))) 0 sizes.gates outputs.1
-  names ← symbols_at (length gates.1) (no_names sizes) gates.1
-  Ok (record { inputs = sizes.inputs; gates = gates.0; outputs = outputs.0; in_names = names.inputs; out_names = names.outputs })
+abbrev pub SaysByTable : Sizes → (table : List ℕ) → List ℕ → Result Circuit Fault → Type 0
+SaysByTable sizes table bytes =
+    Then (many (λ k. renamed_output_at table) 0 sizes.outputs bytes) (λ outputs.
+    Then (many (λ k. renamed_gate_at table) 0 sizes.gates outputs.1) (λ gates.
+    SaysInOrder sizes table outputs.0 outputs.1 gates.0 gates.1))
 
-unfoldable pub ascii_at : List ℕ → Result Circuit Fault
-ascii_at bytes = do
-  header ← sizes_at bytes
-  table ← table_at header.0 (replicate (header.0.variables + 1) 0) header.1
-  by_table_at header.0 table.0 table.1
+abbrev pub SaysAscii : List ℕ → Result Circuit Fault → Type 0
+SaysAscii bytes =
+    Then (sizes_at bytes) (λ header.
+    Then (table_at header.0 (replicate (header.0.variables + 1) 0) header.1) (λ table. SaysByTable header.0 table.0 table.1))
 
-unfoldable pub circuit_at : List ℕ → Result Circuit Fault
-circuit_at bytes =
-    if bytes_eq (take 3 bytes) (codes "aig") then binary_at (drop 3 bytes)
-    else if bytes_eq (take 3 bytes) (codes "aag") then ascii_at (drop 3 bytes)
-    else stop bytes NoFormat
+-- what all bytes say, by the word that they begin with
+pub data Says (bytes : List ℕ) (read : Result Circuit Fault) : Type 0 where
+  binary : bytes_eq (take 3 bytes) (codes "aig") ≡ true → read ≡ binary_at (drop 3 bytes) → Says bytes read
+  ascii : bytes_eq (take 3 bytes) (codes "aig") ≡ false → bytes_eq (take 3 bytes) (codes "aag") ≡ true → SaysAscii (drop 3 bytes) read → Says bytes read
+  neither : bytes_eq (take 3 bytes) (codes "aig") ≡ false → bytes_eq (take 3 bytes) (codes "aag") ≡ false → read ≡ stop bytes NoFormat
+      → Says bytes read
 
 -- with the number of bytes before a fault
-abbrev pub placed : {A : Type 0} → (bytes : List ℕ) → Result A Fault → Result A Refusal
-placed bytes (Ok x) = Ok x
-placed bytes (Err fault) = Err (record { byte = length bytes - fault.left; why = fault.why })
+abbrev pub placed_in : {A : Type 0} → (bytes : List ℕ) → Result A Fault → Result A Refusal
+placed_in bytes (Ok x) = Ok x
+placed_in bytes (Err fault) = Err (record { byte = length bytes - fault.left; why = fault.why })
 
 -- the circuit that a file says, or why it is refused
-abbrev pub reading_of : List ℕ → Result Circuit Refusal
-reading_of bytes = placed bytes (circuit_at bytes)
+pub record IsReading (bytes : List ℕ) (reading : Result Circuit Refusal) : Type 0 where
+  pub read : Result Circuit Fault
+  pub says : Says bytes read
+  pub is : reading ≡ placed_in bytes read
 
 -- ---- what is answered
 
@@ -161,10 +199,10 @@ circuit aig = record
     { inputs = aig.inputs; gates = aig.gates; outputs = aig.outputs; in_names = aig.in_names; out_names = aig.out_names }
 
 -- an answer gives what was read, unless memory ran out
-abbrev pub GivesReading : Result Aig ReadRefusal → Result Circuit Refusal → Type 0
-GivesReading (Ok aig) reading = reading ≡ Ok (circuit aig)
-GivesReading (Err (Bad refusal)) reading = reading ≡ Err refusal
-GivesReading (Err Memory) reading = Unit {0}
+abbrev pub GivesReading : Result Aig ReadRefusal → (Result Circuit Refusal → Type 0) → Type 0
+GivesReading (Ok aig) IsRead = IsRead (Ok (circuit aig))
+GivesReading (Err (Bad refusal)) IsRead = IsRead (Err refusal)
+GivesReading (Err Memory) IsRead = Unit {0}
 
 -- the names of a table
 abbrev pub names : Table → Names

@@ -5,7 +5,7 @@ ghost use Rattle.aig_reader.specs.declared.refusal.Stop.TheVariants.{Memory};
 ghost use Rattle.lattice.specs.declared.limits.TheConstants.{MAX_VARS};
 ghost use Rattle.aig_reader.specs.Fields.{Gives, many, output_at, through};
 ghost use Rattle.aig_reader.specs.Ascii.{variable_at, input_line_at, gate_line_at, renamed_at};
-ghost use Rattle.aig_reader.specs.Ascii.{renamed_output_at, renamed_operand_at, renamed_gate_at};
+ghost use Rattle.aig_reader.specs.Ascii.{renamed_output_at, renamed_gate_at};
 ghost use Rattle.aig_reader.specs.Ascii.{IsUpTo, renamed};
 
 use crate::circuit::{Gate, MAX_GATES, MAX_VARIABLES};
@@ -162,63 +162,37 @@ pub fn renamed_outputs_at<'a>(
     Ok((literals, rest))
 }
 
-/// The operand at the front of the gate of this literal, renamed by the table, and what follows it.
-#[tactic(auto, unfolding(crate::specs::Ascii::renamed_operand_at))]
-fn renamed_operand_at<'a>(
-    table: &[u32],
-    literal: u32,
-    bytes: &'a [u8],
-) -> Result<(u32, &'a [u8]), Stop>
-    requires some { 1 ≤ length table.now }
-    requires few { length table.now ≤ MAX_VARIABLES + 1 }
-    requires small { IsUpTo (MAX_VARS + MAX_GATES) table.now }
-    ensures { Gives (λ x. (x.0, x.1.now)) result (renamed_operand_at table.now literal bytes.now) }
-{
-    let (operand, rest) = renamed_at(table, bytes)?;
-    if operand >= literal {
-        return Err(fault_at(bytes, Why::NotBefore));
-    }
-    Ok((operand, rest))
-}
-
-/// The gate of this literal on the line, renamed by the table, and what follows the line.
+/// The gate on the line, renamed by the table, and what follows the line.
 #[tactic(auto, unfolding(crate::specs::Ascii::renamed_gate_at))]
-fn renamed_gate_at<'a>(
-    table: &[u32],
-    literal: u32,
-    bytes: &'a [u8],
-) -> Result<(Gate, &'a [u8]), Stop>
+fn renamed_gate_at<'a>(table: &[u32], bytes: &'a [u8]) -> Result<(Gate, &'a [u8]), Stop>
     requires some { 1 ≤ length table.now }
     requires few { length table.now ≤ MAX_VARIABLES + 1 }
     requires small { IsUpTo (MAX_VARS + MAX_GATES) table.now }
-    ensures { Gives (λ x. (x.0, x.1.now)) result (renamed_gate_at table.now literal bytes.now) }
+    ensures { Gives (λ x. (x.0, x.1.now)) result (renamed_gate_at table.now bytes.now) }
 {
     let (_, rest) = literal_at(table.len() as u32 - 1, bytes)?;
-    let (left, rest) = renamed_operand_at(table, literal, behind(b' ', rest)?)?;
-    let (right, rest) = renamed_operand_at(table, literal, behind(b' ', rest)?)?;
+    let (left, rest) = renamed_at(table, behind(b' ', rest)?)?;
+    let (right, rest) = renamed_at(table, behind(b' ', rest)?)?;
     Ok((Gate { left, right }, behind(b'\n', rest)?))
 }
 
-/// So many gates behind these inputs, renamed by the table, and what follows their lines.
+/// So many gates, renamed by the table, and what follows their lines.
 pub fn renamed_gates_at<'a>(
     alloc: Global,
     table: &[u32],
-    inputs: u32,
     count: u32,
     bytes: &'a [u8],
 ) -> Result<(Vec<Gate>, &'a [u8]), Stop>
-    requires inputs { inputs ≤ MAX_VARS }
-    requires count { count ≤ MAX_GATES }
     requires some { 1 ≤ length table.now }
     requires few { length table.now ≤ MAX_VARIABLES + 1 }
     requires small { IsUpTo (MAX_VARS + MAX_GATES) table.now }
     ensures { Gives (λ x. (x.0.items, x.1.now)) result
-        (many (λ k. renamed_gate_at table.now (2 * (inputs + 1 + k))) 0 count bytes.now) }
+        (many (λ k. renamed_gate_at table.now) 0 count bytes.now) }
 {
     let mut gates = Vec::new(alloc);
     let mut rest = bytes;
-    for k in 0..count {
-        let (gate, after) = renamed_gate_at(table, 2 * (inputs + 1 + k), rest)?;
+    for _ in 0..count {
+        let (gate, after) = renamed_gate_at(table, rest)?;
         gates.push(gate)?;
         rest = after;
     }

@@ -1,16 +1,22 @@
 //! Reading a circuit from bytes.
-ghost use Rattle.std.specs.Prelude.{◌≡◌, ◌+◌, length};
-ghost use Rattle.aig_reader.specs.Fields.{Gives};
-ghost use Rattle.aig_reader.specs.Reading.{circuit, AreFew, binary_at, table_at, by_table_at};
-ghost use Rattle.aig_reader.specs.Reading.{ascii_at, circuit_at, reading_of};
+ghost use Rattle.std.specs.Prelude.{◌≡◌, ◌+◌, ◌/◌, ◌<◌, ◌≤◌, length, map, MatchResult};
+ghost use Rattle.std.specs.List.{All};
+ghost use Rattle.lattice.specs.declared.limits.TheConstants.{MAX_VARS};
+ghost use Rattle.aig_reader.specs.declared.circuit.TheConstants.{MAX_GATES, MAX_VARIABLES};
+ghost use Rattle.aig_reader.specs.declared.refusal.Stop.TheVariants.{Memory};
+ghost use Rattle.aig_reader.specs.Fields.{Gives, GivesAs};
 ghost use Rattle.aig_reader.specs.Ascii.{IsUpTo};
-ghost use Rattle.aig_reader.specs.Reading.{GivesReading};
+ghost use Rattle.aig_reader.specs.Order.{ordered, renumbered};
+ghost use Rattle.aig_reader.specs.Reading.{circuit, AreFew, binary_at, table_at, AreSound};
+ghost use Rattle.aig_reader.specs.Reading.{ordered_at, on_itself_at, SaysByTable, SaysAscii, Says};
+ghost use Rattle.aig_reader.specs.Reading.{GivesReading, IsReading};
 
 use crate::ascii::{gate_lines_at, input_lines_at, renamed_gates_at, renamed_outputs_at, zeros};
 use crate::circuit::{Aig, Gates, Literals};
 use crate::fields::fault_at;
 use crate::header::{Sizes, sizes_at};
 use crate::lines::{gates_at, outputs_at};
+use crate::order::{Order, Placing, place_all};
 use crate::refusal::{ReadRefusal, Refusal, Stop, Why};
 use crate::symbols::Table;
 use lattice::Names;
@@ -60,31 +66,82 @@ fn fill_table<'a>(
     Ok(lines)
 }
 
-/// The circuit that the lines from those of the outputs on say by the table.
-#[tactic(auto, unfolding(crate::specs::Reading::by_table_at))]
-fn by_table_at(alloc: Global, sizes: Sizes, table: &[u32], bytes: &[u8]) -> Result<Aig, Stop>
-    requires few { AreFew sizes }
-    requires len { length table.now ≡ sizes.variables + 1 }
-    requires up_to { IsUpTo (sizes.inputs + sizes.gates) table.now }
-    ensures { Gives circuit result (by_table_at sizes table.now bytes.now) }
+/// The literals of lines, in the variables of this order.
+fn renumbered_all(
+    alloc: Global,
+    inputs: u32,
+    order: &Order,
+    literals: &[u32],
+) -> Result<Vec<u32>, Stop>
+    requires inputs { inputs ≤ MAX_VARS }
+    requires small { IsUpTo (MAX_VARS + MAX_GATES) order.now.numbers.items }
+    requires within { All (λ literal. literal / 2 < length order.now.numbers.items) literals.now }
+    ensures { MatchResult result
+        (λ outputs. outputs.items ≡ map (renumbered inputs (ordered order.now)) literals.now)
+        (λ e. e ≡ Memory) }
 {
-    let (outputs, rest) = renamed_outputs_at(alloc, table, sizes.outputs, bytes)?;
-    let (gates, rest) = renamed_gates_at(alloc, table, sizes.inputs, sizes.gates, rest)?;
+    let mut outputs = Vec::new(alloc);
+    for literal in literals {
+        outputs.push(order.renumbered(inputs, *literal))?;
+    }
+    Ok(outputs)
+}
+
+/// The circuit of gates that are placed, with the outputs of the lines, and the symbols.
+#[tactic(auto, unfolding(crate::specs::Reading::ordered_at))]
+fn ordered_at(
+    alloc: Global,
+    sizes: Sizes,
+    outputs: &[u32],
+    order: Order,
+    bytes: &[u8],
+) -> Result<Aig, Stop>
+    requires few { AreFew sizes }
+    requires sound { AreSound sizes outputs.now (ordered order) }
+    ensures { Gives circuit result (ordered_at sizes outputs.now (ordered order) bytes.now) }
+{
+    let outputs = renumbered_all(alloc, sizes.inputs, &order, outputs)?;
     let mut names = Table::new(alloc, sizes)?;
-    names.add_symbols(alloc, rest)?;
+    names.add_symbols(alloc, bytes)?;
     Ok(Aig {
         inputs: sizes.inputs,
-        gates: Gates::from_vec(gates),
+        gates: Gates::from_vec(order.gates),
         outputs: Literals::from_vec(outputs),
         in_names: Names::from_vec(names.inputs),
         out_names: Names::from_vec(names.outputs),
     })
 }
 
+/// The fault of line k of the gates, counted from 0, where the first of them is at the front.
+#[tactic(auto, unfolding(crate::specs::Reading::on_itself_at))]
+fn on_itself_at(alloc: Global, table: &[u32], k: u32, bytes: &[u8]) -> Result<Aig, Stop>
+    requires some { 1 ≤ length table.now }
+    requires few { length table.now ≤ MAX_VARIABLES + 1 }
+    requires small { IsUpTo (MAX_VARS + MAX_GATES) table.now }
+    ensures { Gives circuit result (on_itself_at table.now k bytes.now) }
+{
+    let (_, line) = renamed_gates_at(alloc, table, k, bytes)?;
+    Err(fault_at(line, Why::OnItself))
+}
+
+/// The circuit that the lines from those of the outputs on say by the table.
+fn by_table_at(alloc: Global, sizes: Sizes, table: &[u32], bytes: &[u8]) -> Result<Aig, Stop>
+    requires few { AreFew sizes }
+    requires len { length table.now ≡ sizes.variables + 1 }
+    requires up_to { IsUpTo (sizes.inputs + sizes.gates) table.now }
+    ensures { GivesAs circuit result (SaysByTable sizes table.now bytes.now) }
+{
+    let (outputs, lines) = renamed_outputs_at(alloc, table, sizes.outputs, bytes)?;
+    let (gates, rest) = renamed_gates_at(alloc, table, sizes.gates, lines)?;
+    match place_all(alloc, sizes.inputs, &gates)? {
+        Placing::Placed(order) => ordered_at(alloc, sizes, &outputs, order, rest),
+        Placing::OnItself(k) => on_itself_at(alloc, table, k, lines),
+    }
+}
+
 /// The circuit that a file in the ASCII form says, of which these bytes are the part behind `aag`.
-#[tactic(auto, unfolding(crate::specs::Reading::ascii_at))]
 fn ascii_at(alloc: Global, bytes: &[u8]) -> Result<Aig, Stop>
-    ensures { Gives circuit result (ascii_at bytes.now) }
+    ensures { GivesAs circuit result (SaysAscii bytes.now) }
 {
     let (sizes, rest) = sizes_at(bytes)?;
     let mut table = zeros(alloc, sizes.variables + 1)?;
@@ -93,9 +150,8 @@ fn ascii_at(alloc: Global, bytes: &[u8]) -> Result<Aig, Stop>
 }
 
 /// The circuit that the bytes say.
-#[tactic(auto, unfolding(crate::specs::Reading::circuit_at))]
 fn circuit_at(alloc: Global, bytes: &[u8]) -> Result<Aig, Stop>
-    ensures { Gives circuit result (circuit_at bytes.now) }
+    ensures { GivesAs circuit result (Says bytes.now) }
 {
     match bytes {
         [b'a', b'i', b'g', rest @ ..] => binary_at(alloc, rest),
@@ -108,9 +164,10 @@ fn circuit_at(alloc: Global, bytes: &[u8]) -> Result<Aig, Stop>
 ///
 /// `Bad` has the first fault from the left, and how many bytes stand before it. In the ASCII form
 /// the lines are gone through twice, and that a literal's variable is defined is seen the second
-/// time.
+/// time. Then, before the symbols are read, the gates are placed in the order of their lines, and
+/// before each one those that it stands on: the first that cannot be placed is refused.
 pub fn read(alloc: Global, bytes: &[u8]) -> Result<Aig, ReadRefusal>
-    ensures { GivesReading result (reading_of bytes.now) }
+    ensures { GivesReading result (IsReading bytes.now) }
 {
     match circuit_at(alloc, bytes) {
         Ok(aig) => Ok(aig),

@@ -42,8 +42,9 @@ pub enum Why {
     DefinedTwice,
     /// No line defines the variable of the literal.
     NotDefined,
-    /// In the ASCII form a gate stands on itself, or on one that a later line defines.
-    NotBefore,
+    /// In the ASCII form a gate stands, through others or not, on itself, or on one that stands on
+    /// itself.
+    OnItself,
     /// A line behind the gates is neither a symbol nor begins a comment, or its name is empty.
     BadSymbol,
     /// A symbol's position is that of no input or output.
@@ -74,7 +75,7 @@ impl Why {
             Why::NoVariable => "NoVariable",
             Why::DefinedTwice => "DefinedTwice",
             Why::NotDefined => "NotDefined",
-            Why::NotBefore => "NotBefore",
+            Why::OnItself => "OnItself",
             Why::BadSymbol => "BadSymbol",
             Why::SymbolRange => "SymbolRange",
             Why::Twice => "Twice",

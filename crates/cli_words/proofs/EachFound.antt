@@ -1,6 +1,6 @@
 -- What a parse that succeeds has of an argument that takes one value.
-use Rattle.std.proofs.Common.{◌≡◌, ◌⊎◌, ◌∙◌, ◌<◌, ◌≤◌, ap, arith, Bool, List, ℕ, [], ◌∷◌, length, Option, Some, None, is_some, refl, subst}
-use Rattle.std.proofs.Common.{sym, unwrap_or, true, true≢false, inl, inr, zero, suc, codes, map, false, bytes_eq, Bor}
+use Rattle.std.proofs.Common.{◌≡◌, ◌⊎◌, ◌∙◌, ◌<◌, ◌≤◌, ap, ap₂, arith, Bool, List, ℕ, [], ◌∷◌, length, Option, Some, None, is_some}
+use Rattle.std.proofs.Common.{refl, subst, sym, unwrap_or, true, true≢false, inl, inr, zero, suc, codes, map, false, bytes_eq, Bor}
 use Rattle.std.specs.List.{All, slice_index_or, Any, list_all, list_any}
 use Rattle.std.specs.Prelude.{find, option_map}
 use Rattle.std.proofs.lemmas.Slice.Eq.{bytes_eq-Decides}
@@ -26,9 +26,8 @@ use Rattle.clap.specs.declared.parser.matches.ArgMatches.{ArgMatches}
 use Rattle.clap.proofs.FaultLemmas.{free_args}
 use Rattle.clap.proofs.SimpleLemmas.{all_simple, ready_simple, simple_groups}
 use Rattle.clap.proofs.WalkLemmas.{list_any-map}
-use Rattle.lattice.specs.declared.Mode.{Mode}
-use Rattle.lattice.specs.declared.limits.TheConstants.{MIN_BITS, MAX_BITS}
-use Rattle.cli_words.specs.CommandLine.{HasEach, HasNumber, IsModeNames, NameList, interp_command_at, mode_name, mode_rule, modes, options}
+use Rattle.cli_words.specs.Arguments.{AreNames, HasModeOf, HasNumber, NameList, mode_rule}
+use Rattle.cli_words.proofs.NamesMoved.{IsDeclared}
 use Rattle.clap.specs.declared.builder.value_parser.ValueParser.TheVariants as parser
 
 -- the getters give a text of this id, which passed the parser
@@ -96,7 +95,7 @@ value_found c f a q only takes no_groups passes has = go (matched_of f a.id.now)
         let got = entry_by_id (EntryPasses c) f.entries.items a.id.now x passes is in
         entry_has c f a q got.0 only takes no_groups (is ∙ ap Some (sym got.1)) ((bytes_eq-Decides got.0.0.now a.id.now).0 got.2) got.3
 
--- ==== A parse of the declared command that succeeds has a value of each argument
+-- ==== A parse of a declared command that succeeds has a value of MODE, and of each option with a default
 
 -- ---- entries and texts
 
@@ -110,20 +109,21 @@ differs : (s t : Text) → bytes_eq s t ≡ false → s ≡ t → ⊥
 differs s t other same = true≢false (sym ((bytes_eq-Decides s t).1 same) ∙ other)
 
 -- a text that is one of the names is the name of some mode
-mode_among : (P : Text → Type 0) (text : Text) (ms : List Mode) → P text
-    → list_any (λ (name : Text). bytes_eq name text) (map mode_name ms) ≡ true → Any (λ mode. P (mode_name mode)) ms
-mode_among P text [] holds among = absurd cc
-mode_among P text (x ∷ xs) holds among =
-    elim (or_cases (bytes_eq (mode_name x) text) (list_any (λ (name : Text). bytes_eq name text) (map mode_name xs)) among) [
-      | inl is ↦ (0, x, omega arith, refl, subst P (sym ((bytes_eq-Decides (mode_name x) text).0 is)) holds)
+mode_among : {M : Type 0} (name_of : M → Text) (P : Text → Type 0) (text : Text) (ms : List M) → P text
+    → list_any (λ (name : Text). bytes_eq name text) (map name_of ms) ≡ true → Any (λ mode. P (name_of mode)) ms
+mode_among name_of P text [] holds among = absurd cc
+mode_among name_of P text (x ∷ xs) holds among =
+    elim (or_cases (bytes_eq (name_of x) text) (list_any (λ (name : Text). bytes_eq name text) (map name_of xs)) among) [
+      | inl is ↦ (0, x, omega arith, refl, subst P (sym ((bytes_eq-Decides (name_of x) text).0 is)) holds)
       | inr later ↦
-          let any = mode_among P text xs holds later in let lt = any.2 in (suc any.0, any.1, omega arith, any.3, any.4)
+          let any = mode_among name_of P text xs holds later in let lt = any.2 in (suc any.0, any.1, omega arith, any.3, any.4)
     ]
 
--- ---- the six arguments
+first_of_some : (xs : List Arg) → 0 < length xs → Arg
+first_of_some [] some = absurd (omega arith)
+first_of_some (x ∷ xs) some = x
 
-rules_at : NameList → List Rule
-rules_at list = mode_rule list ∷ options
+-- ---- the arguments
 
 -- an argument, told by its rule
 module _ (a : Arg) (r : Rule) (is : rule_of a ≡ r) (simple : IsSimpleArg a) (q : ValueParser) where
@@ -133,119 +133,112 @@ module _ (a : Arg) (r : Rule) (is : rule_of a ≡ r) (simple : IsSimpleArg a) (q
   by_rule : (f : Found) → r.ignore_case ≡ false → HasValue f a.id.now a.ignore_case q → HasValue f r.id false q
   by_rule f case has = grind arith
 
-abbrev ids : List Text
-ids = codes "mode" ∷ codes "workers" ∷ codes "nodes" ∷ codes "terms" ∷ codes "seed" ∷ codes "order" ∷ []
+abbrev pub ids_of : List Rule → List Text
+ids_of rules = map (λ (r : Rule). r.id) rules
 
--- the k-th id is the only one that is this id
-abbrev IsOnlyAt : ℕ → Text → ℕ → Type 0
-IsOnlyAt k id j = bytes_eq (slice_index_or ids j []) id ≡ true → j ≡ k
+-- What the k-th rule of a command says of an argument that takes one value by this parser, and that no other rule has its id. At rules
+-- that are written out each of these computes.
+pub record IsRuleOfOne (rules : List Rule) (k : ℕ) (r : Rule) (q : ValueParser) : Type 0 where
+  pub low : k < length rules
+  pub place : slice_index_or rules k r ≡ r
+  pub set : r.action ≡ Some Set
+  pub one : r.range ≡ None
+  pub parser_is : r.parser ≡ Some q
+  pub case : r.ignore_case ≡ false
+  pub named : bytes_eq r.id [] ≡ false
+  pub no_help : bytes_eq r.id (codes "help") ≡ false
+  pub no_version : bytes_eq r.id (codes "version") ≡ false
+  pub only : (j : ℕ) → j < length rules → bytes_eq (slice_index_or (ids_of rules) j []) r.id ≡ true → j ≡ k
 
--- what the rule of one of them says
-record IsRuleOfOne (k : ℕ) (r : Rule) (q : ValueParser) : Type 0 where
-  low : k < 6
-  set : r.action ≡ Some Set
-  one : r.range ≡ None
-  parser_is : r.parser ≡ Some q
-  case : r.ignore_case ≡ false
-  named : bytes_eq r.id [] ≡ false
-  no_help : bytes_eq r.id (codes "help") ≡ false
-  no_version : bytes_eq r.id (codes "version") ≡ false
-  only : (j : ℕ) → j < 6 → IsOnlyAt k r.id j
+module _ (app_at : NameList → App) (options : List Rule) (list : NameList) (declared : IsDeclared app_at options list)
+    (c : Command) (m : ArgMatches) (is : app_of c ≡ app_at list) (p : IsParsedFrom c m) where
+  abbrev rules : List Rule
+  rules = mode_rule list ∷ options
 
-module _ (list : NameList) (c : Command) (m : ArgMatches) (is : app_of c ≡ interp_command_at list) (p : IsParsedFrom c m) where
-  shape : shape_of c ≡ (interp_command_at list).top
+  shape : shape_of c ≡ (app_at list).top
   shape = ap (λ (a : App). a.top) is
 
   simple : IsSimple c
-  simple = ready_simple c (ap is_ready shape) (ap (λ (a : App). list_all is_ready_leaf a.subs) is)
+  simple = ready_simple c (ap is_ready shape ∙ declared.ready) (ap (λ (a : App). list_all is_ready_leaf a.subs) is ∙ declared.leaves)
 
   plain : IsPlain c
   plain =
-      let groups = simple_groups c (ap (λ (s : Shape). all_simple s.rules) shape) in
-      let free = free_args c simple (ap has_free_rules shape) in grind (arith, free, groups, simple.groups)
+      let groups = simple_groups c (ap (λ (s : Shape). all_simple s.rules) shape ∙ declared.rules_simple) in
+      let free = free_args c simple (ap has_free_rules shape ∙ declared.free) in grind (arith, free, groups, simple.groups)
 
   parsed : IsParsed p.built (found_of m) (has_subcommand m)
   parsed = p.parsed (p.from.globals ∙ simple.globals)
 
-  rules_are : map rule_of (args_of c) ≡ rules_at list
-  unfolding rules_at
-  rules_are = ap (λ (s : Shape). s.rules) shape
+  rules_are : map rule_of (args_of c) ≡ rules
+  rules_are = ap (λ (s : Shape). s.rules) shape ∙ declared.rules
 
-  six : length (args_of c) ≡ 6
-  unfolding rules_at
-  six = sym (length-map (args_of c) rule_of) ∙ ap (λ (rs : List Rule). length rs) rules_are
+  same_length : length (args_of c) ≡ length rules
+  same_length = sym (length-map (args_of c) rule_of) ∙ ap (λ (rs : List Rule). length rs) rules_are
 
-  rule_is : (k : ℕ) (d : Arg) (e : Rule) → k < 6 → rule_of (slice_index_or (args_of c) k d) ≡ slice_index_or (rules_at list) k e
+  rule_is : (k : ℕ) (d : Arg) (e : Rule) → k < length rules → rule_of (slice_index_or (args_of c) k d) ≡ slice_index_or rules k e
   rule_is k d e lt =
-      let low : k < length (args_of c) = omega (arith, six) in
+      let low : k < length (args_of c) = omega (arith, same_length) in
       sym (get_or-map rule_of (args_of c) k d e low) ∙ ap (λ (rs : List Rule). slice_index_or rs k e) rules_are
 
-  id_is : (k : ℕ) (d : Arg) → k < 6 → (slice_index_or (args_of c) k d).id.now ≡ slice_index_or ids k []
-  unfolding rules_at
-  id_is k d lt = grind (arith, rule_is k d (mode_rule list) lt)
+  id_is : (k : ℕ) (d : Arg) (e : Rule) → k < length rules
+      → (slice_index_or (args_of c) k d).id.now ≡ slice_index_or (ids_of rules) k []
+  id_is k d e lt = ap (λ (r : Rule). r.id) (rule_is k d e lt) ∙ sym (get_or-map (λ (r : Rule). r.id) rules k e [] lt)
 
-  module _ (k : ℕ) (d : Arg) (r : Rule) (q : ValueParser) (one : IsRuleOfOne k r q) (at : slice_index_or (rules_at list) k r ≡ r) where
+  some_arg : Arg
+  some_arg = let same = same_length in first_of_some (args_of c) (omega arith)
+
+  module _ (k : ℕ) (r : Rule) (q : ValueParser) (one : IsRuleOfOne rules k r q) where
     abbrev arg : Arg
-    arg = slice_index_or (args_of c) k d
+    arg = slice_index_or (args_of c) k some_arg
 
     low : k < length (args_of c)
-    low = let count = six in let lt = one.low in omega arith
+    low = let same = same_length in let lt = one.low in omega arith
 
     has_rule : rule_of arg ≡ r
-    has_rule = rule_is k d r one.low ∙ at
+    has_rule = rule_is k some_arg r one.low ∙ one.place
 
     unique : (j : ℕ) (e : Arg) → j < length (args_of c) → bytes_eq (slice_index_or (args_of c) j e).id.now arg.id.now ≡ true → j ≡ k
-    unique j e lt same = grind (arith, one.only j, id_is j e, has_rule, six)
+    unique j e lt same =
+        let within : j < length rules = omega (arith, same_length) in
+        one.only j within (sym (ap₂ bytes_eq (id_is j e r within) (ap (λ (x : Rule). x.id) has_rule)) ∙ same)
 
     not_auto : IsAuto arg → ⊥
     not_auto auto = grind (arith, differs, one.no_help, one.no_version, has_rule)
 
     is_only : IsOnly p.built arg
-    is_only = same_rules_by_id c m p k d low unique not_auto
+    is_only = same_rules_by_id c m p k some_arg low unique not_auto
 
     value_at : is_some (matched_of (found_of m) arg.id.now) ≡ true → HasValue (found_of m) r.id false q
     value_at has =
-        let takes = takes_one arg r has_rule (simple.args k d low) q one.set one.one one.parser_is one.named in
+        let takes = takes_one arg r has_rule (simple.args k some_arg low) q one.set one.one one.parser_is one.named in
         let value = value_found p.built (found_of m) arg q is_only takes (p.from.plain plain).1 parsed.values has in
-        by_rule arg r has_rule (simple.args k d low) q (found_of m) one.case value
+        by_rule arg r has_rule (simple.args k some_arg low) q (found_of m) one.case value
 
     default_at : 0 < length r.defaults → HasValue (found_of m) r.id false q
     default_at some =
         let given = length-map (items_of arg.default_vals) (λ (s : Bor Text). s.now) in
-        let has = default_present c m p simple.globals k d low ((simple.args k d low).default_ifs, grind (arith, given, has_rule)) in
+        let ifs = (simple.args k some_arg low).default_ifs in
+        let has = default_present c m p simple.globals k some_arg low (ifs, grind (arith, given, has_rule)) in
         value_at (some_entry (found_of m).entries.items arg.id.now has.0 has.1 has.2)
 
     required_at : r.required ≡ true → HasValue (found_of m) r.id false q
     required_at needed =
-        let negates = ap (λ (s : Shape). s.subcommand_negates_reqs) shape in
+        let negates = ap (λ (s : Shape). s.subcommand_negates_reqs) shape ∙ declared.negates in
+        let required = ap (λ (x : Rule). x.required) has_rule ∙ needed in
         value_at (present_has_entry (found_of m) arg.id.now
-        (required_present c m p plain simple.globals negates k d low (ap (λ (x : Rule). x.required) has_rule ∙ needed)))
+        (required_present c m p plain simple.globals negates k some_arg low required))
 
-  number_at : (k : ℕ) (r : Rule) (lo hi : ℕ) → IsRuleOfOne k r (parser.Unsigned lo hi) → slice_index_or (rules_at list) k r ≡ r
-      → 0 < length r.defaults → Arg → HasNumber (found_of m) r.id lo hi
-  number_at k r lo hi one at some d =
-      let value = default_at k d r (parser.Unsigned lo hi) one at some in (value.text, value.one, value.accepted)
+  -- a parse that succeeds has a number of each option with a range and a default
+  pub number_found : (k : ℕ) (r : Rule) (low high : ℕ) → IsRuleOfOne rules k r (parser.Unsigned low high) → 0 < length r.defaults
+      → HasNumber (found_of m) r.id low high
+  number_found k r low high one some =
+      let value = default_at k r (parser.Unsigned low high) one some in (value.text, value.one, value.accepted)
 
-  abbrev rule_at : ℕ → Rule
-  rule_at k = slice_index_or (rules_at list) k (mode_rule list)
-
-  each_from : IsModeNames list → Arg → HasEach (found_of m)
-  unfolding rules_at
-  each_from names d =
-      let mode = required_at 0 d (mode_rule list) (parser.Names list) (grind arith) refl refl in
-      record {
-        mode = mode_among (λ (name : Text). first_value (found_of m) (codes "mode") ≡ Some name) mode.text modes mode.first
-            (ap (list_any (λ (name : Text). bytes_eq name mode.text)) (sym names)
-            ∙ (sym (list_any-map (λ (name : Text). bytes_eq name mode.text) (λ (name : Bor Text). name.now) list.now) ∙ mode.accepted));
-        workers = number_at 1 (rule_at 1) 1 16 (grind arith) refl (omega arith) d;
-        nodes = number_at 2 (rule_at 2) MIN_BITS MAX_BITS (grind arith) refl (omega arith) d;
-        terms = number_at 3 (rule_at 3) 1 1000000 (grind arith) refl (omega arith) d;
-        seed = number_at 4 (rule_at 4) 0 18446744073709551615 (grind arith) refl (omega arith) d;
-      }
-
-  pub each_found : IsModeNames list → HasEach (found_of m)
-  each_found names = go (args_of c) six
-    where
-      go : (xs : List Arg) → length xs ≡ 6 → HasEach (found_of m)
-      go [] none = absurd (omega arith)
-      go (d ∷ rest) is = each_from names d
+  -- and the name of one of the modes, where these have the names of the list
+  pub mode_found : {M : Type 0} (name_of : M → Text) (modes : List M) → AreNames (map name_of modes) list
+      → IsRuleOfOne rules 0 (mode_rule list) (parser.Names list) → HasModeOf name_of modes (found_of m)
+  mode_found name_of modes are one =
+      let mode = required_at 0 (mode_rule list) (parser.Names list) one refl in
+      mode_among name_of (λ (name : Text). first_value (found_of m) (codes "mode") ≡ Some name) mode.text modes mode.first
+      (ap (list_any (λ (name : Text). bytes_eq name mode.text)) (sym are)
+      ∙ (sym (list_any-map (λ (name : Text). bytes_eq name mode.text) (λ (name : Bor Text). name.now) list.now) ∙ mode.accepted))

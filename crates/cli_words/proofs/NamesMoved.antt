@@ -1,12 +1,11 @@
 -- What a parse makes of the words stays the same where the parsers of a command's arguments are
 -- changed for others that take the same texts.
 use Rattle.std.proofs.Common.{◌≡◌, ◌∙◌, ◌∷◌, ◌&&◌, not, ap, ap₂, ℕ, zero, suc, Bool, List, [], map, length, fold, Option, Some, None, arith}
-use Rattle.std.proofs.Common.{option_map, refl, sym, ◌==◌, false, pos, negsuc, bytes_eq, chars, Bor}
+use Rattle.std.proofs.Common.{option_map, refl, sym, ◌==◌, false, true, pos, negsuc, bytes_eq, chars, Bor}
 use Rattle.std.specs.Prelude.{if◌then◌else◌, encode_utf8, drop, find, slice_get, is_some}
-use Rattle.std.specs.List.{list_any}
+use Rattle.std.specs.List.{list_all, list_any}
 use Rattle.std.specs.Option.{option_map_or}
 use Rattle.std.proofs.lemmas.List.Folds.{fold_along}
-use Rattle.std.proofs.lemmas.Simd.{map-map}
 use Rattle.clap.specs.Lexer.{long_of, short_of}
 use Rattle.clap.specs.Facts.{explicit_source, parser_of_value, unwrap_or_range}
 use Rattle.clap.specs.Values.{reading_of, refused_kind, same_text}
@@ -15,17 +14,18 @@ use Rattle.clap.specs.Walk.{waits, plain, option, next, trailing, value, arg_by_
 use Rattle.clap.specs.Walk.{most_values, reacted, settled, settled_rows, takes_several, takes_values, used, used_as, used_by_id}
 use Rattle.clap.specs.Walk.{values_or_missing, option_met, flag_met, long_met, short_met, bundle_step, bundle_met, option_word, plain_word}
 use Rattle.clap.specs.Walk.{after_flag, short_or_plain, long_or_other, subcommand_met, subcommand_or_other, word_met, to_positional}
-use Rattle.clap.specs.Walk.{after_step, walked, walked_from, walk, walk_from, with_default, finished, nothing_held}
-use Rattle.clap.specs.Simple.{App, Shape, entered, names_of}
+use Rattle.clap.specs.Walk.{after_step, walked, walked_from, walk, walk_from, with_default, finished, nothing_held, rows_after}
+use Rattle.clap.specs.Simple.{App, Shape, argument_words, entered, is_ready, is_ready_leaf, names_of}
 use Rattle.clap.specs.Takes.{is_given}
 use Rattle.clap.specs.Kinds.{Kinds, check_kinds, or_else, range_kinds, value_kinds}
 use Rattle.clap.specs.Faults.{use_fault, settle_fault, react_fault, option_fault, long_fault, short_fault, bundle_step_fault, flags_fault}
 use Rattle.clap.specs.Faults.{bundle_fault, flag_word_fault, other_fault, positional_fault, step_fault, stray_fault, turn_fault, walk_fault}
-use Rattle.clap.specs.Faults.{defaults_fault, check_fault, level_fault, entered_fault, built_fault}
+use Rattle.clap.specs.Faults.{defaults_fault, check_fault, level_fault, entered_fault, built_fault, has_free_rules}
 use Rattle.clap.specs.declared.builder.value_parser.ValueParser.{ValueParser}
+use Rattle.clap.proofs.SimpleLemmas.{all_simple}
 use Rattle.clap.proofs.WalkLemmas.{find-map, list_any-map}
-use Rattle.clap.specs.Words.{built, fault_of, matches_of}
-use Rattle.cli_words.specs.CommandLine.{IsModeNames, NameList, at_zero, interp_command, interp_command_at, mode_name, modes}
+use Rattle.clap.specs.Words.{built, fault_of, is_simple, is_simple_and_free, matches_of}
+use Rattle.cli_words.specs.Arguments.{AreNames, NameList, at_zero, list_at_zero, mode_rule}
 use Rattle.clap.specs.declared.error.kind.ErrorKind.TheVariants as kind
 use Rattle.clap.specs.declared.builder.value_parser.ValueParser.TheVariants as vp
 
@@ -301,10 +301,10 @@ module _ (g : Option ValueParser → Option ValueParser)
       ∙ ap (λ (s : Option (Text × List Text)). level_fault a.top (names_of a) h words (is_some (entered a s)) (entered_fault a s))
       (ap (λ (w : Walk). w.stopped) (walk_same a.top.rules (names_of a) h words))
 
--- ==== What the declared command makes of words does not depend on where its list of names lies
+-- ==== What a command makes of words does not depend on where its list of names lies
 
 abbrev moved : NameList → NameList
-moved list = at_zero (map (λ name. at_zero name.now) list.now)
+moved list = list_at_zero (map (λ name. name.now) list.now)
 
 abbrev erased : ValueParser → ValueParser
 erased (vp.Names list) = vp.Names (moved list)
@@ -322,21 +322,49 @@ reads p = refl
 faults : (ic : Bool) (p : Option ValueParser) (t : Text)
     → value_kinds ic (parser_of_value (erase p)) t ≡ value_kinds ic (parser_of_value p) t
 faults ic (Some (vp.Names list)) t =
+    let texts = λ (name : Bor Text). name.now in
     ap (λ (b : Bool). if b then [] else refused_kind (vp.Names list) ∷ [])
-    (sym (list_any-map (λ (name : Bor Text). same_text ic name.now t) (λ (name : Bor Text). at_zero name.now) list.now))
+    (sym (list_any-map (λ (name : Text). same_text ic name t) texts list.now
+    ∙ list_any-map (λ (name : Bor Text). same_text ic name.now t) at_zero (map texts list.now)))
 faults ic p t = refl
 
-moved_is : (list : NameList) → IsModeNames list → moved list ≡ at_zero (map at_zero (map mode_name modes))
-moved_is list texts = ap at_zero (sym (map-map at_zero (λ (name : Bor Text). name.now) list.now) ∙ ap (map at_zero) texts)
+abbrev elsewhere : App → App
+elsewhere a = record a { top = record a.top { rules = map (λ (r : Rule). record r { parser = erase r.parser }) a.top.rules } }
 
-pub fault_is : (list : NameList) (words : List Text) → IsModeNames list
-    → fault_of (interp_command_at list) words ≡ fault_of interp_command words
-fault_is list words texts = sym (app_faults_same erase reads faults (built (interp_command_at list)) nothing_held (drop 1 words))
-    ∙ ap (λ (l : NameList). fault_of (interp_command_at l) words) (moved_is list texts)
+-- A command with MODE and these options is simple, and where its list of names lies elsewhere, the parsers alone change. At a command
+-- that is written out each of these computes.
+pub record IsDeclared (app_at : NameList → App) (options : List Rule) (list : NameList) : Type 0 where
+  pub rules : (app_at list).top.rules ≡ mode_rule list ∷ options
+  pub ready : is_ready (app_at list).top ≡ true
+  pub leaves : list_all is_ready_leaf (app_at list).subs ≡ true
+  pub rules_simple : all_simple (app_at list).top.rules ≡ true
+  pub free : has_free_rules (app_at list).top ≡ true
+  pub negates : (app_at list).top.subcommand_negates_reqs ≡ false
+  pub drops_name : (app_at list).top.no_binary_name ≡ false
+  pub simple : is_simple (app_at list) ≡ true
+  pub simple_and_free : is_simple_and_free (app_at list) ≡ true
+  pub moves : elsewhere (built (app_at list)) ≡ built (app_at (moved list))
 
-pub matches_is : (list : NameList) (words : List Text) → IsModeNames list
-    → matches_of (interp_command_at list) words ≡ matches_of interp_command words
-matches_is list words texts = sym
-    (rows_same erase reads faults (built (interp_command_at list)).top.rules (names_of (built (interp_command_at list))) nothing_held
-    (drop 1 words))
-    ∙ ap (λ (l : NameList). matches_of (interp_command_at l) words) (moved_is list texts)
+-- built commands that are one another but for where their names lie
+module _ (a b : App) (same : elsewhere a ≡ b) (words : List Text) where
+  built_faults : built_fault a nothing_held words ≡ built_fault b nothing_held words
+  built_faults = sym (app_faults_same erase reads faults a nothing_held words) ∙ ap (λ (x : App). built_fault x nothing_held words) same
+
+  built_rows : rows_after a.top.rules (names_of a) words ≡ rows_after b.top.rules (names_of b) words
+  built_rows = sym (rows_same erase reads faults a.top.rules (names_of a) nothing_held words)
+      ∙ ap (λ (x : App). rows_after x.top.rules (names_of x) words) same
+
+module _ (app_at : NameList → App) (options : List Rule) (is : (list : NameList) → IsDeclared app_at options list) (names : List Text)
+    (list : NameList) (words : List Text) (texts : AreNames names list) where
+  same_words : argument_words (app_at list) words ≡ argument_words (app_at (moved list)) words
+  same_words = ap (λ (none : Bool). if none then words else drop 1 words) ((is list).drops_name ∙ sym (is (moved list)).drops_name)
+
+  pub fault_is : fault_of (app_at list) words ≡ fault_of (app_at (list_at_zero names)) words
+  fault_is = built_faults (built (app_at list)) (built (app_at (moved list))) (is list).moves (argument_words (app_at list) words)
+      ∙ (ap (λ (ws : List Text). built_fault (built (app_at (moved list))) nothing_held ws) same_words
+      ∙ ap (λ (ns : List Text). fault_of (app_at (list_at_zero ns)) words) texts)
+
+  pub matches_is : matches_of (app_at list) words ≡ matches_of (app_at (list_at_zero names)) words
+  matches_is = built_rows (built (app_at list)) (built (app_at (moved list))) (is list).moves (argument_words (app_at list) words)
+      ∙ (ap (λ (ws : List Text). rows_after (built (app_at (moved list))).top.rules (names_of (built (app_at (moved list)))) ws) same_words
+      ∙ ap (λ (ns : List Text). matches_of (app_at (list_at_zero ns)) words) texts)

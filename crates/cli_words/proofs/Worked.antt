@@ -4,7 +4,8 @@ use Rattle.clap.specs.Words.{Text, fault_of, first_of, matches_of}
 use Rattle.clap.specs.Kinds.{Kinds}
 use Rattle.clap.specs.declared.error.kind.ErrorKind.TheVariants as kind
 use Rattle.clap.proofs.OnLiterals.{clap_on_literals}
-use Rattle.cli_words.specs.CommandLine.{interp_command, number_of}
+use Rattle.cli_words.specs.Arguments.{number_of}
+use Rattle.cli_words.specs.CommandLine.{interp_command}
 
 abbrev HasFaults : List Text → Kinds → Type 0
 HasFaults words kinds = fault_of interp_command words ≡ kinds

@@ -1,11 +1,13 @@
 // What the words ask for.
 ghost use Rattle.std.specs.Prelude.{◌≡◌, ◌≢◌, [], IfOk, IsErrOf, OnOk, Some, codes};
 ghost use Rattle.clap.specs.Words.{fault_of, first_of, found_of, matches_of, rows_of};
-ghost use Rattle.cli_words.specs.CommandLine.{HasEach, HasMode, HasNumber, IsJob, IsWithin};
-ghost use Rattle.cli_words.specs.CommandLine.{interp_command, mode_name, number_of};
+ghost use Rattle.cli_words.specs.Arguments.{HasModeOf};
+ghost use Rattle.cli_words.specs.CommandLine.{HasEach, IsJob, IsWithin, interp_command, mode_name};
+ghost use Rattle.cli_words.specs.CommandLine.{modes};
 ghost use Rattle.cli_words.specs.declared.job.WordsRefusal.TheVariants.{Memory};
 
 use crate::declared::command;
+use crate::found::{number, text};
 use clap::ArgMatches;
 use clap::error::ErrorKind;
 use lattice::{Mode, Text, Words};
@@ -51,7 +53,7 @@ impl From<AllocError> for WordsRefusal {
 // The mode that a parse found.
 #[tactic(auto, using(crate::proofs::Taken::first_is))]
 fn mode_of(matches: &ArgMatches<'_>) -> Mode
-    requires { HasMode (found_of matches.now) }
+    requires { HasModeOf mode_name modes (found_of matches.now) }
     ensures { first_of (codes "mode") (rows_of (found_of matches.now)) ≡ Some (mode_name result) }
 {
     match matches.get_str("mode") {
@@ -61,26 +63,6 @@ fn mode_of(matches: &ArgMatches<'_>) -> Mode
         Some("gen") => Mode::Gen,
         _ => unreachable!(),
     }
-}
-
-// The number that a parse found as the value of an option.
-fn number(matches: &ArgMatches<'_>, id: &str) -> u64
-    requires { (low : _) × (high : _) × HasNumber (found_of matches.now) id.now low high }
-    ensures { number_of id.now (rows_of (found_of matches.now)) ≡ Some result }
-{
-    matches.get_one::<u64>(id).unwrap()
-}
-
-// The text that a parse found as the value of an option.
-#[tactic(auto, using(crate::proofs::Taken::first_is))]
-fn text(alloc: Global, matches: &ArgMatches<'_>, id: &str) -> Result<Option<Text>, AllocError>
-    ensures { IfOk result (λ text. first_of id.now (rows_of (found_of matches.now)) ≡ text) }
-{
-    let Some(value) = matches.get_str(id) else {
-        return Ok(None);
-    };
-    let bytes = Vec::from_slice(alloc, value.as_bytes())?;
-    Ok(Some(Text::from_vec(bytes)))
 }
 
 // The job that a parse found.

@@ -5,7 +5,11 @@
 #[cfg(test)]
 mod of_bool_poly;
 #[cfg(test)]
+mod of_circuit_solve;
+#[cfg(test)]
 mod of_cube_build;
+#[cfg(test)]
+mod of_diagram_measures;
 #[cfg(test)]
 mod of_gate_build;
 #[cfg(test)]

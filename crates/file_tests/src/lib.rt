@@ -3,11 +3,15 @@
 #![tactic(auto)]
 
 #[cfg(test)]
+mod of_aig_inputs;
+#[cfg(test)]
 mod of_aig_reader;
 #[cfg(test)]
 mod of_anf_printer;
 #[cfg(test)]
 mod of_cert_check;
+#[cfg(test)]
+mod of_circuit_words;
 #[cfg(test)]
 mod of_cli_words;
 #[cfg(test)]

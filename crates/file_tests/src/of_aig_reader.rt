@@ -145,7 +145,7 @@ fn refusals(rt: HostRuntime) {
 // The same of the ASCII form.
 #[test]
 fn refusals_in_ascii(rt: HostRuntime) {
-    let cases: [(&[u8], usize, Why); 17] = [
+    let cases: [(&[u8], usize, Why); 15] = [
         (b"aag", 3, Why::Truncated),
         (b"aag 2000001 1 0 1 0\n2\n2\n", 4, Why::VariableCount),
         (b"aag 2 1 1 1 0\n2\n4 2\n2\n", 8, Why::Latch),
@@ -156,9 +156,7 @@ fn refusals_in_ascii(rt: HostRuntime) {
         (b"aag 1 1 0 1 0\n2\n4\n", 16, Why::LiteralRange),
         (b"aag 2 1 0 1 0\n2\n4\n", 16, Why::NotDefined),
         (b"aag 2 1 0 1 1\n2\n4\n2 2 2\n", 18, Why::DefinedTwice),
-        (b"aag 2 1 0 1 1\n2\n4\n4 4 2\n", 20, Why::NotBefore),
         (b"aag 3 1 0 1 1\n2\n4\n4 2 6\n", 22, Why::NotDefined),
-        (b"aag 3 1 0 1 2\n2\n4\n4 6 2\n6 2 2\n", 20, Why::NotBefore),
         (b"aag 2 1 0 1 1\n2\n4\n4 2\n", 21, Why::BadByte),
         (b"aag 2 1 0 1 1\n2\n4\n4 2 2", 23, Why::Truncated),
         (b"aag 2 1 0 1 1\n2\n4\n4 2 6\n", 22, Why::LiteralRange),
@@ -167,6 +165,70 @@ fn refusals_in_ascii(rt: HostRuntime) {
     for (bytes, byte, why) in &cases {
         expect_refused(&rt, rt.alloc(), bytes, *byte, *why);
     }
+}
+
+// Gates that stand on themselves: by either operand, through another one, behind good lines, and
+// one that stands on such a gate. What no line defines comes before that, and a symbol behind it.
+#[test]
+fn gates_on_themselves(rt: HostRuntime) {
+    let cases: [(&[u8], usize, Why); 7] = [
+        (b"aag 2 1 0 1 1\n2\n4\n4 4 2\n", 18, Why::OnItself),
+        (b"aag 2 1 0 1 1\n2\n4\n4 2 5\n", 18, Why::OnItself),
+        (b"aag 3 1 0 1 2\n2\n4\n4 6 2\n6 4 2\n", 18, Why::OnItself),
+        (
+            b"aag 4 1 0 1 3\n2\n4\n4 2 2\n6 8 2\n8 2 6\n",
+            24,
+            Why::OnItself,
+        ),
+        (b"aag 3 1 0 1 2\n2\n4\n4 6 2\n6 6 2\n", 18, Why::OnItself),
+        (b"aag 4 1 0 1 2\n2\n4\n4 4 2\n6 8 2\n", 26, Why::NotDefined),
+        (b"aag 2 1 0 1 1\n2\n4\n4 4 2\ni9 a\n", 18, Why::OnItself),
+    ];
+    for (bytes, byte, why) in &cases {
+        expect_refused(&rt, rt.alloc(), bytes, *byte, *why);
+    }
+}
+
+// The gates and the outputs are these.
+fn expect_gates(
+    rt: &impl Abort,
+    alloc: Global,
+    bytes: &[u8],
+    gates: &[Gate],
+    outputs: &[u32],
+) -> Result<(), Fail> {
+    let aig = circuit_of(alloc, bytes)?;
+    assert_eq!(rt; aig.gates.as_slice(), gates);
+    assert_eq!(rt; aig.outputs.as_slice(), outputs);
+    Ok(())
+}
+
+// Gates that stand on those of later lines: the half adder of the format's description, a chain
+// whose lines stand in the reverse order, and a gate on which two others stand.
+#[test]
+fn gates_in_any_order(rt: HostRuntime) -> Result<(), Fail> {
+    let sums = [
+        Gate { left: 2, right: 4 },
+        Gate { left: 3, right: 5 },
+        Gate { left: 7, right: 9 },
+    ];
+    let adder = b"aag 7 2 0 2 3\n2\n4\n6\n12\n6 13 15\n12 2 4\n14 3 5\n";
+    expect_gates(&rt, rt.alloc(), adder, &sums, &[10, 6])?;
+    let steps = [
+        Gate { left: 2, right: 2 },
+        Gate { left: 4, right: 2 },
+        Gate { left: 6, right: 2 },
+        Gate { left: 8, right: 2 },
+    ];
+    let chain = b"aag 5 1 0 1 4\n2\n4\n4 6 2\n6 8 2\n8 10 2\n10 2 2\n";
+    expect_gates(&rt, rt.alloc(), chain, &steps, &[10])?;
+    let shares = [
+        Gate { left: 2, right: 3 },
+        Gate { left: 5, right: 4 },
+        Gate { left: 6, right: 4 },
+    ];
+    let shared = b"aag 4 1 0 2 3\n2\n4\n9\n4 6 8\n6 9 8\n8 2 3\n";
+    expect_gates(&rt, rt.alloc(), shared, &shares, &[8, 5])
 }
 
 // Circuits without inputs, outputs or gates; constants; names of some of the inputs alone, with any

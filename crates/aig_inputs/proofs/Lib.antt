@@ -1,0 +1,4 @@
+mod Positions
+mod Naming
+mod Points
+pub mod ArrangedCircuits

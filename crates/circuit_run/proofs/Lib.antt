@@ -1,0 +1,5 @@
+mod Seeing
+mod PrintedLines
+mod Solutions
+mod Endings
+mod Inhabited

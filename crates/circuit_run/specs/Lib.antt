@@ -1,0 +1,7 @@
+pub mod Views
+pub mod Texts
+pub mod Due
+pub mod Duty
+pub mod Ends
+pub mod Parts
+pub mod Laws

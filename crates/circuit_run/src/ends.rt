@@ -1,0 +1,53 @@
+//! The ends of runs that are none of each program.
+ghost use Rattle.circuit_run.specs.Ends.{end_way};
+
+use aig_reader::Why;
+use program::{End, Message, fixed_message, refusal_message};
+
+/// How a run ends that ends in none of the ways of each program.
+#[derive(Clone, Copy, Debug, PartialEq, Eq)]
+pub enum CircuitEnd {
+    /// The file is refused for this cause: so many bytes stand before its first fault.
+    File { byte: u32, why: Why },
+    /// The circuit has no inputs.
+    NoInputs,
+    /// The order that the words ask for does not name every input once.
+    Order,
+    /// Not every name that is to be inverted is that of an input, or one is given twice.
+    Invert,
+    /// No output has the name that says which points are cared for.
+    Care,
+}
+
+impl End for CircuitEnd {
+    ghost use Rattle.std.proofs.Common.{inl, inr, lit≤, refl};
+    ghost use Rattle.program.specs.Outcomes.{IsOwnStatus};
+    ghost use Rattle.circuit_run.specs.declared.ends.CircuitEnd.TheVariants as owns;
+
+    ghost way = { end_way };
+
+    ghost own = { λ e. elim e as (λ k. IsOwnStatus (end_way k).status) [
+      | owns.File byte why ↦ inr (inl refl)
+      | owns.NoInputs ↦ inr (inl refl)
+      | owns.Order ↦ inr (inr (lit≤ tt))
+      | owns.Invert ↦ inr (inr (lit≤ tt))
+      | owns.Care ↦ inr (inr (lit≤ tt))
+    ] };
+
+    fn status(&self) -> u8 {
+        match self {
+            CircuitEnd::File { .. } | CircuitEnd::NoInputs => 3,
+            CircuitEnd::Order | CircuitEnd::Invert | CircuitEnd::Care => 12,
+        }
+    }
+
+    fn message(&self) -> Message {
+        match self {
+            CircuitEnd::File { byte, why } => refusal_message("byte", *byte, why.name()),
+            CircuitEnd::NoInputs => fixed_message("there are no inputs"),
+            CircuitEnd::Order => fixed_message("order must name every input once"),
+            CircuitEnd::Invert => fixed_message("invert must name inputs, each once"),
+            CircuitEnd::Care => fixed_message("care must name an output"),
+        }
+    }
+}

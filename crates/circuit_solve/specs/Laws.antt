@@ -1,0 +1,19 @@
+-- Laws of what solves a circuit. The functions of src/laws.rt have them as their contracts.
+use Rattle.std.specs.Prelude.{◌≡◌, ℕ, ◌<◌, Bool, Option, length}
+use Rattle.std.specs.Option.{ForSome}
+use Rattle.aig_reader.specs.Circuit.{Circuit, IsCircuit}
+use Rattle.circuit_solve.specs.Solved.{IsSolved, Solved, solved_by}
+
+-- each gate of the circuit stands on what is before it, and one of its outputs says which points are cared for, if any does
+pub record IsAsked (c : Circuit) (care : Option ℕ) : Type 0 where
+  pub fits : IsCircuit c.inputs c.gates c.outputs c.in_names c.out_names
+  pub within : ForSome care (λ output. output < length c.outputs)
+
+-- something solves a circuit
+abbrev pub SolvedExists : Type 0
+SolvedExists = (c : Circuit) (care : Option ℕ) (with_basis : Bool) → IsAsked c care → IsSolved c care with_basis (solved_by c care with_basis)
+
+-- and one thing alone
+abbrev pub SolvedIsUnique : Type 0
+SolvedIsUnique = (c : Circuit) (care : Option ℕ) (with_basis : Bool) (s t : Solved) → IsAsked c care → IsSolved c care with_basis s
+    → IsSolved c care with_basis t → s ≡ t

@@ -1,0 +1,9 @@
+pub mod Care
+pub mod Reduced
+pub mod Found
+pub mod Answers
+pub mod Phases
+pub mod Solved
+pub mod Sought
+pub mod Measured
+pub mod Laws

@@ -1,0 +1,3 @@
+pub mod Asked
+mod CircuitFound
+mod Worked

@@ -1,0 +1,32 @@
+use Rattle.std.proofs.Common.{◌∙◌, subst, arith, map}
+use Rattle.circuit_words.specs.CommandLine.{IsJob, circuit_command_at, mode_name, modes, options}
+use Rattle.circuit_words.proofs.CircuitFound.{each_found, circuit_declared}
+use Rattle.cli_words.proofs.Commands.{is_refused, is_taken}
+use Rattle.circuit_words.proofs.job.read_circuit_words.Goals as goal
+
+pub job_of-requires : goal.job_of-requires
+job_of-requires c = grind (arith, each_found)
+
+pub returns-in-Ok-clause-taken : goal.returns-in-Ok-clause-taken
+returns-in-Ok-clause-taken c =
+    let app = c.in_ok-command.ensures.app in
+    (is_taken circuit_command_at options circuit_declared (map mode_name modes) app.0 _ c.args.words.now _ app.1 app.2
+    c.all.ensures.words c.in-Ok.matches c.in-Ok.ensures.kinds c.in-Ok.ensures.matches).0
+
+pub returns-in-Ok-clause-job : goal.returns-in-Ok-clause-job
+returns-in-Ok-clause-job c =
+    let app = c.in_ok-command.ensures.app in
+    let taken = is_taken circuit_command_at options circuit_declared (map mode_name modes) app.0 _ c.args.words.now _ app.1 app.2
+    c.all.ensures.words c.in-Ok.matches c.in-Ok.ensures.kinds c.in-Ok.ensures.matches in
+    subst (λ rows. IsJob rows c.in_ok-job_of-in-Ok.field-0) taken.1 c.in_ok-job_of-in-Ok.ensures.job
+
+pub returns : goal.returns
+returns c =
+    let app = c.in_ok-command.ensures.app in
+    record {
+      usage = λ _. is_refused circuit_command_at options circuit_declared (map mode_name modes) app.0 _ c.args.words.now _ app.1 app.2
+          c.all.ensures.words c.in-Err.error c.in-Err.ensures.kinds (λ out. c.in_default.not-OutOfMemory (c.kind.ensures ∙ out));
+      taken = tt;
+      job = tt;
+      within = tt;
+    }

@@ -1,0 +1,2 @@
+mod MeasureLemmas
+mod MetLemmas

@@ -1,0 +1,13 @@
+-- What is measured of a polynomial and of its diagram.
+use Rattle.std.specs.Prelude.{ℕ, max, count_ones, [], ◌∷◌, length}
+use Rattle.lattice.specs.Family.{Family}
+use Rattle.lattice.specs.WorkingLists.{working_set}
+
+-- the greatest number of variables of a term, and 0 where there is none: a monomial has as many variables as its number has ones
+unfoldable pub degree_of : Family → ℕ
+degree_of [] = 0
+degree_of (m ∷ ms) = max (count_ones m) (degree_of ms)
+
+-- the number of distinct nodes of the diagram over n variables: of the subfamilies, among which the two constants are not
+abbrev pub nodes_of : ℕ → Family → ℕ
+nodes_of n f = length (working_set n (f ∷ []))

@@ -1,0 +1,14 @@
+//! Functions that do nothing. Their contracts are the laws of `specs/Laws.antt`, so a check proves
+//! these.
+ghost use Rattle.diagram_measures.specs.Laws.{DegreeIsGreatest, NodesAreSubfamilies};
+
+/// No term has more variables than the degree, and where there are terms, one has as many.
+pub fn degree_is_greatest()
+    ensures { DegreeIsGreatest }
+{}
+
+/// A list that has the subfamilies of a family, each once and no others, has as many as its
+/// diagram has nodes.
+pub fn nodes_are_subfamilies()
+    ensures { NodesAreSubfamilies }
+{}
