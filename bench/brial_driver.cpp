@@ -1,5 +1,8 @@
 // The same answers by BRiAl: reads a file as interp does, and prints the least polynomials and, with the word basis, the
 // reduced bases by ascending lead. It takes no comment behind a row, no names that are not plain, and no file with a fault.
+// With the word gates it reads an AIGER file in the ASCII form, whose gates stand in order and whose inputs and outputs all
+// have names, and prints the polynomials of the outputs, which it finds gate by gate. Three gates that make an exclusive or
+// or a multiplexer are one.
 #include <polybori/groebner/interpolate.h>
 #include <polybori/polybori.h>
 
@@ -58,7 +61,7 @@ static BooleSet cover(const BoolePolyRing &ring, const std::vector<Row> &rows, i
     return set;
 }
 
-static void print(const std::string &left, const BoolePolynomial &polynomial) {
+static void print(const std::string &left, const BoolePolynomial &polynomial, const std::vector<std::string> &names) {
     std::cout << left << " = ";
     if (polynomial.isZero()) std::cout << "0";
     const char *plus = "";
@@ -67,7 +70,7 @@ static void print(const std::string &left, const BoolePolynomial &polynomial) {
         plus = " + ";
         const char *times = "";
         for (int i : *term) {
-            std::cout << times << 'x' << i + 1;
+            std::cout << times << names[i];
             times = "*";
         }
         if (*times == 0) std::cout << '1';
@@ -75,10 +78,104 @@ static void print(const std::string &left, const BoolePolynomial &polynomial) {
     std::cout << '\n';
 }
 
+struct Gate {
+    int left = 0;
+    int right = 0;
+};
+
+struct Circuit {
+    int inputs = 0;
+    std::vector<int> outputs;
+    std::vector<Gate> gates;
+    std::vector<std::string> in_names;
+    std::vector<std::string> out_names;
+};
+
+static Circuit read_gates(std::istream &in) {
+    Circuit circuit;
+    std::string word;
+    int variables, latches, outputs, gates, own;
+    in >> word >> variables >> circuit.inputs >> latches >> outputs >> gates;
+    for (int i = 0; i < circuit.inputs; i++) in >> own;
+    circuit.outputs.resize(outputs);
+    for (int &literal : circuit.outputs) in >> literal;
+    circuit.gates.resize(gates);
+    for (Gate &gate : circuit.gates) in >> own >> gate.left >> gate.right;
+    circuit.in_names.resize(circuit.inputs);
+    circuit.out_names.resize(outputs);
+    while (in >> word && word != "c") {
+        std::string &name = (word[0] == 'i' ? circuit.in_names : circuit.out_names)[std::stoi(word.substr(1))];
+        in >> name;
+    }
+    return circuit;
+}
+
+// The polynomials of variables as far as they were asked for, each gate's by those of its operands.
+struct Built {
+    const Circuit &circuit;
+    std::vector<BoolePolynomial> found;
+    std::vector<bool> known;
+
+    Built(const BoolePolyRing &ring, const Circuit &circuit)
+        : circuit(circuit), found(1 + circuit.inputs + circuit.gates.size(), BoolePolynomial(ring)), known(found.size()) {
+        known[0] = true;
+        for (int i = 0; i < circuit.inputs; i++) {
+            found[i + 1] = BooleVariable(i, ring);
+            known[i + 1] = true;
+        }
+    }
+
+    BoolePolynomial of(int literal) {
+        if (!known[literal / 2]) {
+            found[literal / 2] = of_gate(circuit.gates[literal / 2 - 1 - circuit.inputs]);
+            known[literal / 2] = true;
+        }
+        return literal % 2 ? found[literal / 2] + true : found[literal / 2];
+    }
+
+    const Gate *inner(int literal) const {
+        int place = literal / 2 - 1 - circuit.inputs;
+        return literal % 2 && place >= 0 ? &circuit.gates[place] : nullptr;
+    }
+
+    BoolePolynomial chosen(int select, int one, int zero) {
+        if (one == (zero ^ 1)) return of(select) + of(zero);
+        BoolePolynomial low = of(zero);
+        return low + of(select) * (of(one) + low);
+    }
+
+    BoolePolynomial of_gate(const Gate &gate) {
+        const Gate *u = inner(gate.left), *w = inner(gate.right);
+        if (u && w) {
+            for (bool first : {true, false})
+                for (bool other : {true, false}) {
+                    int select = first ? u->left : u->right, without = other ? w->left : w->right;
+                    if (select == (without ^ 1))
+                        return chosen(select, (first ? u->right : u->left) ^ 1, (other ? w->right : w->left) ^ 1);
+                }
+        }
+        return of(gate.left) * of(gate.right);
+    }
+};
+
+static void print_gates() {
+    Circuit circuit = read_gates(std::cin);
+    BoolePolyRing ring(circuit.inputs);
+    Built built(ring, circuit);
+    for (size_t place = 0; place < circuit.outputs.size(); place++)
+        print(circuit.out_names[place], built.of(circuit.outputs[place]), circuit.in_names);
+}
+
 int main(int count, char **words) {
-    bool basis = count > 1 && std::string(words[1]) == "basis";
     std::ios::sync_with_stdio(false);
+    if (count > 1 && std::string(words[1]) == "gates") {
+        print_gates();
+        return 0;
+    }
+    bool basis = count > 1 && std::string(words[1]) == "basis";
     File file = read(std::cin);
+    std::vector<std::string> names;
+    for (int i = 0; i < file.inputs; i++) names.push_back("x" + std::to_string(i + 1));
     BoolePolyRing ring(file.inputs);
     std::vector<Row> rows;
     for (const std::string &text : file.rows) rows.push_back(row_of(ring, file, text));
@@ -95,11 +192,11 @@ int main(int count, char **words) {
         BooleSet dc = has_dc ? cover(ring, rows, output, "-2") : BooleSet(ring.zero());
         BooleSet zeros = has_off ? cover(ring, rows, output, "0").diff(dc) : all.diff(on.unite(dc));
         BooleSet ones = on.diff(dc);
-        print("f" + std::to_string(output + 1), groebner::interpolate_smallest_lex(zeros, ones));
+        print("f" + std::to_string(output + 1), groebner::interpolate_smallest_lex(zeros, ones), names);
         if (!basis) continue;
         std::vector<BoolePolynomial> elements = groebner::variety_lex_groebner_basis(zeros.unite(ones), variables);
         std::sort(elements.begin(), elements.end(),
                   [](const BoolePolynomial &a, const BoolePolynomial &b) { return a.lead() < b.lead(); });
-        for (const BoolePolynomial &element : elements) print("0", element);
+        for (const BoolePolynomial &element : elements) print("0", element, names);
     }
 }

@@ -1,4 +1,5 @@
-"""How many nodes and terms a run needs, by sets of diagrams and the lists of families that each operation asks for.
+"""How many nodes and terms a run needs, on a description or a circuit, by sets of diagrams and the lists of families
+that each operation asks for.
 
 It is written from the documents, for small files, and shares nothing with the program. A diagram is a number: 0 is
 the empty family, 1 the family whose one member is 0, and each other one names a node of a variable and two diagrams.
@@ -6,6 +7,12 @@ the empty family, 1 the family whose one member is 0, and each other one names a
 
 import collections
 import functools
+
+from tests.harness import Ended
+
+# The least table of a program has 2 to this power of slots, and it prints so many terms at most.
+LEAST_BITS = 4
+MOST_TERMS = 1_000_000
 
 # One output's care points of value 0 and of value 1.
 Care = collections.namedtuple("Care", "zeros ones")
@@ -181,6 +188,24 @@ class Needs:
         self.ask(*same, *other, *both, h, *flips, *rest, *joined, *below, g, found)
         return found
 
+    def product(self, p, q):
+        """The product of two polynomials."""
+        if p < 2 or q < 2:
+            found = (q if p else 0) if p < 2 else (p if q else 0)
+            self.ask(found)
+            return found
+        return self.once(("product", p, q), lambda: self.product_by_halves(p, q))
+
+    def product_by_halves(self, p, q):
+        d = self.diagrams
+        var = min(d.var(p), d.var(q))
+        (p_low, p_high), (q_low, q_high) = d.parts(p, var), d.parts(q, var)
+        sums = [d.sum(p_low, p_high), d.sum(q_low, q_high)]
+        low = self.product(p_low, q_low)
+        found = d.node(var, low, d.sum(low, self.product(*sums)))
+        self.ask(*sums, found)
+        return found
+
     def standard(self, points):
         """The standard monomials of points."""
         if points < 2:
@@ -232,6 +257,24 @@ class Needs:
 Cost = collections.namedtuple("Cost", "first last leads terms")
 
 
+def due(cost, bits, limit, whole, name="interp"):
+    """How a run that needs this much ends, with 2^bits slots and this limit of terms; without limits as `whole`."""
+    full = Ended(5, "", f"{name}: more than {2**bits} nodes are needed\n")
+    long = Ended(6, "", f"{name}: more than {limit} terms\n")
+    if cost.first > 2**bits:
+        return full
+    if cost.leads > limit:
+        return long
+    if cost.last > 2**bits:
+        return full
+    return long if cost.terms > limit else whole
+
+
+def bits_for(nodes):
+    """The least table that has so many slots, by its logarithm."""
+    return max(LEAST_BITS, (nodes - 1).bit_length())
+
+
 def cost_of(inputs, outputs, kind, rows, mode):
     """What a run on a description costs. Each row has the symbols of its inputs and those of its outputs."""
     needs = Needs(inputs)
@@ -252,3 +295,88 @@ def cost_of(inputs, outputs, kind, rows, mode):
     elements = [needs.element(lead, points) for lead, points in found]
     needs.ask(*elements)
     return Cost(first, needs.nodes(), terms + len(found), terms + sum(len(d.members(e)) for e in elements))
+
+
+def steps_of(circuit):
+    """How each gate of a circuit is found that an output or a step behind it needs: by its number, the literals of a
+    product, of a sum, or of a choice."""
+    size = len(circuit.names)
+
+    def inner(literal):
+        place = literal // 2 - 1 - size
+        return circuit.gates[place] if literal % 2 and place >= 0 else None
+
+    def step(gate):
+        u, w = inner(gate.left), inner(gate.right)
+        if u and w:
+            for select, other in (u, u[::-1]):
+                for without, last in (w, w[::-1]):
+                    if select == without ^ 1:
+                        one, zero = other ^ 1, last ^ 1
+                        return ("sum", select, zero) if one == zero ^ 1 else ("choice", select, one, zero)
+        return ("product", *gate)
+
+    needed = {literal // 2 for _, literal in circuit.outputs}
+    found = {}
+    for place in reversed(range(len(circuit.gates))):
+        number = size + 1 + place
+        if number in needed:
+            found[number] = step(circuit.gates[place])
+            needed.update(literal // 2 for literal in found[number][1:])
+    return dict(sorted(found.items()))
+
+
+def output_polynomials(needs, circuit):
+    """The polynomials of the outputs of a circuit."""
+    d = needs.diagrams
+    found = {0: 0, **{number: d.one({number}) for number in range(1, len(circuit.names) + 1)}}
+    needs.ask(*found.values())
+
+    def of(literal):
+        known = found[literal // 2]
+        return d.sum(known, 1) if literal % 2 else known
+
+    for number, (kind, *literals) in steps_of(circuit).items():
+        parts = [of(literal) for literal in literals]
+        needs.ask(*parts)
+        if kind == "product":
+            found[number] = needs.product(*parts)
+        elif kind == "sum":
+            found[number] = d.sum(*parts)
+        else:
+            select, one, zero = parts
+            differ = d.sum(one, zero)
+            chosen = needs.product(select, differ)
+            found[number] = d.sum(zero, chosen)
+            needs.ask(differ)
+        needs.ask(found[number])
+    polynomials = [of(literal) for _, literal in circuit.outputs]
+    needs.ask(*polynomials)
+    return polynomials
+
+
+def cost_of_circuit(circuit, care=None, is_basis=False):
+    """What a run on a circuit costs, with the position of a care output."""
+    needs = Needs(len(circuit.names))
+    d = needs.diagrams
+    polynomials = output_polynomials(needs, circuit)
+    points = d.cube("-" * d.inputs)
+    if care is not None:
+        needs.ask(points)
+        points = needs.ones(polynomials.pop(care), points)
+        needs.ask(points)
+        for place, polynomial in enumerate(polynomials):
+            ones = needs.ones(polynomial, points)
+            zeros = d.minus(points, ones)
+            polynomials[place] = needs.least(zeros, ones)
+            needs.ask(ones, zeros, polynomials[place])
+    terms = sum(len(d.members(p)) for p in polynomials)
+    if not is_basis:
+        return Cost(needs.nodes(), needs.nodes(), terms, terms)
+    standard = needs.standard(points)
+    leads = needs.leads(standard)
+    needs.ask(points, standard, leads)
+    first = needs.nodes()
+    elements = [needs.element(lead, points) for lead in d.members(leads)]
+    needs.ask(*elements)
+    return Cost(first, needs.nodes(), terms + len(elements), terms + sum(len(d.members(e)) for e in elements))

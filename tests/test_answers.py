@@ -213,7 +213,7 @@ class AnswerAs(Test):
     def test_examples(self):
         """Each format of each example's answer is what the table writes of it."""
         for name in ("verilog", "singular", "json"):
-            for file in sorted(EXAMPLES.glob("*.anf")):
+            for file in sorted(it for it in EXAMPLES.glob("*.anf") if it.with_suffix(".pla").is_file()):
                 with self.case(f"{name}, {file.stem}"):
                     ended = self.answer_as([name, file.with_suffix(".pla")], file.read_bytes())
                     self.assertEqual((ended.status, ended.err), (0, ""))

@@ -1,6 +1,6 @@
-"""The program where reads and writes fail: each one in turn, on each file of examples/.
+"""The programs interp and circuit where reads and writes fail: each one in turn, on each file of examples/.
 
-The modes are anf and basis, and check where there are few enough inputs and the answer is short. A read that fails
+The modes of interp are anf and basis, and check where there are few enough inputs and the answer is short. A read that fails
 ends the run with status 8, its message, and nothing on standard output; a write of the answer that fails ends it with
 status 9, its message, and the texts of the outputs before. A failed write to standard error takes its line away and
 changes nothing else. A read or write that is interrupted, or that moves one byte alone, changes nothing at all, nor
@@ -21,8 +21,9 @@ SHORT = 2**16
 class Trial:
     """One file in one mode, which is run again and again, each time with another fault; what was wrong gathers."""
 
-    def __init__(self, name, words, text):
+    def __init__(self, name, words, text, tool="interp"):
         self.name = name
+        self.tool = tool
         self.words = words
         self.text = text
         self.whole = run(words, text)
@@ -54,13 +55,13 @@ class Trial:
         self.judge(Fault(call, fd, 1, ALL, "short"), self.is_whole)
 
     def is_read_fault(self, _number, ended):
-        return ended == Ended(8, "", "interp: read fault\n")
+        return ended == Ended(8, "", f"{self.tool}: read fault\n")
 
     def is_write_fault(self, number, ended):
         """The texts before have been written, and the line of progress of each of them."""
         told = "".join(self.whole.err.splitlines(keepends=True)[: number - 1])
         texts = self.whole.out.startswith(ended.out) and len(ended.out) < len(self.whole.out)
-        is_told = (ended.status, ended.err) == (9, told + "interp: write fault\n")
+        is_told = (ended.status, ended.err) == (9, told + f"{self.tool}: write fault\n")
         return texts and is_told and (ended.out == "") == (number == 1)
 
     def is_line_lost(self, number, ended):
@@ -87,12 +88,20 @@ def trials_of(path):
             yield Trial(f"{path.stem} check", [program("interp"), "check"], with_end(text) + answer)
 
 
+def trials_of_circuit(path):
+    """The trials of a circuit."""
+    text = path.read_bytes()
+    for mode in ("anf", "basis", "count"):
+        yield Trial(f"{path.stem} {mode}", [program("circuit"), mode], text, "circuit")
+
+
 class Devices(Test):
     """Reads and writes that fail."""
 
     def test_each_call(self):
         faults()
         trials = [trial for path in sorted(EXAMPLES.glob("*.pla")) for trial in trials_of(path)]
+        trials += [trial for path in sorted(EXAMPLES.glob("*.aag")) for trial in trials_of_circuit(path)]
         with concurrent.futures.ThreadPoolExecutor(os.cpu_count()) as pool:
             for trial, wrong in zip(trials, pool.map(Trial.try_all, trials)):
                 with self.case(trial.name):

@@ -16,6 +16,11 @@ PRINTS = [
     ("read_blif", "Networks are equivalent"),
     ("made/even.v", "e = d[0] + 1\n"),
     ("cmp <(", "same\n"),
+    ("./circuit anf < made/adder_gates.aig", "s[1] = a[0]*b[0] + a[1] + b[1]\n"),
+    ("./circuit count", "s[2]: terms 3, degree 3, nodes 6\n"),
+    ("made/adder_other.aig", "same\nNetworks are equivalent"),
+    ("--care valid", "0 = idle + load + run + done + 1\n"),
+    ("--invert", "f1 = ~x1*~x2*~x3 + 1\n"),
     ("&exorcism", "-01- 1\n-1-1 1\n"),
     (
         "scattered_f",
@@ -49,7 +54,7 @@ PRINTS = [
 ]
 
 # Blocks of these documents that are no lines to run begin so.
-NO_LINES = ("prime =", "mkdir")
+NO_LINES = ("prime =", "s[0] =", "mkdir")
 
 # The programs of the system that the lines need.
 PROGRAMS = ("yosys", "berkeley-abc", "Singular", "M2", "cryptominisat5", "parallel")
@@ -70,6 +75,10 @@ SHOWN = {
         "./interp anf --order $(cat examples/decoder.order) < examples/decoder.pla",
         "./nfq reduce < examples/relations.pla",
         "./nfq union < examples/two_ideals.pla",
+        "./circuit anf < examples/adder.aag",
+        "./circuit count < examples/adder.aag",
+        "./circuit basis --care valid < examples/states.aag",
+        "./circuit anf --care valid --order stop,go,done,run,load,idle < examples/states.aag",
     ),
 }
 

@@ -10,9 +10,9 @@ runs of interp, whose jobs are drawn from a counter, and of steal, whose jobs ar
 import itertools
 import random
 
-from tests.harness import ALL, EXAMPLES, Ended, Fault, Test, description, faults, program, run
+from tests.harness import ALL, EXAMPLES, Fault, Test, description, faults, program, run
 from tests.made_descriptions import random_rows, valued
-from tests.needed_nodes import cost_of
+from tests.needed_nodes import LEAST_BITS, MOST_TERMS, bits_for, cost_of, due
 from tests.plain_descriptions import read
 
 FILES = (
@@ -23,29 +23,9 @@ PROGRAMS = ("interp", "steal")
 WORKERS = (1, 3, 16)
 TIMES = 8
 RANDOM_FILES = 60
-LEAST_BITS = 4
-MOST_TERMS = 1_000_000
 
 # How often each larger file is run.
 LARGE_TIMES = 5
-
-
-def due(cost, bits, limit, whole):
-    """How a run that needs this much ends, with 2^bits slots and this limit of terms; without limits as `whole`."""
-    full = Ended(5, "", f"interp: more than {2**bits} nodes are needed\n")
-    long = Ended(6, "", f"interp: more than {limit} terms\n")
-    if cost.first > 2**bits:
-        return full
-    if cost.leads > limit:
-        return long
-    if cost.last > 2**bits:
-        return full
-    return long if cost.terms > limit else whole
-
-
-def bits_for(nodes):
-    """The least table that has so many slots, by its logarithm."""
-    return max(LEAST_BITS, (nodes - 1).bit_length())
 
 
 def turned(rows, row, output):

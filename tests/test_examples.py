@@ -2,7 +2,9 @@
 
 NAME.anf and NAME.basis are the answers to NAME.pla in these modes, NAME.ordered the one in mode anf by the order of
 the inputs in NAME.order, and NAME.message what stands on standard error where there is no answer. Each answer in mode
-basis over few enough inputs is judged as it is, and with a term or a line of it dropped, added or moved.
+basis over few enough inputs is judged as it is, and with a term or a line of it dropped, added or moved. Beside a
+circuit NAME.aag, which has no description of its name, stand the answers of circuit, NAME.count among them, with the
+care output that NAME.care names.
 """
 
 from tests.harness import EXAMPLES, Ended, Test, program, run
@@ -55,8 +57,8 @@ class Answers(Test):
     """What is printed, beside what stands in the files."""
 
     def files(self, ending):
-        """The files of examples/ with an ending."""
-        found = sorted(EXAMPLES.glob(f"*.{ending}"))
+        """The files of examples/ with an ending that stand beside a description."""
+        found = sorted(it for it in EXAMPLES.glob(f"*.{ending}") if it.with_suffix(".pla").is_file())
         self.assertTrue(found, ending)
         return found
 
@@ -89,6 +91,21 @@ class Answers(Test):
                 self.assertTrue([other for other in EXAMPLES.glob(f"{file.stem}.*") if other != file])
 
 
+class Circuits(Test):
+    """What circuit prints, beside what stands in the files."""
+
+    def test_modes(self):
+        for file in sorted(EXAMPLES.glob("*.aag")):
+            care = file.with_suffix(".care")
+            words = ["--care", care.read_text().strip()] if care.is_file() else []
+            answers = [it for it in map(file.with_suffix, (".anf", ".basis", ".count")) if it.is_file()]
+            self.assertTrue(answers, file.name)
+            for wanted in answers:
+                with self.case(wanted.name):
+                    ended = run([program("circuit"), wanted.suffix[1:], *words], file.read_bytes())
+                    self.assertEqual((ended.status, ended.out), (0, wanted.read_text()))
+
+
 class Judged(Test):
     """Answers that mode check judges."""
 
@@ -97,7 +114,7 @@ class Judged(Test):
         self.assertEqual(run([program("interp"), "check"], text + answer), wanted)
 
     def test_answers(self):
-        for file in sorted(EXAMPLES.glob("*.anf")):
+        for file in sorted(it for it in EXAMPLES.glob("*.anf") if it.with_suffix(".pla").is_file()):
             given = file.with_suffix(".pla").read_text()
             if inputs_of(given) > MOST_CHECKED:
                 continue

@@ -22,10 +22,12 @@ from tests.harness import TOP, Test, program, run
 USAGE = {
     "interp": "interp: usage: interp MODE [--workers N] [--nodes B] [--terms T] [--seed S] [--order NAMES]\n",
     "nfq": "nfq: usage: nfq reduce|union|meet\n",
+    "circuit": "circuit: usage: circuit anf|basis|count [--nodes B] [--terms T] [--order NAMES] [--care NAME] [--invert NAMES]\n",
 }
 ADVICE = {
     "interp": "interp reads standard input: interp anf < file.pla\n",
     "nfq": "nfq reads standard input: nfq reduce < file.pla\n",
+    "circuit": "circuit reads standard input: circuit anf < file.aag\n",
 }
 # What steal says is what interp does.
 for said in (USAGE, ADVICE):
@@ -46,6 +48,8 @@ REFUSED = [
     ("nfq", ["--help"]),
     ("nfq", ["anf"]),
     ("nfq", ["reduce", "file.pla"]),
+    ("circuit", ["--help"]),
+    ("circuit", ["check"]),
     ("steal", ["--help"]),
     ("steal", ["anf", "file.pla"]),
 ]
@@ -57,9 +61,10 @@ TAKEN = [
     ("nfq", ["reduce"]),
     ("nfq", ["union"]),
     ("nfq", ["meet"]),
+    ("circuit", ["count", "--care", "f"]),
     ("steal", ["--nodes", "5", "basis"]),
 ]
-CRATES = {"interp": "interp_main", "nfq": "nf_query", "steal": "steal_main"}
+CRATES = {"interp": "interp_main", "nfq": "nf_query", "circuit": "circuit_main", "steal": "steal_main"}
 
 # It plays the command rt in the current folder, a crate: `rt lib` makes its library, and `rt run` its program, which
 # prints its words, where it is not there or other sources were. That takes a while, and in the middle of it half of the

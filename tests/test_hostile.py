@@ -1,10 +1,11 @@
-"""The program where its standard streams are closed, full or endless, and with little memory."""
+"""The programs interp and circuit where their standard streams are closed, full or endless, and with little memory."""
 
 import os
 import resource
 import subprocess
 import tempfile
 
+from bench.make_circuits import CIRCUITS
 from tests.harness import EXAMPLES, Ended, Test, description, installed, program, run
 
 MOST_READ = 4_194_305
@@ -73,6 +74,50 @@ class Hostile(Test):
             self.ends("both outputs full", Ended(9, "", ""), POINTS, stdout=full, stderr=full)
         self.ends("all streams closed", Ended(8, "", ""), preexec_fn=closing(0, 1, 2))
         self.ends("all streams as they should be", Ended(0, ANSWER, TOLD), POINTS)
+
+
+class Circuits(Test):
+    """The same of circuit."""
+
+    def ends(self, what, wanted, text=None, **how):
+        with self.case(what):
+            self.assertEqual(run([program("circuit"), "anf"], text, **how), wanted)
+
+    def test_streams(self):
+        text = (EXAMPLES / "half_adder_gates.aag").read_bytes()
+        read_fault, write_fault = Ended(8, "", "circuit: read fault\n"), Ended(9, "", "circuit: write fault\n")
+        too_long = Ended(10, "", "circuit: longer than 16777216 bytes\n")
+        self.ends("closed input", read_fault, preexec_fn=closing(0))
+        folder = os.open(EXAMPLES, os.O_RDONLY)
+        self.ends("a folder", read_fault, stdin=folder)
+        os.close(folder)
+        with open("/dev/zero", "rb") as endless:
+            self.ends("endless input", too_long, stdin=endless)
+        self.ends("as long as may be", Ended(3, "", "circuit: byte 0: NoFormat\n"), b"\0" * 2**24)
+        self.ends("a byte longer", too_long, b"\0" * (2**24 + 1))
+        self.ends("closed output", write_fault, text, preexec_fn=closing(1))
+        with open("/dev/full", "wb") as full:
+            self.ends("full output", write_fault, text, stdout=full)
+            self.ends("full error, and no answer", Ended(3, "", ""), b"", stderr=full)
+        whole = run([program("circuit"), "anf"], text)
+        self.assertEqual((whole.status, whole.err), (0, ""))
+        self.ends("closed error", whole, text, preexec_fn=closing(2))
+
+    def test_memory(self):
+        """With less and less room in the address space: the whole answer, or status 7 and nothing else."""
+        text = CIRCUITS["shifter_32"]().binary()
+        words = [program("circuit"), "anf", "--nodes", "16"]
+        whole = run(words, text)
+        self.assertEqual(whole.status, 0)
+        met = set()
+        for limit in range(2**20, 2**25, 2**19):
+            how = {"preexec_fn": lambda size=limit: resource.setrlimit(resource.RLIMIT_AS, (size, size))}
+            ended = run(words, text, **how)
+            with self.case(f"{limit} bytes"):
+                if ended.status >= 0 and ended.status != 127:
+                    met.add(ended.status)
+                    self.assertIn(ended, (whole, Ended(7, "", "circuit: out of memory\n")))
+        self.assertEqual(met, {0, 7})
 
 
 class Memory(Test):

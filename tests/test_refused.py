@@ -1,4 +1,4 @@
-"""The program where memory is refused: each allocation of a run in turn, alone and with all that come after it.
+"""The programs interp and circuit where memory is refused: each allocation of a run in turn, alone and with all that come after it.
 
 A run then ends with status 7, nothing on standard output and the line of this status or a front part of it on
 standard error, or as it does with memory. The allocations are those of the C library, which the program and its
@@ -20,6 +20,14 @@ RUNS = [
     ("basis --workers 2", PAIR, BASES),
     ("gen", "", "points 256\nf1 8\nf2 7\n"),
     ("gen --workers 2", "", "points 256\nf1 8\nf2 7\n"),
+]
+
+GATES = "aag 5 2 0 2 3\n2\n4\n10\n6\n6 2 4\n8 3 5\n10 7 9\ni0 a\ni1 b\no0 s\no1 c\n"
+CIRCUIT_RUNS = [
+    ("anf", GATES, "s = a + b\nc = a*b\n"),
+    ("basis --care c", GATES, "s = 0\n0 = b + 1\n0 = a + 1\n"),
+    ("count", GATES, "s: terms 2, degree 1, nodes 2\nc: terms 1, degree 2, nodes 2\n"),
+    ("anf --order b,a --invert a", GATES, "s = b + ~a + 1\nc = b*~a + b\n"),
 ]
 
 
@@ -58,3 +66,10 @@ class Refused(Test):
                     was_met, more = self.refuse(words, text, whole, number)
                     ends += more
                 self.assertGreater(ends, 0, f"{number - 1} allocations were met")
+
+
+class RefusedCircuits(Refused):
+    """The same of circuit."""
+
+    name = "circuit"
+    runs = CIRCUIT_RUNS

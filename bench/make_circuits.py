@@ -1,0 +1,332 @@
+#!/usr/bin/env python3
+"""Writes circuits in the AIGER format: make_circuits.py FOLDER. The files are the same on each machine."""
+
+import pathlib
+import sys
+from typing import NamedTuple
+
+FALSE, TRUE = 0, 1
+
+
+def difference(number):
+    """The bytes of a difference in the binary form: 7 bits a byte, the low ones first."""
+    found = []
+    while number >= 128:
+        found.append(number % 128 + 128)
+        number //= 128
+    return bytes([*found, number])
+
+
+class Gate(NamedTuple):
+    left: int
+    right: int
+
+
+class Circuit:
+    """A circuit that grows. Literal 2v is variable v, and 2v + 1 its complement; no gate is made twice."""
+
+    def __init__(self, names):
+        """A circuit with inputs of these names."""
+        self.names = list(names)
+        self.gates = []
+        self.outputs = []
+        self.known = {}
+
+    def inputs(self, prefix=""):
+        """The literals of the inputs whose names begin so, in order."""
+        return [2 * (place + 1) for place, name in enumerate(self.names) if name.startswith(prefix)]
+
+    def give(self, name, literal):
+        self.outputs.append((name, literal))
+
+    def give_all(self, prefix, literals):
+        for place, literal in enumerate(literals):
+            self.give(f"{prefix}{place}", literal)
+
+    def conjunction(self, left, right):
+        left, right = max(left, right), min(left, right)
+        if right == FALSE or left == right ^ 1:
+            return FALSE
+        if right == TRUE or left == right:
+            return left
+        gate = Gate(left, right)
+        if gate not in self.known:
+            self.gates.append(gate)
+            self.known[gate] = 2 * (len(self.names) + len(self.gates))
+        return self.known[gate]
+
+    def disjunction(self, left, right):
+        return self.conjunction(left ^ 1, right ^ 1) ^ 1
+
+    def choice(self, select, one, zero):
+        return self.conjunction(self.conjunction(select, one) ^ 1, self.conjunction(select ^ 1, zero) ^ 1) ^ 1
+
+    def sum(self, left, right):
+        return self.choice(left, right ^ 1, right)
+
+    def sum_of(self, literals):
+        """The exclusive or of all, pair by pair."""
+        literals = list(literals) or [FALSE]
+        while len(literals) > 1:
+            pairs = [literals[place : place + 2] for place in range(0, len(literals), 2)]
+            literals = [self.sum(*pair) if len(pair) == 2 else pair[0] for pair in pairs]
+        return literals[0]
+
+    def majority(self, a, b, c):
+        return self.disjunction(self.conjunction(a, b), self.conjunction(c, self.disjunction(a, b)))
+
+    def total(self, left, right, carry=FALSE):
+        """The sum of two numbers, the low bits first, and its carry."""
+        found = []
+        for a, b in zip(left, right):
+            found.append(self.sum(self.sum(a, b), carry))
+            carry = self.majority(a, b, carry)
+        return found, carry
+
+    def header(self, form):
+        gates = len(self.gates)
+        return f"{form} {len(self.names) + gates} {len(self.names)} 0 {len(self.outputs)} {gates}\n"
+
+    def symbols(self):
+        lines = [f"i{place} {name}\n" for place, name in enumerate(self.names)]
+        return "".join(lines + [f"o{place} {name}\n" for place, (name, _) in enumerate(self.outputs)])
+
+    def binary(self):
+        """The file in the binary form, as bytes."""
+        text = self.header("aig") + "".join(f"{literal}\n" for _, literal in self.outputs)
+        found = [text.encode()]
+        for place, gate in enumerate(self.gates):
+            own = 2 * (len(self.names) + 1 + place)
+            found += [difference(own - gate.left), difference(gate.left - gate.right)]
+        return b"".join([*found, self.symbols().encode()])
+
+    def ascii(self):
+        """The file in the ASCII form, as text."""
+        lines = [f"{literal}\n" for literal in self.inputs()]
+        lines += [f"{literal}\n" for _, literal in self.outputs]
+        for place, gate in enumerate(self.gates):
+            lines.append(f"{2 * (len(self.names) + 1 + place)} {gate.left} {gate.right}\n")
+        return self.header("aag") + "".join(lines) + self.symbols()
+
+    def values(self, words, points):
+        """The values of the outputs at so many points, by those of the inputs: numbers with a bit for each point."""
+        full = (1 << points) - 1
+        found = [0, *words]
+
+        def value(literal):
+            return found[literal // 2] ^ (full if literal % 2 else 0)
+
+        for gate in self.gates:
+            found.append(value(gate.left) & value(gate.right))
+        return [value(literal) for _, literal in self.outputs]
+
+
+def numbered(prefix, count):
+    return [f"{prefix}{place}" for place in range(count)]
+
+
+def parity(inputs):
+    circuit = Circuit(numbered("x", inputs))
+    circuit.give("p", circuit.sum_of(circuit.inputs()))
+    return circuit
+
+
+def ones(inputs):
+    """How many inputs are 1."""
+    circuit = Circuit(numbered("x", inputs))
+    numbers = [[literal] for literal in circuit.inputs()]
+    while len(numbers) > 1:
+        first, second, *rest = sorted(numbers, key=len)
+        width = max(len(first), len(second))
+        first, second = (number + [FALSE] * (width - len(number)) for number in (first, second))
+        found, carry = circuit.total(first, second)
+        numbers = [*rest, [*found, carry]]
+    width = inputs.bit_length()
+    circuit.give_all("n", numbers[0][:width])
+    return circuit
+
+
+def side_by_side(width):
+    """The names of two numbers whose bits stand side by side, the high ones first."""
+    return [f"{name}{place}" for place in reversed(range(width)) for name in "ab"]
+
+
+def adder(width):
+    circuit = Circuit(side_by_side(width))
+    a, b = (circuit.inputs(name)[::-1] for name in "ab")
+    found, carry = circuit.total(a, b)
+    circuit.give_all("s", [*found, carry])
+    return circuit
+
+
+def prefix_adder(width):
+    """The same by Kogge and Stone: all carries from prefixes that double."""
+    circuit = Circuit(side_by_side(width))
+    a, b = (circuit.inputs(name)[::-1] for name in "ab")
+    makes = [circuit.conjunction(x, y) for x, y in zip(a, b)]
+    first = [circuit.sum(x, y) for x, y in zip(a, b)]
+    passes, reach = first, 1
+    while reach < width:
+        steps = range(reach, width)
+        makes, passes = (
+            makes[:reach]
+            + [circuit.disjunction(makes[k], circuit.conjunction(passes[k], makes[k - reach])) for k in steps],
+            passes[:reach] + [circuit.conjunction(passes[k], passes[k - reach]) for k in steps],
+        )
+        reach *= 2
+    carries = [FALSE, *makes]
+    circuit.give_all("s", [circuit.sum(x, c) for x, c in zip(first, carries)] + [carries[width]])
+    return circuit
+
+
+def shifter(width):
+    """A number rotated by another one, whose bits stand first."""
+    selects = (width - 1).bit_length()
+    circuit = Circuit(numbered("s", selects) + numbered("d", width))
+    data = circuit.inputs("d")
+    for place, select in enumerate(circuit.inputs("s")):
+        data = [circuit.choice(select, data[(k - (1 << place)) % width], data[k]) for k in range(width)]
+    circuit.give_all("q", data)
+    return circuit
+
+
+def checksum(inputs, polynomial, degree):
+    """The remainder of the inputs by a polynomial over two elements, bit by bit."""
+    circuit = Circuit(numbered("x", inputs))
+    state = [FALSE] * degree
+    for literal in circuit.inputs():
+        feedback = circuit.sum(literal, state[-1])
+        state = [FALSE, *state[:-1]]
+        state = [circuit.sum(it, feedback) if polynomial >> place & 1 else it for place, it in enumerate(state)]
+    circuit.give_all("r", state)
+    return circuit
+
+
+def multiplier(width):
+    circuit = Circuit(side_by_side(width))
+    a, b = (circuit.inputs(name)[::-1] for name in "ab")
+    total = [FALSE] * (2 * width)
+    for place, bit in enumerate(b):
+        row = [circuit.conjunction(bit, it) for it in a]
+        found, carry = circuit.total(total[place : place + width], row)
+        total[place : place + width + 1] = [*found, carry]
+    circuit.give_all("p", total)
+    return circuit
+
+
+def galois(degree, polynomial):
+    """A product in the field of 2^degree elements: all products of bits, reduced by the polynomial."""
+    circuit = Circuit(numbered("a", degree) + numbered("b", degree))
+    a, b = circuit.inputs("a"), circuit.inputs("b")
+    columns = [[] for _ in range(2 * degree - 1)]
+    for i, x in enumerate(a):
+        for j, y in enumerate(b):
+            columns[i + j].append(circuit.conjunction(x, y))
+    sums = [circuit.sum_of(column) for column in columns]
+    powers = reduced_powers(degree, polynomial)
+    rows = [[it for it, power in zip(sums, powers) if power >> place & 1] for place in range(degree)]
+    circuit.give_all("c", [circuit.sum_of(row) for row in rows])
+    return circuit
+
+
+def reduced_powers(degree, polynomial):
+    """The powers of the root of a polynomial, of which the terms below its degree are given."""
+    found, power = [], 1
+    for _ in range(2 * degree - 1):
+        found.append(power)
+        power <<= 1
+        if power >> degree:
+            power = (power ^ polynomial) & ((1 << degree) - 1)
+    return found
+
+
+def keccak_chi(rows):
+    """The step chi on rows of five bits: each bit, changed where the next one is 0 and the one behind it 1."""
+    circuit = Circuit([f"r{row}_{place}" for row in range(rows) for place in range(5)])
+    literals = circuit.inputs()
+    for row in range(rows):
+        bits = literals[5 * row : 5 * row + 5]
+        for place in range(5):
+            behind = circuit.conjunction(bits[(place + 1) % 5] ^ 1, bits[(place + 2) % 5])
+            circuit.give(f"q{row}_{place}", circuit.sum(bits[place], behind))
+    return circuit
+
+
+def table(inputs, outputs, function):
+    """A function of a number, as choices by its bits, the high one first."""
+    circuit = Circuit(numbered("x", inputs))
+    literals = circuit.inputs()
+
+    def chosen(place, front, bit):
+        if place == inputs:
+            return function(front) >> bit & 1
+        one, zero = chosen(place + 1, 2 * front + 1, bit), chosen(place + 1, 2 * front, bit)
+        return circuit.choice(literals[place], one, zero)
+
+    circuit.give_all("y", [chosen(0, 0, bit) for bit in range(outputs)])
+    return circuit
+
+
+def field_product(x, y):
+    """A product in the field of 2^8 elements of AES."""
+    found = 0
+    for place in range(8):
+        found ^= x << place if y >> place & 1 else 0
+    for place in reversed(range(8, 16)):
+        found ^= 0x11B << (place - 8) if found >> place & 1 else 0
+    return found
+
+
+def aes_box(x):
+    inverse = next((y for y in range(256) if field_product(x, y) == 1), 0)
+    found = 0x63
+    for turn in range(5):
+        found ^= (inverse << turn | inverse >> (8 - turn)) & 0xFF
+    return found
+
+
+def present_box(x):
+    return 0xC56B90AD3EF84712 >> (60 - 4 * x) & 15
+
+
+def comparator(width):
+    """Whether the first of two numbers is greater."""
+    circuit = Circuit(side_by_side(width))
+    a, b = (circuit.inputs(name)[::-1] for name in "ab")
+    greater = FALSE
+    for x, y in zip(a, b):
+        greater = circuit.choice(circuit.sum(x, y), x, greater)
+    circuit.give("g", greater)
+    return circuit
+
+
+CIRCUITS = {
+    "parity_32": lambda: parity(32),
+    "parity_62": lambda: parity(62),
+    "ones_32": lambda: ones(32),
+    "adder_16": lambda: adder(16),
+    "prefix_adder_16": lambda: prefix_adder(16),
+    "shifter_32": lambda: shifter(32),
+    "crc8_62": lambda: checksum(62, 0x07, 8),
+    "crc32_62": lambda: checksum(62, 0x04C11DB7, 32),
+    "hamming_62": lambda: checksum(62, 0x03, 6),
+    "multiplier_6": lambda: multiplier(6),
+    "galois_8": lambda: galois(8, 0x1B),
+    "galois_16": lambda: galois(16, 0x2B),
+    "galois_31": lambda: galois(31, 0x9),
+    "keccak_chi": lambda: keccak_chi(12),
+    "aes_box": lambda: table(8, 8, aes_box),
+    "present_box": lambda: table(4, 4, present_box),
+    "comparator_16": lambda: comparator(16),
+}
+
+
+def main():
+    folder = pathlib.Path(sys.argv[1])
+    folder.mkdir(parents=True, exist_ok=True)
+    for name, make in CIRCUITS.items():
+        (folder / f"{name}.aig").write_bytes(make().binary())
+
+
+if __name__ == "__main__":
+    main()
