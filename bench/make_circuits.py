@@ -1,6 +1,7 @@
 #!/usr/bin/env python3
 """Writes circuits in the AIGER format: make_circuits.py FOLDER. The files are the same on each machine."""
 
+import functools
 import pathlib
 import sys
 from typing import NamedTuple
@@ -214,10 +215,9 @@ def multiplier(width):
     return circuit
 
 
-def galois(degree, polynomial):
-    """A product in the field of 2^degree elements: all products of bits, reduced by the polynomial."""
-    circuit = Circuit(numbered("a", degree) + numbered("b", degree))
-    a, b = circuit.inputs("a"), circuit.inputs("b")
+def reduced_product(circuit, a, b, polynomial):
+    """The bits of a product in a field: all products of bits, reduced by the polynomial."""
+    degree = len(a)
     columns = [[] for _ in range(2 * degree - 1)]
     for i, x in enumerate(a):
         for j, y in enumerate(b):
@@ -225,7 +225,13 @@ def galois(degree, polynomial):
     sums = [circuit.sum_of(column) for column in columns]
     powers = reduced_powers(degree, polynomial)
     rows = [[it for it, power in zip(sums, powers) if power >> place & 1] for place in range(degree)]
-    circuit.give_all("c", [circuit.sum_of(row) for row in rows])
+    return [circuit.sum_of(row) for row in rows]
+
+
+def galois(degree, polynomial):
+    """A product in the field of 2^degree elements, as Mastrovito has it."""
+    circuit = Circuit(numbered("a", degree) + numbered("b", degree))
+    circuit.give_all("c", reduced_product(circuit, circuit.inputs("a"), circuit.inputs("b"), polynomial))
     return circuit
 
 
@@ -238,6 +244,55 @@ def reduced_powers(degree, polynomial):
         if power >> degree:
             power = (power ^ polynomial) & ((1 << degree) - 1)
     return found
+
+
+def in_tower(x, y):
+    """A product in the field of 2^8 elements over the one of 2^4: x^4 + x + 1 below, and y^2 + y + x^3 above. The low
+    four bits of a number are those of the first coefficient."""
+
+    def below(x, y):
+        found = 0
+        for place in range(4):
+            found ^= x << place if y >> place & 1 else 0
+        for place in reversed(range(4, 8)):
+            found ^= 0x13 << (place - 4) if found >> place & 1 else 0
+        return found
+
+    low, high = below(x & 15, y & 15), below(x >> 4, y >> 4)
+    cross = below(x & 15 ^ x >> 4, y & 15 ^ y >> 4)
+    return low ^ below(high, 8) | (cross ^ low) << 4
+
+
+def powers_in_tower():
+    """The powers of an element of that field which is a root of the polynomial of AES."""
+    for root in range(2, 256):
+        powers = [1]
+        for _ in range(8):
+            powers.append(in_tower(powers[-1], root))
+        if powers[8] ^ powers[4] ^ powers[3] ^ powers[1] ^ powers[0] == 0:
+            return powers[:8]
+    raise AssertionError("the two fields are the same but for their bases")
+
+
+def tower_multiplier():
+    """A product in the field of AES by way of the tower: both numbers go over to its basis, and the product back."""
+    circuit = Circuit(numbered("a", 8) + numbered("b", 8))
+    powers = powers_in_tower()
+    images = [functools.reduce(int.__xor__, [it for k, it in enumerate(powers) if x >> k & 1], 0) for x in range(256)]
+    back = [images.index(1 << place) for place in range(8)]
+
+    def over(literals, columns):
+        return [circuit.sum_of([it for it, column in zip(literals, columns) if column >> k & 1]) for k in range(8)]
+
+    def plus(x, y):
+        return [circuit.sum(*pair) for pair in zip(x, y)]
+
+    a, b = (over(circuit.inputs(name), powers) for name in "ab")
+    low, high = reduced_product(circuit, a[:4], b[:4], 0x3), reduced_product(circuit, a[4:], b[4:], 0x3)
+    cross = reduced_product(circuit, plus(a[:4], a[4:]), plus(b[:4], b[4:]), 0x3)
+    scaled = reduced_product(circuit, high, [FALSE, FALSE, FALSE, TRUE], 0x3)
+    circuit.give_all("c", over(plus(low, scaled) + plus(cross, low), back))
+    return circuit
 
 
 def keccak_chi(rows):
@@ -312,6 +367,7 @@ CIRCUITS = {
     "hamming_62": lambda: checksum(62, 0x03, 6),
     "multiplier_6": lambda: multiplier(6),
     "galois_8": lambda: galois(8, 0x1B),
+    "tower_8": tower_multiplier,
     "galois_16": lambda: galois(16, 0x2B),
     "galois_31": lambda: galois(31, 0x9),
     "keccak_chi": lambda: keccak_chi(12),

@@ -11,7 +11,7 @@ import re
 import tempfile
 
 from bench import brial
-from bench.make_circuits import CIRCUITS, Circuit, numbered
+from bench.make_circuits import CIRCUITS, Circuit, galois, numbered
 from tests.harness import EXAMPLES, Ended, Test, answer, installed, program, run
 from tests.needed_nodes import LEAST_BITS, MOST_TERMS, bits_for, cost_of_circuit, due
 from tests.plain_polynomials import Points
@@ -172,6 +172,85 @@ class Small(Test):
                     self.assertEqual(ones_at(self.ordered(terms), turned), ones)
 
 
+def listed(draws, circuit, loop=False):
+    """The circuit in the ASCII form with other variables, with gaps, and its gates in any order, each with its operands
+    either way round; and the lines of its gates. With a loop the operand of a gate is one that stands on it, or it
+    itself."""
+    size = len(circuit.names)
+    count = 1 + size + len(circuit.gates)
+    most = count + draws.randrange(5)
+    variables = [0, *draws.sample(range(1, most + 1), count - 1)]
+
+    def other(literal):
+        return 2 * variables[literal // 2] + literal % 2
+
+    gates = []
+    for place, gate in enumerate(circuit.gates):
+        operands = [other(literal) for literal in gate]
+        draws.shuffle(operands)
+        gates.append([2 * variables[1 + size + place], *operands])
+    if loop:
+        below = draws.randrange(len(gates))
+        gates[below][draws.choice((1, 2))] = gates[stands_on(draws, circuit, below)][0] + draws.randrange(2)
+    draws.shuffle(gates)
+    lines = [f"aag {most} {size} 0 {len(circuit.outputs)} {len(gates)}"]
+    lines += [f"{other(literal)}" for literal in circuit.inputs()]
+    lines += [f"{other(literal)}" for _, literal in circuit.outputs]
+    front = "".join(f"{line}\n" for line in lines)
+    return front, [f"{' '.join(map(str, gate))}\n" for gate in gates], circuit.symbols()
+
+
+def stands_on(draws, circuit, below):
+    """The place of a gate that stands on the one at this place, or is it."""
+    size = len(circuit.names)
+    found = {below}
+    for place in range(below + 1, len(circuit.gates)):
+        if any(literal // 2 - 1 - size in found for literal in circuit.gates[place]):
+            found.add(place)
+    return draws.choice(sorted(found))
+
+
+def first_on_itself(front, gates):
+    """How many bytes stand before the first line of a gate that stands on one that stands on itself."""
+    lines = {int(line.split()[0]) // 2: [int(it) // 2 for it in line.split()[1:]] for line in gates}
+    placed, grown = set(), True
+    while grown:
+        ready = {own for own, operands in lines.items() if all(it not in lines or it in placed for it in operands)}
+        grown, placed = ready != placed, ready
+    before = len(front)
+    for line in gates:
+        if int(line.split()[0]) // 2 not in placed:
+            return before
+        before += len(line)
+    return None
+
+
+class Listed(Test):
+    """Files in the ASCII form whose variables have any numbers and whose gates stand in any order."""
+
+    def test_any_order(self):
+        draws = random.Random(31)
+        for number in range(SMALL):
+            circuit = random_circuit(draws, draws.randint(1, 20), draws.randint(1, 40), draws.randint(1, 5))
+            with self.case(f"circuit {number}"):
+                front, gates, symbols = listed(draws, circuit)
+                text = front + "".join(gates) + symbols
+                ended = run([program("circuit"), "anf"], text)
+                self.assertEqual(ended, run([program("circuit"), "anf"], circuit.binary()))
+
+    def test_loops(self):
+        draws = random.Random(37)
+        for number in range(SMALL):
+            circuit = random_circuit(draws, draws.randint(1, 6), draws.randint(4, 30), 2)
+            if not circuit.gates:
+                continue
+            with self.case(f"circuit {number}"):
+                front, gates, symbols = listed(draws, circuit, loop=True)
+                byte = first_on_itself(front, gates)
+                ended = run([program("circuit"), "anf"], front + "".join(gates) + symbols)
+                self.assertEqual(ended, Ended(3, "", f"circuit: byte {byte}: OnItself\n"))
+
+
 class Large(Test):
     """Circuits of up to 62 inputs, at random points."""
 
@@ -210,6 +289,16 @@ class Large(Test):
                     continue
                 self.assertEqual((ended.status, ended.err), (0, ""))
                 self.try_at_points(circuit, [read_line(line, circuit.names) for line in ended.out.splitlines()])
+
+    def test_same_functions(self):
+        """Netlists of one function have one answer, and those of two have two."""
+        for one, other in (("adder_16", "prefix_adder_16"), ("galois_8", "tower_8")):
+            with self.case(f"{one} and {other}"):
+                found = [answer([program("circuit"), "anf"], CIRCUITS[name]().binary()) for name in (one, other)]
+                self.assertEqual(*found)
+        with self.case("two fields of 2^8 elements"):
+            found = [answer([program("circuit"), "anf"], galois(8, p).binary()) for p in (0x1B, 0x1D)]
+            self.assertNotEqual(*found)
 
     def test_beside_brial(self):
         """The same text as by BRiAl, gate by gate."""

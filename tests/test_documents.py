@@ -19,6 +19,7 @@ PRINTS = [
     ("./circuit anf < made/adder_gates.aig", "s[1] = a[0]*b[0] + a[1] + b[1]\n"),
     ("./circuit count", "s[2]: terms 3, degree 3, nodes 6\n"),
     ("made/adder_other.aig", "same\nNetworks are equivalent"),
+    ("prefix_adder_16", "same\nsame\n"),
     ("--care valid", "0 = idle + load + run + done + 1\n"),
     ("--invert", "f1 = ~x1*~x2*~x3 + 1\n"),
     ("&exorcism", "-01- 1\n-1-1 1\n"),
