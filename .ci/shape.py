@@ -21,7 +21,7 @@ RATIO = 2
 DIAGRAM_RATIO = 4
 ON_DIAGRAMS = ("set_algebra", "diagram_measures", "cube_build", "bool_poly", "std_monomials", "gate_build", "interp_lex", "vanish_basis")
 EXCEPTIONS = {
-    "cli_words": (2.6, "what clap finds for each of six arguments is proved argument by argument"),
+    "cli_words": (2.3, "what clap finds for each of six arguments is proved argument by argument"),
     "cube_sets": (2.4, "the search by buckets is shown to find what comparing all pairs finds"),
 }
 # A line that is one text, or an attribute, which the toolchain's formatter sets in one line.

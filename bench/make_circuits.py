@@ -246,17 +246,22 @@ def reduced_powers(degree, polynomial):
     return found
 
 
+def field_product(x, y, degree, polynomial):
+    """A product of numbers in the field of 2^degree elements, by a polynomial with all its terms."""
+    found = 0
+    for place in range(degree):
+        found ^= x << place if y >> place & 1 else 0
+    for place in reversed(range(degree, 2 * degree)):
+        found ^= polynomial << (place - degree) if found >> place & 1 else 0
+    return found
+
+
 def in_tower(x, y):
     """A product in the field of 2^8 elements over the one of 2^4: x^4 + x + 1 below, and y^2 + y + x^3 above. The low
     four bits of a number are those of the first coefficient."""
 
     def below(x, y):
-        found = 0
-        for place in range(4):
-            found ^= x << place if y >> place & 1 else 0
-        for place in reversed(range(4, 8)):
-            found ^= 0x13 << (place - 4) if found >> place & 1 else 0
-        return found
+        return field_product(x, y, 4, 0x13)
 
     low, high = below(x & 15, y & 15), below(x >> 4, y >> 4)
     cross = below(x & 15 ^ x >> 4, y & 15 ^ y >> 4)
@@ -322,18 +327,8 @@ def table(inputs, outputs, function):
     return circuit
 
 
-def field_product(x, y):
-    """A product in the field of 2^8 elements of AES."""
-    found = 0
-    for place in range(8):
-        found ^= x << place if y >> place & 1 else 0
-    for place in reversed(range(8, 16)):
-        found ^= 0x11B << (place - 8) if found >> place & 1 else 0
-    return found
-
-
 def aes_box(x):
-    inverse = next((y for y in range(256) if field_product(x, y) == 1), 0)
+    inverse = next((y for y in range(256) if field_product(x, y, 8, 0x11B) == 1), 0)
     found = 0x63
     for turn in range(5):
         found ^= (inverse << turn | inverse >> (8 - turn)) & 0xFF
