@@ -9,7 +9,6 @@ which is that of this script at the least, and the answer's bytes. BRiAl finds t
 three gates that make an exclusive or or a multiplexer as one, as circuit does.
 """
 
-import argparse
 import pathlib
 import sys
 import tempfile
@@ -18,13 +17,9 @@ import brial
 import make_circuits
 import run
 
-HERE = pathlib.Path(__file__).resolve().parent
-
 
 def main():
-    parser = argparse.ArgumentParser()
-    parser.add_argument("--runs", type=int, default=3)
-    parser.add_argument("--program", default=str(HERE.parent / "circuit"))
+    parser = run.arguments("circuit")
     parser.add_argument("names", nargs="*")
     options = parser.parse_args()
     with tempfile.TemporaryDirectory() as folder:
@@ -36,9 +31,7 @@ def main():
         print(f"| circuit | inputs | gates | {heads} | MB | bytes |\n|{'---|' * (len(columns) + 5)}")
         names = options.names or make_circuits.CIRCUITS
         differ = [name for name in names if not measured(name, folder, columns, options.runs)]
-    for name in differ:
-        print(f"{name}: what is printed differs", file=sys.stderr)
-    return 1 if differ else 0
+    return run.tell(differ, "what is printed differs")
 
 
 def measured(name, folder, columns, runs):

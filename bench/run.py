@@ -84,11 +84,24 @@ def row(name, mode, times, results):
     return len(sums) <= 1
 
 
-def main():
+def arguments(program):
+    """A parser of the arguments of a measurement of this program."""
     parser = argparse.ArgumentParser()
     parser.add_argument("--runs", type=int, default=3)
+    parser.add_argument("--program", default=str(HERE.parent / program))
+    return parser
+
+
+def tell(names, fault):
+    """Says on standard error what has this fault, and answers the status of the measurement."""
+    for name in names:
+        print(f"{name}: {fault}", file=sys.stderr)
+    return 1 if names else 0
+
+
+def main():
+    parser = arguments("interp")
     parser.add_argument("--workers", default="1,2,4")
-    parser.add_argument("--program", default=str(HERE.parent / "interp"))
     parser.add_argument("--also")
     parser.add_argument("files", nargs="*")
     options = parser.parse_args()
@@ -108,9 +121,7 @@ def main():
             columns = commands(options, mode, driver)
             if not row(name, mode, *measure(columns, path, options.runs)):
                 different.append(name)
-    for name in different:
-        print(f"{name}: what is printed differs", file=sys.stderr)
-    return 1 if different else 0
+    return tell(different, "what is printed differs")
 
 
 if __name__ == "__main__":

@@ -380,3 +380,40 @@ def cost_of_circuit(circuit, care=None, is_basis=False):
     elements = [needs.element(lead, points) for lead in d.members(leads)]
     needs.ask(*elements)
     return Cost(first, needs.nodes(), terms + len(elements), terms + sum(len(d.members(e)) for e in elements))
+
+
+# What is asked of a circuit here; its gates are two literals each.
+Gates = collections.namedtuple("Gates", "names gates outputs")
+Gate = collections.namedtuple("Gate", "left right")
+
+
+def miter_of(first, second, care):
+    """The circuit whose outputs are 1 where those of two circuits over the same inputs differ. The output of the first
+    that has the name `care` stays as it is."""
+    size, others = len(first.names), len(first.gates)
+
+    def moved(literal):
+        return literal + 2 * others if literal // 2 > size else literal
+
+    gates = [*first.gates, *(Gate(moved(gate.left), moved(gate.right)) for gate in second.gates)]
+    theirs, outputs = dict(second.outputs), []
+    for name, mine in first.outputs:
+        other, number = moved(theirs[name]), size + 1 + len(gates)
+        gates += [Gate(mine, other), Gate(mine ^ 1, other ^ 1), Gate(2 * number + 1, 2 * number + 3)]
+        outputs.append((name, mine if name == care else 2 * number + 4))
+    return Gates(first.names, gates, outputs)
+
+
+def nodes_of_pair(first, second, care=None):
+    """The nodes that a run needs which compares two circuits over the same inputs, where the output `care` is 1."""
+    miter = miter_of(first, second, care)
+    needs = Needs(len(miter.names))
+    polynomials = output_polynomials(needs, miter)
+    points = needs.diagrams.cube("-" * len(miter.names))
+    needs.ask(points)
+    if care is not None:
+        points = needs.ones(polynomials.pop([name for name, _ in miter.outputs].index(care)), points)
+        needs.ask(points)
+    for polynomial in polynomials:
+        needs.ask(needs.ones(polynomial, points))
+    return needs.nodes()

@@ -455,5 +455,5 @@ class Ends(Test):
             with self.case(words):
                 ended = run([program("circuit"), *words], half)
                 self.assertEqual((ended.status, ended.out), (2, ""))
-                self.assertTrue(ended.err.startswith("circuit: usage: circuit anf|basis|count "), ended.err)
+                self.assertTrue(ended.err.startswith("circuit: usage: circuit anf|basis|count|equal "), ended.err)
 

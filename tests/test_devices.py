@@ -93,6 +93,7 @@ def trials_of_circuit(path):
     text = path.read_bytes()
     for mode in ("anf", "basis", "count"):
         yield Trial(f"{path.stem} {mode}", [program("circuit"), mode], text, "circuit")
+    yield Trial(f"{path.stem} equal", [program("circuit"), "equal"], 2 * text, "circuit")
 
 
 class Devices(Test):

@@ -18,7 +18,15 @@ PRINTS = [
     ("cmp <(", "same\n"),
     ("./circuit anf < made/adder_gates.aig", "s[1] = a[0]*b[0] + a[1] + b[1]\n"),
     ("./circuit count", "s[2]: terms 3, degree 3, nodes 6\n"),
-    ("made/adder_other.aig", "same\nNetworks are equivalent"),
+    ("made/adder_other.aig", "s[0]: equal\ns[1]: equal\ns[2]: equal\nNetworks are equivalent"),
+    ("examples/tower.aag", "s4: equal\nc0: equal\n"),
+    (
+        "examples/few_gates.aag",
+        "next_idle: different at idle=0 load=0 run=0 done=0 go=0 stop=0\nnext_load: equal\n"
+        "next_run: different at idle=0 load=1 run=1 done=0 go=0 stop=1\nnext_done: equal\n"
+        "valid: different at idle=0 load=0 run=0 done=0 go=0 stop=0\nthe status is 1\n",
+    ),
+    ("equal --care valid", "next_idle: equal\nnext_load: equal\nnext_run: equal\nnext_done: equal\n"),
     ("prefix_adder_16", "same\nsame\n"),
     ("--care valid", "0 = idle + load + run + done + 1\n"),
     ("--invert", "f1 = ~x1*~x2*~x3 + 1\n"),
@@ -55,7 +63,7 @@ PRINTS = [
 ]
 
 # Blocks of these documents that are no lines to run begin so.
-NO_LINES = ("prime =", "s[0] =", "mkdir")
+NO_LINES = ("prime =", "s[0] =", "s[0]:", "next_idle:", "mkdir")
 
 # The programs of the system that the lines need.
 PROGRAMS = ("yosys", "berkeley-abc", "Singular", "M2", "cryptominisat5", "parallel")
@@ -78,6 +86,7 @@ SHOWN = {
         "./nfq union < examples/two_ideals.pla",
         "./circuit anf < examples/adder.aag",
         "./circuit count < examples/adder.aag",
+        "cat examples/ripple_adder.aag examples/prefix_adder.aag | ./circuit equal",
         "./circuit basis --care valid < examples/states.aag",
         "./circuit anf --care valid --order stop,go,done,run,load,idle < examples/states.aag",
     ),

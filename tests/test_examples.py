@@ -4,7 +4,7 @@ NAME.anf and NAME.basis are the answers to NAME.pla in these modes, NAME.ordered
 the inputs in NAME.order, and NAME.message what stands on standard error where there is no answer. Each answer in mode
 basis over few enough inputs is judged as it is, and with a term or a line of it dropped, added or moved. Beside a
 circuit NAME.aag, which has no description of its name, stand the answers of circuit, NAME.count among them, with the
-care output that NAME.care names.
+care output that NAME.care names. NAME.equal is what it prints where the circuit that NAME.beside names stands behind.
 """
 
 from tests.harness import EXAMPLES, Ended, Test, program, run
@@ -104,6 +104,16 @@ class Circuits(Test):
                 with self.case(wanted.name):
                     ended = run([program("circuit"), wanted.suffix[1:], *words], file.read_bytes())
                     self.assertEqual((ended.status, ended.out), (0, wanted.read_text()))
+
+    def test_pairs(self):
+        for file in sorted(EXAMPLES.glob("*.beside")):
+            first = file.with_suffix(".aag")
+            second = EXAMPLES / f"{file.read_text().strip()}.aag"
+            care = file.with_suffix(".care")
+            words = ["--care", care.read_text().strip()] if care.is_file() else []
+            with self.case(file.name):
+                ended = run([program("circuit"), "equal", *words], first.read_bytes() + second.read_bytes())
+                self.assertEqual((ended.status, ended.out), (0, file.with_suffix(".equal").read_text()))
 
 
 class Judged(Test):

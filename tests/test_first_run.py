@@ -22,7 +22,7 @@ from tests.harness import TOP, Test, program, run
 USAGE = {
     "interp": "interp: usage: interp MODE [--workers N] [--nodes B] [--terms T] [--seed S] [--order NAMES]\n",
     "nfq": "nfq: usage: nfq reduce|union|meet\n",
-    "circuit": "circuit: usage: circuit anf|basis|count [--nodes B] [--terms T] [--order NAMES] [--care NAME] [--invert NAMES]\n",
+    "circuit": "circuit: usage: circuit anf|basis|count|equal [--nodes B] [--terms T] [--order NAMES] [--care NAME] [--invert NAMES]\n",
 }
 ADVICE = {
     "interp": "interp reads standard input: interp anf < file.pla\n",

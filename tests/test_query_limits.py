@@ -2,8 +2,7 @@
 
 A run on such a file ends: by its answer, or by the count of nodes or terms that is due, in a time that is told here. On
 random files no mode takes more than twice the processor time that `interp basis` takes on the same file, or on one of
-the joined points, where their basis is the larger one, but for the making of a great table, on which nfq begins where
-interp guesses that a smaller one suffices.
+the joined points, where their basis is the larger one.
 Where memory is refused a run ends with status 7, where a read fails with 8, and where a write fails with 9. The other
 statuses are in test_queries.
 """
@@ -22,11 +21,10 @@ NO_MEMORY = Ended(7, "", "nfq: out of memory\n")
 MANY_NODES = "nfq: more than 524288 nodes are needed\n"
 
 # The files that are compared, the runs of each of which the least counts, and what a run may take beside, in seconds:
-# for its start, and for the terms of its queries, which interp is not asked; and for a great table, if it makes one.
+# for its start, and for the terms of its queries, which interp is not asked.
 COMPARED = 60
 MOST_RUNS = 3
 BESIDE = 0.005
-GREAT_TABLE = 0.02
 
 MODES = ("reduce", "union", "meet")
 
@@ -177,7 +175,7 @@ class Timed:
 
     def is_within(self, factor, other):
         """Whether it takes at most so many times what the other takes. Both are run again while it does not."""
-        while min(self.seconds) > factor * min(other.seconds) + BESIDE + GREAT_TABLE:
+        while min(self.seconds) > factor * min(other.seconds) + BESIDE:
             if len(self.seconds) >= MOST_RUNS:
                 return False
             self.again()

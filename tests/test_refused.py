@@ -28,6 +28,7 @@ CIRCUIT_RUNS = [
     ("basis --care c", GATES, "s = 0\n0 = b + 1\n0 = a + 1\n"),
     ("count", GATES, "s: terms 2, degree 1, nodes 2\nc: terms 1, degree 2, nodes 2\n"),
     ("anf --order b,a --invert a", GATES, "s = b + ~a + 1\nc = b*~a + b\n"),
+    ("equal", 2 * GATES, "s: equal\nc: equal\n"),
 ]
 
 

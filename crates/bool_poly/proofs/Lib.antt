@@ -2,3 +2,4 @@ pub mod OnesLemmas
 mod Families
 mod NodeLemmas
 mod Steps
+mod Halving

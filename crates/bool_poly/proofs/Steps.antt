@@ -12,7 +12,7 @@ use Rattle.node_store.specs.declared.store.Handle.{Handle}
 use Rattle.node_store.specs.declared.store.Full.{Full}
 use Rattle.node_store.proofs.StoreLaws.{Denotes-family, Denotes-knows, Gives-after, Grows-family, Grows-knows, Knows-denotes, Reads-refl}
 use Rattle.node_store.proofs.StoreLaws.{Reads-trans, filled, known_after, zero_family, one_family, gives_as}
-use Rattle.node_store.proofs.StoreLaws.{reads_one, then_call, found_built, gives_fewer, builds_gives, Builds-known, found_gives}
+use Rattle.node_store.proofs.StoreLaws.{found_built, gives_fewer, builds_gives, Builds-known, found_gives}
 use Rattle.node_store.proofs.StoreLaws.{found_read, Grows-trans}
 use Rattle.set_algebra.specs.Pairs.{AreCofactors, IsCutAt}
 use Rattle.set_algebra.specs.declared.pairs.Cofactors.{Cofactors}
@@ -121,16 +121,10 @@ module _ {s t : State} {h set : Handle} {c : Cofactors} (k : OnesCut s t h set c
   Found u hs = Calls s u (s.vars - c.var) (ones_list s.vars (family s h) (family s set)) (ones_list s.vars (family s h) (family s set))
       (hs ++ parts_of s h set c)
 
-  module _ {u : State} {lo : Handle} {needed : List Family}
-      (one : Gives t u (Ok lo) (ones_of t.vars (family t c.a_low) (family t c.b_low)) needed) where
-    pub after_low : Found u ((lo, ones_of s.vars (low_part s c h) (low_part s c set)) ∷ [])
-    after_low = after_other k.calls (rw (k.calls.reads.grows.vars, parts.0.0, parts.1.1.0.0) refl)
-        (IsFamily-ones_of _ s.vars (low_part s c h) (low_part s c set) (IsFamily-low_cofactor _ _) k.calls.le) one
-
-    pub after_with : {v : State} {with : Handle} → Builds u v (Ok with) (sum_at u c.a_low c.a_high c.b_high)
-        → Found v ((with, with_part s c h set) ∷ (lo, ones_of s.vars (low_part s c h) (low_part s c set)) ∷ [])
-    after_with two = let here = after_low.here in
-        after_other after_low (rw (after_low.reads.grows.vars, here.1.0.0, here.1.1.0.0, here.1.1.1.1.0.0) refl) (part_after k.cut) two
+  -- once there is the sum
+  pub after_with : {u : State} {with : Handle} → Builds t u (Ok with) (sum_at t c.a_low c.a_high c.b_high)
+      → Found u ((with, with_part s c h set) ∷ [])
+  after_with one = after_other k.calls (rw (k.calls.reads.grows.vars, parts.0.0, parts.1.0.0, parts.1.1.1.0.0) refl) (part_after k.cut) one
 
 -- ---- what is asked, in other states
 
@@ -192,18 +186,6 @@ ones_finish {s} {t} {v} {h} {set} {x} {y} {c} {lo} {hi} asks same are one two lo
       given = λ {w} {r} all. Gives-after s v w r _ _ reads
           (gives_as (rw (x_is, y_is, same.0, same.1, reads.grows.vars) refl) (rw (x_is, y_is, same.0, same.1, reads.grows.vars) refl) all);
     }
-
--- the halves one after the other: t is the state after the cut, u the one after the low part, v the one after the sum
-pub ones_in_row : {s t u v w : State} {h set x y : Handle} {c : Cofactors} {lo with hi : Handle} → AsksOnes s h set
-    → (x ≡ h) × (y ≡ set) → AreCofactors s t x y c → Reads s t → AsksWith t c.a_low c.a_high c.b_high
-    → Gives t u (Ok lo) (ones_of t.vars (family t c.a_low) (family t c.b_low)) (needs_of t Ones c.a_low c.b_low.0)
-    → Builds u v (Ok with) (sum_at u c.a_low c.a_high c.b_high)
-    → Gives v w (Ok hi) (ones_of v.vars (family v with) (family v c.b_high)) (needs_of v Ones with c.b_high.0)
-    → OnesFinish s w h set x y c lo hi
-ones_in_row {lo = lo} asks same are reads second low sum high =
-    let both = with_after low.grows second sum high in
-    ones_finish asks same are reads (then_call (reads_one low) both) (both.grows.known lo.0 _ low.ok)
-    (λ k i. both.grows.held k (low.held k i)) both.ok both.held
 
 -- ---- the points: the node over the halves, in the state v after them
 

@@ -8,6 +8,7 @@ ghost use Rattle.node_store.specs.Stores.{Knows, family, IsPlanned, Reads, Build
 ghost use Rattle.set_algebra.specs.Begins.{IfDone, IfHalves};
 ghost use Rattle.set_algebra.specs.Pairs.{AreCofactors, IsCutAt};
 ghost use Rattle.bool_poly.specs.Parts.{AreOnes, AsksOnes, AsksWith, part_with};
+ghost use Rattle.bool_poly.specs.Begins.{MayEndOnes, MayHalveOnes, begun_needs, begun_ones};
 
 use lattice::{Mono, Op};
 use node_store::{Full, Handle, Store, grow};
@@ -142,6 +143,38 @@ pub fn finish_ones<S: Store>(
     Ok(r)
 }
 
+/// The points that were begun.
+#[inline(always)]
+#[cycle(halves)]
+fn end_ones<S: Store>(store: &mut S, begun: Begun) -> Result<Handle, Full>
+    requires { MayEndOnes (S.state store.old) begun }
+    ensures { let s = S.state store.old in
+        Gives s (S.state store.new) result (begun_ones s begun) (begun_needs s begun) }
+{
+    match begun {
+        Begun::Done(r) => Ok(r),
+        Begun::Halves(halved) => ones_halves(store, halved),
+    }
+}
+
+/// The points by their halves. Each is begun here, so that one which needs no halves of its own
+/// takes no call.
+#[cycle(halves)]
+fn ones_halves<S: Store>(store: &mut S, halved: Halved) -> Result<Handle, Full>
+    requires { MayHalveOnes (S.state store.old) halved }
+    ensures { let s = S.state store.old in
+        Gives s (S.state store.new) result (ones_of s.vars (family s halved.x) (family s halved.y))
+        (needs_of s Ones halved.x halved.y.0) }
+{
+    let c = halved.cofactors;
+    let low = begin_ones(store, c.a_low, c.b_low);
+    let lo = end_ones(store, low)?;
+    let with = part_with(store, c.a_low, c.a_high, c.b_high)?;
+    let high = begin_ones(store, with, c.b_high);
+    let hi = end_ones(store, high)?;
+    finish_ones(store, halved, lo, hi)
+}
+
 /// The points of `set` at which the polynomial `h` is 1.
 pub fn ones_of<S: Store>(store: &mut S, h: Handle, set: Handle) -> Result<Handle, Full>
     requires h { Knows (S.state store.old) h }
@@ -151,14 +184,6 @@ pub fn ones_of<S: Store>(store: &mut S, h: Handle, set: Handle) -> Result<Handle
         Gives s (S.state store.new) result (ones_of s.vars (family s h) (family s set))
         (needs_of s Ones h set.0) }
 {
-    match begin_ones(store, h, set) {
-        Begun::Done(r) => Ok(r),
-        Begun::Halves(halved) => {
-            let c = halved.cofactors;
-            let lo = ones_of(store, c.a_low, c.b_low)?;
-            let with = part_with(store, c.a_low, c.a_high, c.b_high)?;
-            let hi = ones_of(store, with, c.b_high)?;
-            finish_ones(store, halved, lo, hi)
-        }
-    }
+    let begun = begin_ones(store, h, set);
+    end_ones(store, begun)
 }

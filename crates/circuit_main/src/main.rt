@@ -1,6 +1,7 @@
 //! `circuit MODE [--nodes B] [--terms T] [--order NAMES] [--care NAME] [--invert NAMES]`: reads a
 //! circuit from standard input, and writes the least Boolean polynomials of its outputs, or their
-//! numbers of terms, to standard output.
+//! numbers of terms, to standard output; or reads two circuits, and writes where their outputs
+//! differ.
 #![tactic(auto)]
 
 use circuit_run::start_circuit_run;

@@ -1,6 +1,6 @@
 -- What is due for a circuit of one gate in each mode and with each option: the premises of the headline are met.
 use Rattle.std.proofs.Common.{◌≡◌, ◌<◌, ◌*◌, ◌+◌, ℕ, zero, suc, subst, refl, List, [], ◌∷◌, codes, lit<, lit≤, arith}
-use Rattle.std.proofs.Common.{Option, None, Some}
+use Rattle.std.proofs.Common.{Option, None, Some, false}
 use lib.Count.{ones}
 use Rattle.std.specs.Prelude.{Err, Ok, slice_get}
 use Rattle.std.specs.Fmt.{digits}
@@ -35,9 +35,11 @@ use Rattle.program.specs.declared.outcome.Outcome.TheVariants as ends
 use Rattle.circuit_run.specs.Due.{CircuitDue, IsDueOn, has_basis, no_circuit, no_view, on_view, solved, with_solution}
 use Rattle.circuit_run.specs.Duty.{circuit_duty}
 use Rattle.circuit_run.specs.Laws.{DueForExamples, one_gate}
+use Rattle.circuit_run.specs.Subjects.{compares, of_one}
 use Rattle.circuit_run.specs.Views.{View, view_of}
 use Rattle.circuit_run.specs.declared.ends.CircuitEnd.{CircuitEnd}
 use Rattle.circuit_run.specs.declared.ends.CircuitEnd.TheVariants.{Care, Invert, Order}
+use Rattle.circuit_run.proofs.ComparedExamples.{due_when_compared}
 
 -- ---- the circuit, and how it is seen
 
@@ -136,14 +138,14 @@ unfolding digits ones polynomial_of polynomials_of with_gates at_literal steps_o
     basis_element_list basis_element_of has_divisors leads_of normal_form_of standard_of reduced_basis_of reduced degree_of
 texts = (refl, refl, refl, refl, refl)
 
-due_on : (job : CircuitJob) (v : View) (text : List ℕ) → view_of job (circuit_of 4 2) ≡ Ok v → IsAsked v.circuit v.care
-    → with_its job v ≡ done text → IsDueFor circuit_duty job one_gate (done text)
-due_on job v text seen asked is = within (done text) refl (lit≤ tt) (on_view (circuit_of 4 2) v (done text) read.0 seen
-    (subst (IsDueOn job v) is (solved _ asked (solved_exists v.circuit v.care (has_basis job.mode) asked))))
+due_on : (job : CircuitJob) (v : View) (text : List ℕ) → compares job.mode ≡ false → view_of job (circuit_of 4 2) ≡ Ok v
+    → IsAsked v.circuit v.care → with_its job v ≡ done text → IsDueFor circuit_duty job one_gate (done text)
+due_on job v text one seen asked is = within (done text) refl (lit≤ tt) (on_view (circuit_of 4 2) v (done text) (of_one _ one read.0) seen
+    (subst (IsDueOn job v) is (solved _ one asked (solved_exists v.circuit v.care (has_basis job.mode) asked))))
 
-unseen : (job : CircuitJob) (end : CircuitEnd) → view_of job (circuit_of 4 2) ≡ Err end
+unseen : (job : CircuitJob) (end : CircuitEnd) → compares job.mode ≡ false → view_of job (circuit_of 4 2) ≡ Err end
     → IsDueFor circuit_duty job one_gate (silent (ends.Own end))
-unseen job end is = within _ refl (lit≤ tt) (no_view (circuit_of 4 2) end read.0 is)
+unseen job end one is = within _ refl (lit≤ tt) (no_view (circuit_of 4 2) end (of_one _ one read.0) is)
 
 none : {output : ℕ} → ◌≡◌ {A = Option ℕ} None (Some output) → output < 1
 none is = cc
@@ -151,16 +153,21 @@ none is = cc
 pub due_for_examples : DueForExamples
 due_for_examples =
     let plainly = asked 4 2 (codes "x1") (codes "x2") None (lit< tt) (lit< tt) (λ output is. none is) in (
-      due_on (usual_job Anf) plain _ (views.0 _ refl refl refl) plainly texts.0,
-      due_on (ordered (codes "x2,x1")) swapped _ views.1
+      due_on (usual_job Anf) plain _ refl (views.0 _ refl refl refl) plainly texts.0,
+      due_on (ordered (codes "x2,x1")) swapped _ refl views.1
           (asked 2 4 (codes "x2") (codes "x1") None (lit< tt) (lit< tt) (λ output is. none is)) texts.1,
-      due_on (inverting (codes "x1")) inverted _ views.2
+      due_on (inverting (codes "x1")) inverted _ refl views.2
           (asked 4 3 (codes "~x1") (codes "x2") None (lit< tt) (lit< tt) (λ output is. none is)) texts.2,
-      due_on basis_job cared _ views.3
+      due_on basis_job cared _ refl views.3
           (asked 4 2 (codes "x1") (codes "x2") (Some 0) (lit< tt) (lit< tt) (λ output is. grind arith)) texts.3,
-      due_on (usual_job Count) plain _ (views.0 _ refl refl refl) plainly texts.4,
-      unseen (ordered (codes "x1")) Order views.4,
-      unseen (inverting (codes "f1")) Invert views.5,
-      unseen (record (usual_job Anf) { care = Some (codes "x1") }) Care views.6,
-      within _ refl (lit≤ tt) (no_circuit _ read.1),
+      due_on (usual_job Count) plain _ refl (views.0 _ refl refl refl) plainly texts.4,
+      unseen (ordered (codes "x1")) Order refl views.4,
+      unseen (inverting (codes "f1")) Invert refl views.5,
+      unseen (record (usual_job Anf) { care = Some (codes "x1") }) Care refl views.6,
+      within _ refl (lit≤ tt) (no_circuit _ (of_one _ refl read.1)),
+      due_when_compared.0,
+      due_when_compared.1,
+      due_when_compared.2,
+      due_when_compared.3,
+      due_when_compared.4,
     )

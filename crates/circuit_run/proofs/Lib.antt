@@ -1,5 +1,9 @@
 mod Seeing
 mod PrintedLines
 mod Solutions
+mod LeastPoints
+mod Subjects
+mod Differences
 mod Endings
+mod ComparedExamples
 mod Inhabited

@@ -1,21 +1,20 @@
 -- The lines that are printed of polynomials and of the elements of a basis.
-use Rattle.std.proofs.Common.{◌≡◌, ◌∙◌, ℕ, zero, suc, ◌+◌, ◌<◌, ◌≤◌, List, [], ◌∷◌, ◌++◌, length, get_or, take, drop, map, reverse}
-use Rattle.std.proofs.Common.{add-one, ap, arith}
+use Rattle.std.proofs.Common.{◌≡◌, ◌∙◌, ℕ, zero, suc, ◌+◌, ◌/◌, ◌^◌, ◌<◌, ◌≤◌, codes, List, [], ◌∷◌, ◌++◌, length, get_or, take, drop}
+use Rattle.std.proofs.Common.{map, reverse, add-one, ap, append_assoc, arith}
 use Rattle.std.proofs.Common.{refl, rules, subst, sym, Option, Some, None}
 use Rattle.std.specs.Prelude.{flat_map, zip}
 use Rattle.std.specs.List.{All}
 use Rattle.std.proofs.lemmas.List.{flat_map_more, get_or-map, length-map, map-append}
 use Rattle.std.proofs.lemmas.List.Elements.{All-append, All-cons, All-drop, All-head, All-map, All-nil, All-push, All-tail, All-take}
 use Rattle.std.proofs.lemmas.List.Elements.{All-weaker}
-use Rattle.std.proofs.lemmas.Grind.{common_steps}
+use Rattle.std.proofs.lemmas.Grind.{common_steps, pow_more}
 use Rattle.lattice.specs.Words.{Family, IsFamily, numbers_below}
 use Rattle.lattice.proofs.Polynomials.{length-numbers_below}
 use Rattle.anf_printer.specs.Text.{IsLineOver, left_text, shown_line}
 use Rattle.anf_printer.specs.declared.lines.Left.{Left}
 use Rattle.anf_printer.specs.declared.lines.Left.TheVariants.{Output, Zero}
 use Rattle.anf_printer.specs.declared.lines.Line.{Line}
-use Rattle.diagram_measures.specs.declared.measured.Measures.{Measures}
-use Rattle.circuit_run.specs.Texts.{answered, count_line, counts_text}
+use Rattle.circuit_run.specs.Texts.{answered, bit_text, found_text, point_text}
 
 -- ---- the numbers of outputs
 
@@ -97,24 +96,47 @@ module _ (inputs outputs : ℕ) where
         (ap (λ ls. get_or ls k (shown_line d)) (sym is) ∙ get_or-map shown_line lines k d (shown_line d) less)
         (all k (shown_line d) (subst (λ ls. k < length ls) is (rw (length-map lines shown_line) less)))
 
--- ---- lines of measures
+-- ---- lines of what was found of each output
 
-measured_more : (numbers : List ℕ) (measures : List Measures) (i j number : ℕ) (m : Measures) → i < length numbers → i < length measures
-    → number ≡ get_or numbers i number → m ≡ get_or measures i m → j ≡ i + 1
-    → zip (take j numbers) (take j measures) ≡ zip (take i numbers) (take i measures) ++ (number, m) ∷ []
-measured_more [] measures i j number m less short is same next = absurd (omega arith)
-measured_more (k ∷ numbers) [] i j number m less short is same next = absurd (omega arith)
-measured_more (k ∷ numbers) (n ∷ measures) zero j number m less short is same next = rw next cc
-measured_more (k ∷ numbers) (n ∷ measures) (suc i) j number m less short is same next =
-    let so_far = measured_more numbers measures i (i + 1) number m (omega arith) (omega arith) is same refl in
-    rw next (search (rules, arith, add-one, so_far))
+module _ {A : Type 0} where
+  numbered_more : (numbers : List ℕ) (found : List A) (i j number : ℕ) (x : A) → i < length numbers → i < length found
+      → number ≡ get_or numbers i number → x ≡ get_or found i x → j ≡ i + 1
+      → zip (take j numbers) (take j found) ≡ zip (take i numbers) (take i found) ++ (number, x) ∷ []
+  numbered_more [] found i j number x less short is same next = absurd (omega arith)
+  numbered_more (k ∷ numbers) [] i j number x less short is same next = absurd (omega arith)
+  numbered_more (k ∷ numbers) (y ∷ found) zero j number x less short is same next = rw next cc
+  numbered_more (k ∷ numbers) (y ∷ found) (suc i) j number x less short is same next =
+      let so_far = numbered_more numbers found i (i + 1) number x (omega arith) (omega arith) is same refl in
+      rw next (search (rules, arith, add-one, so_far))
 
--- of one more output
-pub counts_more : (outputs : List (List ℕ)) (numbers : List ℕ) (measures : List Measures) (i j number : ℕ) (m : Measures)
-    → i < length numbers → i < length measures → number ≡ get_or numbers i number → m ≡ get_or measures i m → j ≡ i + 1
-    → counts_text outputs (take i numbers) (take i measures) ++ count_line (left_text outputs (Output number)) m
-    ≡ counts_text outputs (take j numbers) (take j measures)
-counts_more outputs numbers measures i j number m less short is same next =
-    let line : ℕ × Measures → List ℕ = λ o. count_line (left_text outputs (Output o.0)) o.1 in
-    flat_map_more line [] (zip (take i numbers) (take i measures)) (number, m)
-    ∙ ap (flat_map line) (sym (measured_more numbers measures i j number m less short is same next))
+  -- of one more output
+  pub found_more : (line : List ℕ → A → List ℕ) (outputs : List (List ℕ)) (numbers : List ℕ) (found : List A) (i j number : ℕ) (x : A)
+      → i < length numbers → i < length found → number ≡ get_or numbers i number → x ≡ get_or found i x → j ≡ i + 1
+      → found_text line outputs (take i numbers) (take i found) ++ line (left_text outputs (Output number)) x
+      ≡ found_text line outputs (take j numbers) (take j found)
+  found_more line outputs numbers found i j number x less short is same next =
+      let of_each : ℕ × A → List ℕ = λ o. line (left_text outputs (Output o.0)) o.1 in
+      flat_map_more of_each [] (zip (take i numbers) (take i found)) (number, x)
+      ∙ ap (flat_map of_each) (sym (numbered_more numbers found i j number x less short is same next))
+
+-- ---- points, one name more
+
+module _ (names : List (List ℕ)) (i : ℕ) (name : List ℕ) (next : drop i names ≡ name ∷ drop (i + 1) names) where
+  pub weight_half : (weight : ℕ) → weight ≡ 2 ^ length (drop i names) → weight / 2 ≡ 2 ^ length (drop (i + 1) names)
+  weight_half weight is =
+      let count : length (drop i names) ≡ length (drop (i + 1) names) + 1 = ap length next ∙ omega arith in
+      let double = pow_more 2 (length (drop (i + 1) names)) in rw (is, count) (omega (arith, double))
+
+  pub point_next : (point : ℕ) → point_text (drop i names) point
+      ≡ codes " " ++ name ++ bit_text (2 ^ length (drop (i + 1) names)) point ++ point_text (drop (i + 1) names) point
+  unfolding point_text
+  point_next point = rw next refl
+
+-- the pieces of the line of an output that differs
+pub difference_line : (text name bits a b c d : List ℕ) → a ≡ text ++ name → b ≡ a ++ codes ": different at" → c ≡ b ++ bits
+    → d ≡ c ++ 10 ∷ [] → d ≡ text ++ (name ++ codes ": different at" ++ bits ++ codes "\n")
+difference_line text name bits a b c d first second third last =
+    let differs = codes ": different at" in
+    let one = second ∙ (ap (λ x. x ++ differs) first ∙ append_assoc text name differs) in
+    let two = third ∙ (ap (λ x. x ++ bits) one ∙ append_assoc text (name ++ differs) bits) in
+    last ∙ (ap (λ x. x ++ 10 ∷ []) two ∙ append_assoc text (name ++ differs ++ bits) (10 ∷ []))

@@ -18,6 +18,7 @@ use Rattle.pla_reader.specs.PrintedNames.{printed_names}
 use Rattle.pla_reader.specs.declared.order.OrderRefusal.{OrderRefusal}
 use Rattle.pla_reader.specs.declared.order.OrderRefusal.TheVariants as unnamed
 use Rattle.pla_reader.proofs.ArrangedInputs.{count_printed, orders_by_test}
+use Rattle.aig_pairs.specs.Matching.{input_names, output_names}
 use Rattle.aig_reader.specs.Circuit.{Circuit, IsCircuit}
 use Rattle.aig_reader.specs.Reading.{circuit}
 use Rattle.aig_reader.specs.declared.circuit.Aig.{Aig}
@@ -29,7 +30,7 @@ use Rattle.circuit_words.specs.declared.job.CircuitJob.{CircuitJob}
 use Rattle.program.specs.declared.outcome.Outcome.{Outcome}
 use Rattle.program.specs.declared.outcome.Outcome.TheVariants as ends
 use Rattle.circuit_run.specs.Parts.{IsEndOf, IsWhole, unnamed_outcome}
-use Rattle.circuit_run.specs.Views.{◌>>=◌, View, are_inputs, care_by, input_names, inverted_by, order_by, output_names, view_of}
+use Rattle.circuit_run.specs.Views.{◌>>=◌, View, are_inputs, care_by, inverted_by, order_by, view_of}
 use Rattle.circuit_run.specs.declared.ends.CircuitEnd.{CircuitEnd}
 use Rattle.circuit_run.specs.declared.ends.CircuitEnd.TheVariants.{Care, Invert, NoInputs, Order}
 
@@ -159,7 +160,7 @@ order_good names (Some text) is = elim (cases_Bool (is_order (length names) (ord
 -- ---- the view
 
 -- what is not found has no further step
-unseen : {A B : Type 0} (o : Outcome CircuitEnd) (found : Result A CircuitEnd) (next : A → Result B CircuitEnd) → IsEndOf found o
+pub unseen : {A B : Type 0} (o : Outcome CircuitEnd) (found : Result A CircuitEnd) (next : A → Result B CircuitEnd) → IsEndOf found o
     → IsEndOf (found >>= next) o
 unseen (ends.Own end) found next is = rw is refl
 unseen ends.Memory found next is = tt
@@ -223,43 +224,46 @@ seen_whole c order inverted v is names some good fits within =
     }
 
 -- what is seen of a circuit
-record IsSeen (job : CircuitJob) (c : Circuit) (v : View) : Type 0 where
+pub record IsSeen (job : CircuitJob) (c : Circuit) (v : View) : Type 0 where
   pub order : List ℕ
   pub inverted : List Bool
   pub ordered : order_by (input_names c) job.order ≡ Ok order
+  pub inverts : inverted_by (input_names c) job.invert ≡ Ok inverted
   pub cares : care_by (output_names c) job.care ≡ Ok v.care
   pub is : v.circuit ≡ arranged c order inverted
 
-seen_parts : (job : CircuitJob) (c : Circuit) (v : View) → view_of job c ≡ Ok v → IsSeen job c v
+pub seen_parts : (job : CircuitJob) (c : Circuit) (v : View) → view_of job c ≡ Ok v → IsSeen job c v
 seen_parts job c v seen = elim (cases_Bool (c.inputs == 0)) [
   | inl none ↦ let other = view_without job c none in cc
   | inr some ↦ by_order (order_by (input_names c) job.order) refl (sym (view_with job c some) ∙ seen)
 ]
   where
     by_care : (order : List ℕ) (inverted : List Bool) → order_by (input_names c) job.order ≡ Ok order
-        → (a : Result (Option ℕ) CircuitEnd) → care_by (output_names c) job.care ≡ a → (a >>= with_care job c order inverted) ≡ Ok v
-        → IsSeen job c v
-    by_care order inverted ordered (Err end) x is = cc
-    by_care order inverted ordered (Ok care) x is =
+        → inverted_by (input_names c) job.invert ≡ Ok inverted → (a : Result (Option ℕ) CircuitEnd)
+        → care_by (output_names c) job.care ≡ a → (a >>= with_care job c order inverted) ≡ Ok v → IsSeen job c v
+    by_care order inverted ordered inverts (Err end) x is = cc
+    by_care order inverted ordered inverts (Ok care) x is =
         let same : v ≡ record { circuit = arranged c order inverted; in_names = marked_names order inverted (input_names c); care = care }
         = cc in
         record {
           order = order;
           inverted = inverted;
           ordered = ordered;
+          inverts = inverts;
           cares = x ∙ ap Ok (sym (ap (λ (v : View). v.care) same));
           is = ap (λ (v : View). v.circuit) same;
         }
 
     by_inverted : (order : List ℕ) → order_by (input_names c) job.order ≡ Ok order
-        → (a : Result (List Bool) CircuitEnd) → (a >>= with_inverted job c order) ≡ Ok v → IsSeen job c v
-    by_inverted order ordered (Err end) is = cc
-    by_inverted order ordered (Ok inverted) is = by_care order inverted ordered _ refl is
+        → (a : Result (List Bool) CircuitEnd) → inverted_by (input_names c) job.invert ≡ a → (a >>= with_inverted job c order) ≡ Ok v
+        → IsSeen job c v
+    by_inverted order ordered (Err end) x is = cc
+    by_inverted order ordered (Ok inverted) x is = by_care order inverted ordered x _ refl is
 
     by_order : (a : Result (List ℕ) CircuitEnd) → order_by (input_names c) job.order ≡ a
         → (a >>= with_order job c) ≡ Ok v → IsSeen job c v
     by_order (Err end) x is = cc
-    by_order (Ok order) x is = by_inverted order x _ is
+    by_order (Ok order) x is = by_inverted order x _ refl is
 
 -- it is a circuit with the output that says which points are cared for
 pub seen_asked : (aig : Aig) (job : CircuitJob) (v : View) → view_of job (circuit aig) ≡ Ok v → IsAsked v.circuit v.care

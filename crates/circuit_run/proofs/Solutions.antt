@@ -11,6 +11,7 @@ use Rattle.lattice.proofs.Polynomials.{zip_fold, zip_weaker}
 use Rattle.aig_reader.specs.Circuit.{Circuit}
 use Rattle.circuit_solve.specs.Care.{AreAnswers, CareIdeal, IsAnswerTo, asked}
 use Rattle.circuit_solve.specs.Measured.{IsMeasured}
+use Rattle.circuit_solve.specs.Ones.{AreLeastOnes, IsLeastOne}
 use Rattle.circuit_solve.specs.Solved.{IsSolved, IsWanted, Solved}
 use Rattle.diagram_measures.specs.declared.measured.Measures.{Measures}
 use Rattle.circuit_run.specs.Texts.{answered, measures_of}
@@ -24,6 +25,11 @@ asked_count c (Some output) within =
     let less = within output refl in let many = numbers_count (length c.outputs) in
     let numbers = map (λ k. k + 1) (numbers_below (length c.outputs)) in
     omega (arith, many, length-remove c.outputs output less, length-remove numbers output (rw many less))
+
+-- and as many have a least point or none
+pub points_count : (c : Circuit) (care : Option ℕ) (points : List (Option ℕ)) → AreLeastOnes c care points
+    → ForSome care (λ output. output < length c.outputs) → length points ≡ length (answered (length c.outputs) care)
+points_count c care points are within = AllZip-long (IsLeastOne c care) (asked c care) points are ∙ asked_count c care within
 
 module _ {c : Circuit} {care : Option ℕ} {with_basis : Bool} {s : Solved} (is : IsSolved c care with_basis s) where
   pub solved_count : ForSome care (λ output. output < length c.outputs)

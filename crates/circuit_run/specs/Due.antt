@@ -1,24 +1,26 @@
 -- What is due for a job and the bytes of a source, no more than its limit.
-use Rattle.std.specs.Prelude.{◌≡◌, ℕ, ◌^◌, Bool, true, false, List, length, map, nat_lt, if◌then◌else◌, Option, Some, None, Ok, Err}
+use Rattle.std.specs.Prelude.{◌≡◌, ℕ, ◌^◌, Bool, true, false, List, length, map, is_some, nat_lt, if◌then◌else◌, Option, Some, None, Ok, Err}
+use Rattle.std.specs.List.{list_any}
 use Rattle.std.specs.Option.{option_map_or}
+use Rattle.aig_pairs.specs.Matching.{output_names}
 use Rattle.aig_reader.specs.Circuit.{Circuit}
-use Rattle.aig_reader.specs.Reading.{IsReading}
-use Rattle.aig_reader.specs.declared.refusal.Refusal.{Refusal}
 use Rattle.circuit_solve.specs.Answers.{answer_nodes}
+use Rattle.circuit_solve.specs.Ones.{AreLeastOnes, one_nodes}
 use Rattle.circuit_solve.specs.Laws.{IsAsked}
 use Rattle.circuit_solve.specs.Solved.{IsSolved, Solved, first_refused}
 use Rattle.circuit_words.specs.declared.job.CircuitJob.{CircuitJob}
 use Rattle.circuit_words.specs.declared.job.CircuitMode.{CircuitMode}
 use Rattle.circuit_words.specs.declared.job.CircuitMode.TheVariants.{Basis, Count}
-use Rattle.program.specs.Duties.{Due, done, silent}
+use Rattle.program.specs.Duties.{Due, done, paged, silent}
 use Rattle.program.specs.declared.outcome.Outcome.{Outcome}
 use Rattle.program.specs.declared.outcome.Outcome.TheVariants as ends
 use Rattle.set_algebra.specs.declared.refusal.TermsRefusal.{TermsRefusal}
 use Rattle.set_algebra.specs.declared.refusal.TermsRefusal.TheVariants as stops
-use Rattle.circuit_run.specs.Texts.{answered, counts_text, measures_of, polynomials_text}
-use Rattle.circuit_run.specs.Views.{View, output_names, view_of}
+use Rattle.circuit_run.specs.Texts.{answered, counts_text, equal_text, measures_of, polynomials_text}
+use Rattle.circuit_run.specs.Subjects.{IsSubject, compares}
+use Rattle.circuit_run.specs.Views.{View, view_of}
 use Rattle.circuit_run.specs.declared.ends.CircuitEnd.{CircuitEnd}
-use Rattle.circuit_run.specs.declared.ends.CircuitEnd.TheVariants.{File}
+use Rattle.circuit_run.specs.declared.ends.CircuitEnd.TheVariants.{Different}
 
 -- whether a mode has the basis behind the answers
 abbrev pub has_basis : CircuitMode → Bool
@@ -56,16 +58,28 @@ abbrev pub with_solution : CircuitJob → View → Solved → CircuitDue
 with_solution job v s = option_map_or (λ e. silent (stopped job e)) (first_limit job.mode job.nodes job.terms v s)
     (done (text_in job.mode v s))
 
+-- of one that compares two circuits, by the least point at which each of their outputs differs, where there is one: then it says no
+abbrev pub equal_end : List (Option ℕ) → Outcome CircuitEnd
+equal_end points = if list_any is_some points then ends.Own Different else ends.Done
+
+abbrev pub with_points : CircuitJob → View → List (Option ℕ) → CircuitDue
+with_points job v points =
+    if nat_lt (2 ^ job.nodes) (one_nodes v.circuit v.care) then silent (ends.Exhausted (2 ^ job.nodes))
+    else paged (equal_end points)
+    (equal_text v.in_names (output_names v.circuit) (answered (length v.circuit.outputs) v.care) points)
+
 -- ---- what is due where nothing fails and memory suffices, a constructor for each cause, the first cause first
 
 -- on a view, whose circuit has the output that says which points are cared for, and is one, as each that is read
 pub data IsDueOn (job : CircuitJob) (v : View) : CircuitDue → Type 0 where
-  solved : (s : Solved) → IsAsked v.circuit v.care → IsSolved v.circuit v.care (has_basis job.mode) s
+  solved : (s : Solved) → compares job.mode ≡ false → IsAsked v.circuit v.care → IsSolved v.circuit v.care (has_basis job.mode) s
       → IsDueOn job v (with_solution job v s)
+  compared : (points : List (Option ℕ)) → compares job.mode ≡ true → IsAsked v.circuit v.care
+      → AreLeastOnes v.circuit v.care points → IsDueOn job v (with_points job v points)
 
 -- for a job and the bytes
 pub data IsDue (job : CircuitJob) (bytes : List ℕ) : CircuitDue → Type 0 where
-  no_circuit : (refusal : Refusal) → IsReading bytes (Err refusal) → IsDue job bytes (silent (ends.Own (File refusal.byte refusal.why)))
-  no_view : (c : Circuit) (end : CircuitEnd) → IsReading bytes (Ok c) → view_of job c ≡ Err end → IsDue job bytes (silent (ends.Own end))
-  on_view : (c : Circuit) (v : View) (due : CircuitDue) → IsReading bytes (Ok c) → view_of job c ≡ Ok v → IsDueOn job v due
+  no_circuit : (end : CircuitEnd) → IsSubject job bytes (Err end) → IsDue job bytes (silent (ends.Own end))
+  no_view : (c : Circuit) (end : CircuitEnd) → IsSubject job bytes (Ok c) → view_of job c ≡ Err end → IsDue job bytes (silent (ends.Own end))
+  on_view : (c : Circuit) (v : View) (due : CircuitDue) → IsSubject job bytes (Ok c) → view_of job c ≡ Ok v → IsDueOn job v due
       → IsDue job bytes due

@@ -11,7 +11,7 @@ use Rattle.circuit_run.specs.Ends.{end_way}
 use Rattle.circuit_run.specs.declared.ends.CircuitEnd.{CircuitEnd}
 
 abbrev pub circuit_usage : List ℕ
-circuit_usage = codes "usage: circuit anf|basis|count [--nodes B] [--terms T] [--order NAMES] [--care NAME] [--invert NAMES]"
+circuit_usage = codes "usage: circuit anf|basis|count|equal [--nodes B] [--terms T] [--order NAMES] [--care NAME] [--invert NAMES]"
 
 abbrev pub circuit_duty : Duty CircuitJob CircuitEnd
 circuit_duty = record {

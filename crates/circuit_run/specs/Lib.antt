@@ -1,5 +1,6 @@
 pub mod Views
 pub mod Texts
+pub mod Subjects
 pub mod Due
 pub mod Duty
 pub mod Ends

@@ -1,6 +1,7 @@
 -- The texts of answers.
-use Rattle.std.specs.Prelude.{ℕ, ◌+◌, List, ◌++◌, codes, decimal, flat_map, length, map, remove, zip, Option, None, Some}
-use Rattle.lattice.specs.Family.{Family, numbers_below}
+use Rattle.std.specs.Prelude.{ℕ, ◌+◌, ◌^◌, List, [], ◌∷◌, ◌++◌, codes, decimal, flat_map, if◌then◌else◌, length, map, remove, zip}
+use Rattle.std.specs.Prelude.{Option, None, Some}
+use Rattle.lattice.specs.Family.{Family, divides, numbers_below}
 use Rattle.anf_printer.specs.Text.{left_text, lines_text}
 use Rattle.anf_printer.specs.declared.lines.Left.TheVariants.{Output, Zero}
 use Rattle.diagram_measures.specs.Measured.{degree_of, nodes_of}
@@ -25,6 +26,29 @@ abbrev pub count_line : (name : List ℕ) → Measures → List ℕ
 count_line name m = name ++ codes ": terms " ++ decimal m.terms ++ codes ", degree " ++ decimal m.degree ++ codes ", nodes "
     ++ decimal m.nodes ++ codes "\n"
 
--- with these names of the outputs, a line for each of these outputs
+-- with these names of the outputs, a line for each of these outputs, by its name and what was found of it
+abbrev pub found_text : {A : Type 0} → (line : (name : List ℕ) → A → List ℕ) → (outputs : List (List ℕ)) → (numbers : List ℕ) → List A → List ℕ
+found_text line outputs numbers found = flat_map (λ o. line (left_text outputs (Output o.0)) o.1) (zip numbers found)
+
 abbrev pub counts_text : (outputs : List (List ℕ)) → (numbers : List ℕ) → List Measures → List ℕ
-counts_text outputs numbers measures = flat_map (λ o. count_line (left_text outputs (Output o.0)) o.1) (zip numbers measures)
+counts_text outputs numbers measures = found_text count_line outputs numbers measures
+
+-- ---- the text of mode equal
+
+-- whether a point has the variable of a weight
+abbrev pub bit_text : (weight point : ℕ) → List ℕ
+bit_text weight point = if divides weight point then codes "=1" else codes "=0"
+
+-- a point, as the bit of each input behind its name: of n names, name i is that of the variable of weight 2 ^ (n - i)
+unfoldable pub point_text : (names : List (List ℕ)) → (point : ℕ) → List ℕ
+point_text [] point = []
+point_text (name ∷ names) point = codes " " ++ name ++ bit_text (2 ^ length names) point ++ point_text names point
+
+-- the line of an output of this name: the least point at which it differs, if there is one
+abbrev pub equal_line : (names : List (List ℕ)) → (name : List ℕ) → Option ℕ → List ℕ
+equal_line names name None = name ++ codes ": equal\n"
+equal_line names name (Some point) = name ++ codes ": different at" ++ point_text names point ++ codes "\n"
+
+-- with these names of the inputs and the outputs, a line for each of these outputs
+abbrev pub equal_text : (names outputs : List (List ℕ)) → (numbers : List ℕ) → List (Option ℕ) → List ℕ
+equal_text names outputs numbers points = found_text (equal_line names) outputs numbers points

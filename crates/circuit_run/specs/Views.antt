@@ -1,13 +1,13 @@
 -- What a job sees of a circuit: its inputs in an order, some of them complemented, and which points are cared for.
-use Rattle.std.specs.Prelude.{◌==◌, ℕ, List, Bool, false, ◌&&◌, length, codes, nat_le, replicate, if◌then◌else◌, ok_or, option_map}
+use Rattle.std.specs.Prelude.{◌==◌, ℕ, List, Bool, false, ◌&&◌, length, nat_le, replicate, if◌then◌else◌, ok_or, option_map}
 use Rattle.std.specs.Prelude.{position, Option, Some, None, Result, Ok, Err}
 use Rattle.std.specs.List.{list_all}
 use Rattle.std.specs.Str.{bytes_eq}
 use Rattle.pla_reader.specs.Orders.{file_order, is_once, is_order, order_named}
-use Rattle.pla_reader.specs.PrintedNames.{printed_names}
 use Rattle.aig_reader.specs.Circuit.{Circuit}
 use Rattle.aig_inputs.specs.Arranged.{arranged}
 use Rattle.aig_inputs.specs.Names.{inverted_named, marked_names}
+use Rattle.aig_pairs.specs.Matching.{input_names, output_names}
 use Rattle.circuit_words.specs.declared.job.CircuitJob.{CircuitJob}
 use Rattle.circuit_run.specs.declared.ends.CircuitEnd.{CircuitEnd}
 use Rattle.circuit_run.specs.declared.ends.CircuitEnd.TheVariants.{Care, Invert, NoInputs, Order}
@@ -18,14 +18,6 @@ pub record View : Type 0 where
   pub circuit : Circuit
   pub in_names : List (List ℕ)
   pub care : Option ℕ
-
--- ---- the names that are printed
-
-abbrev pub input_names : Circuit → List (List ℕ)
-input_names c = printed_names (codes "x") c.inputs c.in_names
-
-abbrev pub output_names : Circuit → List (List ℕ)
-output_names c = printed_names (codes "f") (length c.outputs) c.out_names
 
 -- ---- what the texts of the options say, or how the run ends
 

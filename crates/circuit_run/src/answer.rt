@@ -1,41 +1,34 @@
-//! The text that answers a job on the bytes of a source.
-ghost use Rattle.std.specs.Prelude.{◌≡◌, ◌≢◌, ◌≤◌, IfErr, IfOk, Ok, length};
-ghost use Rattle.aig_reader.specs.Reading.{IsReading, circuit};
+//! The answer to a job on the bytes of a source.
+ghost use Rattle.std.specs.Prelude.{◌≡◌, ◌≢◌, ◌≤◌, IfErr, IfOk, false, is_some, length, true};
+ghost use Rattle.std.specs.List.{list_any};
 ghost use Rattle.aig_reader.specs.declared.reading.TheConstants.{MOST_BYTES};
 ghost use Rattle.circuit_words.specs.CommandLine.{IsWithin};
 ghost use Rattle.circuit_words.specs.declared.job.CircuitMode.TheVariants.{Count};
 ghost use Rattle.program.specs.Duties.{done};
 ghost use Rattle.program.specs.Runs.{EndsWithout};
-ghost use Rattle.circuit_run.specs.Due.{IsDue, IsDueOn, has_basis, stopped};
-ghost use Rattle.circuit_run.specs.Parts.{IsUnread, IsWhole, view};
+ghost use Rattle.circuit_run.specs.Due.{IsDue, IsDueOn, equal_end, has_basis, stopped};
+ghost use Rattle.circuit_run.specs.Parts.{IsWhole, answer_due, view};
+ghost use Rattle.circuit_run.specs.Subjects.{compares};
 
 use crate::counts::counts_text;
 use crate::ends::CircuitEnd;
+use crate::equal::equal_text;
+use crate::subject::subject;
 use crate::texts::solution_text;
 use crate::view::{CircuitOutcome, Seen, see};
-use aig_reader::{Aig, ReadRefusal, read};
-use circuit_solve::{measure_circuit, solve_circuit};
+use circuit_solve::{least_ones, measure_circuit, solve_circuit};
 use circuit_words::{CircuitJob, CircuitMode};
-use lattice::{Memory, Text};
+use lattice::{Memory, Mono, Text};
 use node_store::SolveRefusal;
 use program::Outcome;
 use set_algebra::TermsRefusal;
 use std::alloc::Global;
 
-// The circuit that the bytes say, or how the run ends without it.
-fn read_circuit(alloc: Global, bytes: &[u8]) -> Result<Aig, CircuitOutcome>
-    requires { length bytes.now ≤ MOST_BYTES }
-    ensures ok { IfOk result (λ aig. IsReading bytes.now (Ok (circuit aig))) }
-    ensures err { IfErr result (EndsWithout (IsUnread bytes.now)) }
-{
-    match read(alloc, bytes) {
-        Ok(aig) => Ok(aig),
-        Err(ReadRefusal::Bad(refusal)) => Err(Outcome::Own(CircuitEnd::File {
-            byte: refusal.byte as u32,
-            why: refusal.why,
-        })),
-        Err(ReadRefusal::Memory) => Err(Outcome::Memory),
-    }
+/// An answer: how a run ends that writes it, and its text.
+#[derive(Drop)]
+pub(crate) struct Answer {
+    pub outcome: CircuitOutcome,
+    pub text: Text,
 }
 
 // How a run ends whose terms were not given.
@@ -58,7 +51,7 @@ fn has_basis(mode: CircuitMode) -> bool
 {
     match mode {
         CircuitMode::Basis => true,
-        CircuitMode::Anf | CircuitMode::Count => false,
+        CircuitMode::Anf | CircuitMode::Count | CircuitMode::Equal => false,
     }
 }
 
@@ -66,6 +59,7 @@ fn has_basis(mode: CircuitMode) -> bool
 // without it.
 fn solve_text(alloc: Global, job: &CircuitJob, seen: &Seen) -> Result<Text, CircuitOutcome>
     requires mode { job.now.mode ≢ Count }
+    requires one { compares job.now.mode ≡ false }
     requires within { IsWithin job.now }
     requires whole { IsWhole (view seen.now) }
     ensures ok { IfOk result (λ text. IsDueOn job.now (view seen.now) (done text)) }
@@ -108,21 +102,72 @@ fn count_text(alloc: Global, job: &CircuitJob, seen: &Seen) -> Result<Text, Circ
     }
 }
 
-/// The text that is due for the job on the bytes, or how the run ends without it.
-pub(crate) fn answer_text(
+// Whether there is a point for an output.
+fn has_point(points: &[Option<Mono>]) -> bool
+    ensures { result ≡ list_any is_some points.now }
+{
+    points.iter().any(|point| point.is_some())
+}
+
+// How a run ends that found these least points at which outputs differ.
+fn end_for(points: &[Option<Mono>]) -> CircuitOutcome
+    ensures { result ≡ equal_end points.now }
+{
+    if has_point(points) {
+        Outcome::Own(CircuitEnd::Different)
+    } else {
+        Outcome::Done
+    }
+}
+
+// The least points at which outputs of two circuits differ as text, or how the run ends without it.
+fn equal_answer(alloc: Global, job: &CircuitJob, seen: &Seen) -> Result<Answer, CircuitOutcome>
+    requires mode { compares job.now.mode ≡ true }
+    requires within { IsWithin job.now }
+    requires whole { IsWhole (view seen.now) }
+    ensures ok { IfOk result (λ answer. IsDueOn job.now (view seen.now) (answer_due answer)) }
+    ensures err { IfErr result (EndsWithout (IsDueOn job.now (view seen.now))) }
+{
+    let points = match least_ones(alloc, job.nodes, &seen.aig, seen.care) {
+        Ok(points) => points,
+        Err(SolveRefusal::Full) => return Err(stop(job, TermsRefusal::Full)),
+        Err(SolveRefusal::Memory) => return Err(Outcome::Memory),
+    };
+    match equal_text(alloc, seen, &points) {
+        Ok(text) => Ok(Answer {
+            outcome: end_for(&points),
+            text,
+        }),
+        Err(Memory) => Err(Outcome::Memory),
+    }
+}
+
+// An answer that says no nowhere.
+fn done(text: Text) -> Answer
+    ensures { answer_due result ≡ done text }
+{
+    Answer {
+        outcome: Outcome::Done,
+        text,
+    }
+}
+
+/// The answer that is due for the job on the bytes, or how the run ends without it.
+pub(crate) fn answer_job(
     alloc: Global,
     job: &CircuitJob,
     bytes: &[u8],
-) -> Result<Text, CircuitOutcome>
+) -> Result<Answer, CircuitOutcome>
     requires within { IsWithin job.now }
     requires few { length bytes.now ≤ MOST_BYTES }
-    ensures ok { IfOk result (λ text. IsDue job.now bytes.now (done text)) }
+    ensures ok { IfOk result (λ answer. IsDue job.now bytes.now (answer_due answer)) }
     ensures err { IfErr result (EndsWithout (IsDue job.now bytes.now)) }
 {
-    let aig = read_circuit(alloc, bytes)?;
+    let aig = subject(alloc, job, bytes)?;
     let seen = see(alloc, job, &aig)?;
     match job.mode {
-        CircuitMode::Anf | CircuitMode::Basis => solve_text(alloc, job, &seen),
-        CircuitMode::Count => count_text(alloc, job, &seen),
+        CircuitMode::Anf | CircuitMode::Basis => Ok(done(solve_text(alloc, job, &seen)?)),
+        CircuitMode::Count => Ok(done(count_text(alloc, job, &seen)?)),
+        CircuitMode::Equal => equal_answer(alloc, job, &seen),
     }
 }

@@ -1,8 +1,8 @@
 //! The text of mode count.
 ghost use Rattle.std.specs.Prelude.{◌≡◌, ◌≤◌, ◌++◌, IfOk, OnOk, All, decimal, length};
+ghost use Rattle.aig_pairs.specs.Matching.{output_names};
 ghost use Rattle.circuit_run.specs.Parts.{IsWhole, view};
 ghost use Rattle.circuit_run.specs.Texts.{answered, count_line, counts_text};
-ghost use Rattle.circuit_run.specs.Views.{output_names};
 
 use crate::texts::answered;
 use crate::view::Seen;

@@ -5,7 +5,9 @@
 mod answer;
 mod counts;
 mod ends;
+mod equal;
 pub mod laws;
+mod subject;
 mod texts;
 mod top;
 mod view;

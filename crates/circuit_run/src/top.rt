@@ -8,7 +8,7 @@ ghost use Rattle.aig_reader.specs.declared.reading.TheConstants.{MOST_BYTES};
 ghost use Rattle.circuit_words.specs.CommandLine.{IsAsked, IsRefused};
 ghost use Rattle.circuit_words.specs.declared.job.CircuitJob.{CircuitJob};
 ghost use Rattle.program.specs.Duties.{IsDueFor};
-ghost use Rattle.program.specs.Outcomes.{line_of, status_of};
+ghost use Rattle.program.specs.Outcomes.{HasText, line_of, status_of};
 ghost use Rattle.program.specs.declared.outcome.Outcome.{Outcome};
 ghost use Rattle.program.specs.declared.outcome.Outcome.TheVariants as outcomes;
 ghost use Rattle.circuit_run.specs.Due.{CircuitDue};
@@ -16,14 +16,14 @@ ghost use Rattle.circuit_run.specs.Duty.{CircuitRan, circuit_duty, circuit_usage
 ghost use Rattle.circuit_run.specs.Ends.{end_way};
 ghost use Rattle.circuit_run.specs.declared.ends.CircuitEnd.{CircuitEnd};
 
-use crate::answer::answer_text;
+use crate::answer::answer_job;
 use crate::ends::CircuitEnd;
 use aig_reader::MOST_BYTES;
 use circuit_words::{CircuitJob, read_circuit_words};
 use cli_words::WordsRefusal;
 use lattice::Words;
-use outside::{Sink, Source};
-use program::{Outcome, Program, run, start_program, write_page};
+use outside::{Failed, Sink, Source, write_whole};
+use program::{Outcome, Program, run, start_program};
 use std::alloc::Global;
 use std::env::Env;
 use watch::Watch;
@@ -62,7 +62,7 @@ impl Program for Circuit {
     }
 
     fn usage(&self) -> &'static str {
-        "usage: circuit anf|basis|count [--nodes B] [--terms T] [--order NAMES] [--care NAME] [--invert NAMES]"
+        "usage: circuit anf|basis|count|equal [--nodes B] [--terms T] [--order NAMES] [--care NAME] [--invert NAMES]"
     }
 
     fn limit(&self) -> usize {
@@ -89,16 +89,22 @@ impl Program for Circuit {
         out: &mut K,
         _watchers: &mut Vec<Box<dyn Watch>>,
     ) -> Outcome<CircuitEnd> {
-        match answer_text(alloc, job, bytes) {
-            Ok(text) => write_page(out, text.as_slice()),
-            Err(outcome) => outcome,
+        let answer = match answer_job(alloc, job, bytes) {
+            Ok(answer) => answer,
+            Err(outcome) => return outcome,
+        };
+        match write_whole(out, answer.text.as_slice()) {
+            Ok(()) => answer.outcome,
+            Err(Failed) => Outcome::WriteFault,
         }
     }
 }
 
 /// Does all that the program does, and answers its status: reads a circuit from the source, and
 /// writes the least polynomials of its outputs, in mode basis the reduced basis of the points that
-/// are cared for behind them, and in mode count their numbers of terms, degrees and nodes alone.
+/// are cared for behind them, and in mode count their numbers of terms, degrees and nodes alone. In
+/// mode equal it reads two circuits, and writes for each output whether it is the same in both; its
+/// status is 1 where one is not.
 pub fn circuit_run<S: Source, K: Sink, E: Sink>(
     alloc: Global,
     words: &Words,
@@ -110,11 +116,11 @@ pub fn circuit_run<S: Source, K: Sink, E: Sink>(
     // whole text, unless memory ran out.
     ensures headline { (job : CircuitJob) (bytes : List ℕ) (due : CircuitDue)
         → IsAsked words.now job → S.left source.old ≡ Some bytes
-        → IsDueFor circuit_duty job bytes due → due.outcome ≡ outcomes.Done
+        → IsDueFor circuit_duty job bytes due → HasText end_way due.outcome
         → ¬ Rose (S.faults source.old) (S.faults source.new)
         → ¬ Rose (K.faults out.old) (K.faults out.new)
-        → (result ≡ 7)
-        ⊎ ((result ≡ 0) × Appends (K.held out.old) (K.held out.new) (concat due.pages)) }
+        → (result ≡ 7) ⊎ ((result ≡ status_of end_way due.outcome)
+        × Appends (K.held out.old) (K.held out.new) (concat due.pages)) }
 
     // For every source there are bytes, those that it told where it told them, for which the
     // outcome and what out gained are as is due, or yield to memory and faults; and err gained the
@@ -128,7 +134,8 @@ pub fn circuit_run<S: Source, K: Sink, E: Sink>(
     ensures taken { result ≢ 2 → result ≢ 7 → ¬ IsRefused words.now }
     ensures read { result ≡ 8 → Rose (S.faults source.old) (S.faults source.new) }
     ensures write { result ≡ 9 → Rose (K.faults out.old) (K.faults out.new) }
-    ensures nothing { result ≢ 0 → result ≢ 9 → Keeps (K.held out.old) (K.held out.new) }
+    ensures nothing { result ≢ 0 → result ≢ 1 → result ≢ 9
+        → Keeps (K.held out.old) (K.held out.new) }
     ensures few { LosesAtMost (S.left source.old) (S.left source.new) (MOST_BYTES + 1) }
     ensures untouched { result ≡ 2
         → (S.left source.new ≡ S.left source.old) × (S.faults source.new ≡ S.faults source.old) }

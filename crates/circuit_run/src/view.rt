@@ -5,9 +5,10 @@ ghost use Rattle.std.specs.Option.{ForSome};
 ghost use Rattle.std.specs.Str.{bytes_eq};
 ghost use Rattle.lattice.specs.declared.limits.TheConstants.{MAX_VARS};
 ghost use Rattle.pla_reader.specs.Orders.{IsOrder, file_order};
+ghost use Rattle.aig_pairs.specs.Matching.{output_names};
 ghost use Rattle.aig_reader.specs.Reading.{circuit};
 ghost use Rattle.circuit_run.specs.Parts.{Finds, IsWhole, unnamed_outcome, view};
-ghost use Rattle.circuit_run.specs.Views.{care_by, inverted_by, order_by, output_names, view_of};
+ghost use Rattle.circuit_run.specs.Views.{care_by, inverted_by, order_by, view_of};
 
 use crate::ends::CircuitEnd;
 use aig_inputs::{arrange_circuit, marked_names, read_inverted};
@@ -117,9 +118,13 @@ fn care_by(names: &[Name], text: &Option<Text>) -> Result<Option<usize>, Circuit
     }
 }
 
-// The position of the output that says which points are cared for.
+/// The position of the output that says which points are cared for, or how the run ends without it.
 #[tactic(auto, using(crate::proofs::Seeing::count_names))]
-fn care_of(alloc: Global, job: &CircuitJob, aig: &Aig) -> Result<Option<usize>, CircuitOutcome>
+pub(crate) fn care_of(
+    alloc: Global,
+    job: &CircuitJob,
+    aig: &Aig,
+) -> Result<Option<usize>, CircuitOutcome>
     ensures care { Finds (λ care. care) result
         (care_by (output_names (circuit aig.now)) job.now.care) }
     ensures within { IfOk result (λ care.

@@ -79,7 +79,7 @@ pub points_fit : (c : Circuit) (care : Option ℕ) → IsFamily c.inputs (care_p
 points_fit c None = IsFamily-power c.inputs
 points_fit c (Some output) = IsFamily-ones_of c.inputs (get_or (output_polynomials c) output []) (power c.inputs)
 
-has_cared : (c : Circuit) (care : Option ℕ) → IsAsked c care → (a : ℕ) → (has (care_points c care) a ≡ true)
+pub has_cared : (c : Circuit) (care : Option ℕ) → IsAsked c care → (a : ℕ) → (has (care_points c care) a ≡ true)
     ↔ ((a < 2 ^ c.inputs) × IsCared c care a)
 has_cared c None asks a =
     (λ i. (below_bound c.inputs (power c.inputs) a (IsFamily-power c.inputs) i, tt), λ at. has-power c.inputs a at.0)
@@ -149,12 +149,12 @@ whole_answers c asks literal is = record {
 -- ---- all answers
 
 -- the literals that are answered are those of outputs
-asked_are : (c : Circuit) (care : Option ℕ) → IsAsked c care → All (IsLiteral c) (asked c care)
+pub asked_are : (c : Circuit) (care : Option ℕ) → IsAsked c care → All (IsLiteral c) (asked c care)
 asked_are c None asks = λ k d less. record { fits = asks.fits; within = asks.fits.literals k d less }
 asked_are c (Some output) asks =
     All-remove (IsLiteral c) c.outputs output (λ k d less. record { fits = asks.fits; within = asks.fits.literals k d less })
 
-zip_mapped : {X Y : Type 0} (R : X → Y → Type 0) (f : X → Y) (xs : List X) (d : X) → All (λ x. R x (f x)) xs → AllZip R xs (map f xs)
+pub zip_mapped : {X Y : Type 0} (R : X → Y → Type 0) (f : X → Y) (xs : List X) (d : X) → All (λ x. R x (f x)) xs → AllZip R xs (map f xs)
 zip_mapped R f xs d each = zip_from R xs (map f xs) d (f d) (sym (length-map xs f))
     (λ k less. subst (R (get_or xs k d)) (sym (get_or-map f xs k d (f d) less)) (each k d less))
 

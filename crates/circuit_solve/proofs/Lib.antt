@@ -7,4 +7,6 @@ mod ElementSteps
 mod Limits
 mod Listing
 mod MeasureSteps
+mod OneLaws
+mod OneSteps
 pub mod Solutions

@@ -4,6 +4,7 @@ pub mod Found
 pub mod Answers
 pub mod Phases
 pub mod Solved
+pub mod Ones
 pub mod Sought
 pub mod Measured
 pub mod Laws

@@ -17,6 +17,8 @@ pub(crate) enum Sought {
     Leads,
     /// The answers, and the elements of the basis, after its leads.
     Elements,
+    /// The least points at which the outputs are 1.
+    LeastOnes,
 }
 
 /// What is sought of a circuit.

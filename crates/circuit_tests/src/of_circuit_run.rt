@@ -13,6 +13,25 @@ const MOST_BYTES: usize = 16_777_216;
 const HALF_ADDER: &str =
     "aag 5 2 0 2 3\n2\n4\n10\n6\n6 2 4\n8 3 5\n10 7 9\ni0 a\ni1 b\no0 sum\no1 carry\n";
 
+// The same over the same names, which stand in another order.
+const CARRY_FIRST: &str =
+    "aag 5 2 0 2 3\n2\n4\n6\n10\n6 2 4\n8 3 5\n10 7 9\ni0 b\ni1 a\no0 carry\no1 sum\n";
+
+// The same but for the sum, which is 1 where either bit is.
+const EITHER: &str =
+    "aag 5 2 0 2 3\n2\n4\n9\n6\n6 2 4\n8 3 5\n10 7 9\ni0 a\ni1 b\no0 sum\no1 carry\n";
+
+// The same but for the sum, which is 0.
+const NO_SUM: &str = "aag 3 2 0 2 1\n2\n4\n0\n6\n6 2 4\ni0 a\ni1 b\no0 sum\no1 carry\n";
+
+// The same but for the carry, which is 1.
+const EVER_CARRIES: &str =
+    "aag 5 2 0 2 3\n2\n4\n10\n1\n6 2 4\n8 3 5\n10 7 9\ni0 a\ni1 b\no0 sum\no1 carry\n";
+
+// The same with another name of an output.
+const OTHER_OUTPUT: &str =
+    "aag 5 2 0 2 3\n2\n4\n10\n6\n6 2 4\n8 3 5\n10 7 9\ni0 a\ni1 b\no0 s\no1 carry\n";
+
 // The same with no names.
 const UNNAMED: &str = "aag 5 2 0 2 3\n2\n4\n10\n6\n6 2 4\n8 3 5\n10 7 9\n";
 
@@ -24,7 +43,7 @@ const INNER_PRODUCT: &str =
     "aag 21 8 0 1 13\n2\n4\n6\n8\n10\n12\n14\n16\n42\n18 2 10\n20 4 12\n22 6 14\n24 8 16\n26 18 20\n28 19 21\n30 27 29\n32 30 22\n34 31 23\n36 33 35\n38 36 24\n40 37 25\n42 39 41\n";
 
 const USAGE: &str =
-    "circuit: usage: circuit anf|basis|count [--nodes B] [--terms T] [--order NAMES] [--care NAME] [--invert NAMES]\n";
+    "circuit: usage: circuit anf|basis|count|equal [--nodes B] [--terms T] [--order NAMES] [--care NAME] [--invert NAMES]\n";
 
 // A run with the words on a file, where one read and one write may fail: its status, what it wrote
 // and its message are these.
@@ -224,6 +243,206 @@ fn limits(rt: HostRuntime) -> Result<(), Fail> {
     Ok(())
 }
 
+// Two files, one behind the other.
+fn both(alloc: Global, first: &[u8], second: &[u8]) -> Result<Vec<u8>, Fail> {
+    let mut file = Vec::from_slice(alloc, first).map_err(|_| "memory")?;
+    file.extend_from_slice(second).map_err(|_| "memory")?;
+    Ok(file)
+}
+
+// The half adder and a second circuit: outputs of the same name are compared, at all points or
+// those that are cared for, and the point that is written is the least in the order of the inputs.
+#[test]
+fn circuits_that_are_compared(rt: HostRuntime) -> Result<(), Fail> {
+    let alloc = rt.alloc();
+    for (line, second, status, text) in [
+        (
+            "circuit equal",
+            CARRY_FIRST,
+            0,
+            "sum: equal\ncarry: equal\n",
+        ),
+        (
+            "circuit equal",
+            EITHER,
+            1,
+            "sum: different at a=1 b=1\ncarry: equal\n",
+        ),
+        (
+            "circuit equal",
+            NO_SUM,
+            1,
+            "sum: different at a=0 b=1\ncarry: equal\n",
+        ),
+        (
+            "circuit equal --order b,a",
+            NO_SUM,
+            1,
+            "sum: different at b=0 a=1\ncarry: equal\n",
+        ),
+        (
+            "circuit equal --invert a",
+            NO_SUM,
+            1,
+            "sum: different at ~a=0 b=0\ncarry: equal\n",
+        ),
+        (
+            "circuit equal",
+            EVER_CARRIES,
+            1,
+            "sum: equal\ncarry: different at a=0 b=0\n",
+        ),
+        ("circuit equal --care carry", NO_SUM, 0, "sum: equal\n"),
+        (
+            "circuit equal --care carry",
+            EITHER,
+            1,
+            "sum: different at a=1 b=1\n",
+        ),
+        (
+            "circuit equal --care carry",
+            EVER_CARRIES,
+            0,
+            "sum: equal\n",
+        ),
+        (
+            "circuit equal --terms 1",
+            EITHER,
+            1,
+            "sum: different at a=1 b=1\ncarry: equal\n",
+        ),
+    ] {
+        let file = both(alloc, HALF_ADDER.as_bytes(), second.as_bytes())?;
+        check(&rt, alloc, line, &file, (NEVER, NEVER), (status, text, ""))?;
+    }
+    let file = both(alloc, BINARY, UNNAMED.as_bytes())?;
+    let same = "f1: equal\nf2: equal\n";
+    check(
+        &rt,
+        alloc,
+        "circuit equal",
+        &file,
+        (NEVER, NEVER),
+        (0, same, ""),
+    )
+}
+
+// Two circuits that are refused, and words that name what is not there: the names of the circuits
+// are looked at first, then the output that is cared for, and then the order.
+#[test]
+fn circuits_that_are_not_compared(rt: HostRuntime) -> Result<(), Fail> {
+    let alloc = rt.alloc();
+    for (line, second, status, message) in [
+        ("circuit equal", "", 3, "circuit: two circuits are needed\n"),
+        (
+            "circuit equal",
+            "aag 1 0 1 0 0\n2 2\n",
+            3,
+            "circuit: byte 76: Latch\n",
+        ),
+        (
+            "circuit equal --care q",
+            UNNAMED,
+            3,
+            "circuit: the circuits must have the same inputs\n",
+        ),
+        (
+            "circuit equal --care q",
+            OTHER_OUTPUT,
+            3,
+            "circuit: the circuits must have the same outputs\n",
+        ),
+        (
+            "circuit equal --care a --order a",
+            EITHER,
+            12,
+            "circuit: care must name an output\n",
+        ),
+        (
+            "circuit equal --order a --invert q",
+            EITHER,
+            12,
+            "circuit: order must name every input once\n",
+        ),
+        (
+            "circuit equal --invert q",
+            EITHER,
+            12,
+            "circuit: invert must name inputs, each once\n",
+        ),
+    ] {
+        let file = both(alloc, HALF_ADDER.as_bytes(), second.as_bytes())?;
+        check(
+            &rt,
+            alloc,
+            line,
+            &file,
+            (NEVER, NEVER),
+            (status, "", message),
+        )?;
+    }
+    let none = b"aag 0 0 0 1 0\n1\n";
+    let file = both(alloc, none, none)?;
+    let message = "circuit: there are no inputs\n";
+    check(
+        &rt,
+        alloc,
+        "circuit equal",
+        &file,
+        (NEVER, NEVER),
+        (3, "", message),
+    )?;
+    let message = "circuit: byte 0: NoFormat\n";
+    check(
+        &rt,
+        alloc,
+        "circuit equal",
+        b"",
+        (NEVER, NEVER),
+        (3, "", message),
+    )?;
+    let product = INNER_PRODUCT.as_bytes();
+    let file = both(alloc, product, product)?;
+    let message = "circuit: more than 16 nodes are needed\n";
+    check(
+        &rt,
+        alloc,
+        "circuit equal --nodes 4",
+        &file,
+        (NEVER, NEVER),
+        (5, "", message),
+    )
+}
+
+// A circuit of half as many gates as a circuit may have, each of which is the one before it.
+fn half_a_million_gates(alloc: Global) -> Result<Vec<u8>, Fail> {
+    let header = b"aig 500001 1 0 1 500000\n2\n";
+    let mut file = Vec::from_slice(alloc, header).map_err(|_| "memory")?;
+    for _ in 0..500_000 {
+        file.extend_from_slice(&[2, 0]).map_err(|_| "memory")?;
+    }
+    Ok(file)
+}
+
+// Two of these have too many with the gates that compare them.
+#[test]
+fn too_many_gates_for_both(rt: HostRuntime) -> Result<(), Fail> {
+    let alloc = rt.alloc();
+    let half = half_a_million_gates(alloc)?;
+    let file = both(alloc, &half, &half)?;
+    let mut words = Words::new(alloc);
+    words.push("circuit").map_err(|_| "memory")?;
+    words.push("equal").map_err(|_| "memory")?;
+    let mut source = MemSource::make(alloc, &file, 65_536, &[]).map_err(|_| "memory")?;
+    let mut out = MemSink::make(alloc, 10, 8, &[]).map_err(|_| "memory")?;
+    let mut err = MemSink::make(alloc, 200, 7, &[]).map_err(|_| "memory")?;
+    let status = circuit_run(alloc, &words, &mut source, &mut out, &mut err);
+    assert_eq!(rt; status, 3);
+    let message = "circuit: more than 1000000 gates for both\n";
+    assert_eq!(rt; err.bytes(), message.as_bytes());
+    Ok(())
+}
+
 // Reads and writes that fail: nothing is written after a fault, and words that are refused read
 // nothing.
 #[test]
@@ -244,6 +463,14 @@ fn faults(rt: HostRuntime) -> Result<(), Fail> {
         ),
     ] {
         check(&rt, rt.alloc(), line, HALF_ADDER.as_bytes(), fails, want)?;
+    }
+    let file = both(rt.alloc(), HALF_ADDER.as_bytes(), EITHER.as_bytes())?;
+    for (fails, want) in [
+        ((20, NEVER), (8, "", read)),
+        ((NEVER, 1), (9, "", write)),
+        ((NEVER, 2), (9, "sum: dif", write)),
+    ] {
+        check(&rt, rt.alloc(), "circuit equal", &file, fails, want)?;
     }
     Ok(())
 }

@@ -5,7 +5,7 @@ use Rattle.clap.specs.declared.error.kind.ErrorKind.TheVariants as kind
 use Rattle.circuit_words.specs.CommandLine.{IsAsked, mode_name}
 use Rattle.circuit_words.specs.Laws.{OneJobIsAsked, RefusedAskForNone, WordsAskForJobs, usual_job}
 use Rattle.circuit_words.specs.declared.job.CircuitMode.{CircuitMode}
-use Rattle.circuit_words.specs.declared.job.CircuitMode.TheVariants.{Anf, Basis, Count}
+use Rattle.circuit_words.specs.declared.job.CircuitMode.TheVariants.{Anf, Basis, Count, Equal}
 
 same_mode : (m k : CircuitMode) → mode_name m ≡ mode_name k → m ≡ k
 same_mode m k e = grind arith
@@ -28,6 +28,7 @@ unfolding clap_on_literals
 usual_asked Anf = (refl, record { mode = refl; nodes = refl; terms = refl; order = refl; care = refl; invert = refl })
 usual_asked Basis = (refl, record { mode = refl; nodes = refl; terms = refl; order = refl; care = refl; invert = refl })
 usual_asked Count = (refl, record { mode = refl; nodes = refl; terms = refl; order = refl; care = refl; invert = refl })
+usual_asked Equal = (refl, record { mode = refl; nodes = refl; terms = refl; order = refl; care = refl; invert = refl })
 
 -- there are words that ask for a job, in each mode and with each option, and words that are refused
 pub jobs_asked : WordsAskForJobs

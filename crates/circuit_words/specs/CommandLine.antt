@@ -7,16 +7,17 @@ use Rattle.cli_words.specs.Arguments.{AreNames, HasModeOf, HasNumber, NameList, 
 use Rattle.cli_words.specs.Arguments.{text_rule}
 use Rattle.circuit_words.specs.declared.job.CircuitJob.{CircuitJob}
 use Rattle.circuit_words.specs.declared.job.CircuitMode.{CircuitMode}
-use Rattle.circuit_words.specs.declared.job.CircuitMode.TheVariants.{Anf, Basis, Count}
+use Rattle.circuit_words.specs.declared.job.CircuitMode.TheVariants.{Anf, Basis, Count, Equal}
 
 abbrev pub mode_name : CircuitMode → Text
 mode_name Anf = codes "anf"
 mode_name Basis = codes "basis"
 mode_name Count = codes "count"
+mode_name Equal = codes "equal"
 
 -- the values of MODE, in order
 abbrev pub modes : List CircuitMode
-modes = Anf ∷ Basis ∷ Count ∷ []
+modes = Anf ∷ Basis ∷ Count ∷ Equal ∷ []
 
 abbrev pub IsModeNames : NameList → Type 0
 IsModeNames = AreNames (map mode_name modes)

@@ -9,7 +9,7 @@ use cli_words::{any_text, mode, nodes, terms};
 use std::alloc::{AllocError, Global};
 
 /// The values of MODE.
-static MODES: [&str; 3] = ["anf", "basis", "count"];
+static MODES: [&str; 4] = ["anf", "basis", "count", "equal"];
 
 fn one_of_modes<'a>(alloc: Global) -> Arg<'a>
     ensures rule { (list : NameList) × IsModeNames list × (rule_of result ≡ mode_rule list) }

@@ -12,7 +12,7 @@ use cli_words::{WordsRefusal, number, text};
 use lattice::{Text, Words};
 use std::alloc::{AllocError, Global};
 
-/// What is printed of each output of a circuit.
+/// What is printed of each output of a circuit, or of two circuits.
 #[derive(Clone, Copy, PartialEq, Eq, Debug)]
 pub enum CircuitMode {
     /// The least polynomial.
@@ -21,6 +21,8 @@ pub enum CircuitMode {
     Basis,
     /// Numbers of the least polynomial, whose terms are not listed.
     Count,
+    /// Whether it is the same in a second circuit, or else the least point at which it is not.
+    Equal,
 }
 
 /// What the words ask for: the mode, and the value of each option, which is its default where the
@@ -52,6 +54,7 @@ fn mode_of(matches: &ArgMatches<'_>) -> CircuitMode
         Some("anf") => CircuitMode::Anf,
         Some("basis") => CircuitMode::Basis,
         Some("count") => CircuitMode::Count,
+        Some("equal") => CircuitMode::Equal,
         _ => unreachable!(),
     }
 }
@@ -73,9 +76,9 @@ fn job_of(alloc: Global, matches: &ArgMatches<'_>) -> Result<CircuitJob, AllocEr
 }
 
 /// Reads the words, the program's name first, by the declared command `circuit MODE [--nodes B]
-/// [--terms T] [--order NAMES] [--care NAME] [--invert NAMES]`, where MODE is `anf`, `basis` or
-/// `count`. Which words it takes, and with which values, is the rule of `clap` for a simple
-/// command.
+/// [--terms T] [--order NAMES] [--care NAME] [--invert NAMES]`, where MODE is `anf`, `basis`,
+/// `count` or `equal`. Which words it takes, and with which values, is the rule of `clap` for a
+/// simple command.
 pub fn read_circuit_words(alloc: Global, words: &Words) -> Result<CircuitJob, WordsRefusal>
     ensures usage { IsErrOf result WordsRefusal.Usage → IsRefused words.now }
     ensures taken { OnOk result (fault_of circuit_command words.now ≡ []) }

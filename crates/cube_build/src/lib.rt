@@ -4,6 +4,7 @@
 mod care;
 mod covers;
 mod cubes;
+mod guess;
 mod rows;
 mod tables;
 
@@ -11,4 +12,4 @@ pub use crate::care::{care_points, care_sets, care_sets_from, ones, zeros};
 pub use crate::covers::{PointSet, cover, sets_of};
 pub use crate::cubes::cube;
 pub use crate::rows::row_cubes;
-pub use crate::tables::{SMALL_BITS, first_bits, next_bits};
+pub use crate::tables::{Demand, SMALL_BITS, next_bits};

@@ -1,39 +1,116 @@
-//! The sizes of the tables that a run tries.
-ghost use Rattle.std.specs.Prelude.{◌<◌, ◌≤◌};
-ghost use Rattle.lattice.specs.declared.limits.TheConstants.{MIN_BITS};
+//! The sizes of the tables that a run tries: by a guess at how many nodes it needs, or by steps
+//! where nothing is guessed. A wrong guess costs time or memory, and changes no answer.
+ghost use Rattle.std.specs.Prelude.{◌≡◌, ◌⊎◌, ◌<◌, ◌≤◌};
+ghost use Rattle.lattice.specs.declared.limits.TheConstants.{MIN_BITS, MAX_BITS};
+ghost use Rattle.cube_build.specs.declared.tables.TheConstants.{FEW_BITS, SMALL_BITS};
 
+use crate::guess::guess_cover;
 use pla_reader::Pla;
 
 /// A small table has 2^SMALL_BITS slots. The greater a table is, the longer it takes to make, and
 /// the slower it is where it does not fit the processor's own memory.
 pub const SMALL_BITS: u32 = 12;
 
-const MIDDLE_BITS: u32 = 16;
+/// Tables of 2^FEW_BITS slots are made in less than a millisecond.
+const FEW_BITS: u32 = 16;
 
-/// The next tables have 2^STEP_BITS times as many slots. What was tried on smaller ones takes
-/// little beside a run that needs the greater ones, and a run that needs few takes no great ones.
+/// What is tried in vain on tables of 2^MANY_BITS slots still takes little beside a run that needs
+/// more than 2^MOST_AT_ONCE.
+const MANY_BITS: u32 = 18;
+
+/// Tables of at most so many slots are made at once where a run may need them.
+const MOST_AT_ONCE: u32 = 19;
+
+/// The tables after those that suffice by the guess have 2^NEAR_BITS times as many slots. Those
+/// before them had too few, so that twice as many are needed: the next ones have at most four times
+/// what is needed.
+const NEAR_BITS: u32 = 3;
+
+/// Where nothing is guessed, the next tables have 2^STEP_BITS times as many slots. What was tried
+/// on smaller ones takes little beside a run that needs the greater ones, and a run that needs few
+/// takes no great ones.
 const STEP_BITS: u32 = 4;
 
-/// The size of the tables that a run begins with whose tables have 2^bits slots at most: small
-/// ones, middle ones, or those of that size. Each row may add a node for each input to the cover of
-/// each output: the small ones where all these fit them, and but for bases, whose elements need the
-/// most nodes, the middle ones where these fit a quarter.
-pub fn first_bits(p: &Pla, bits: u32, is_basis: bool) -> u32
-    requires { MIN_BITS ≤ bits }
-    ensures { (MIN_BITS ≤ result) × (result ≤ bits) }
-{
-    let nodes = p.rows.len() as u64 * (p.inputs * p.outputs) as u64;
-    if nodes < 1 << SMALL_BITS {
-        bits.min(SMALL_BITS)
-    } else if nodes <= 1 << (MIDDLE_BITS - 2) && !is_basis {
-        bits.min(MIDDLE_BITS)
-    } else {
-        bits
+/// What a run asks of its tables, from which their sizes are guessed.
+#[derive(Clone, Copy)]
+pub struct Demand<'a> {
+    /// The description, of each output of which something is found.
+    pub pla: &'a Pla,
+    /// Whether bases are found, whose elements need the most nodes.
+    pub is_basis: bool,
+    /// How many nodes are needed beside those that the rows ask for.
+    pub besides: u64,
+}
+
+impl Demand<'_> {
+    /// Whether all rows fit a small table with what is needed beside them: each may add a node for
+    /// each input to the cover of each output.
+    fn is_small(&self) -> bool {
+        let pla = self.pla;
+        let nodes = pla.rows.len() as u64 * (pla.inputs * pla.outputs) as u64;
+        nodes.saturating_add(self.besides) < 1 << SMALL_BITS
+    }
+
+    /// A guess at the nodes of the run: on each output four times as many as in its cover, and for
+    /// bases, where each element is found from the cover, as many times an eighth of the rows.
+    fn guess_nodes(&self) -> u64 {
+        let pla = self.pla;
+        let nodes = guess_cover(pla).saturating_mul(4 * u64::from(pla.outputs));
+        let of_rows = if self.is_basis {
+            nodes.saturating_mul(pla.rows.len() as u64) / 8
+        } else {
+            nodes
+        };
+        of_rows.saturating_add(self.besides)
+    }
+
+    /// The size of the tables that a run begins with whose last ones have 2^most slots: small ones
+    /// where all rows fit them, and else those that suffice by a guess.
+    pub fn first_size(&self, most: u32) -> u32
+        requires { MIN_BITS ≤ most }
+        ensures within { (MIN_BITS ≤ result) × (result ≤ most) }
+        ensures least { (SMALL_BITS ≤ result) ⊎ (result ≡ most) }
+    {
+        if self.is_small() {
+            most.min(SMALL_BITS)
+        } else {
+            size_for(self.guess_nodes(), most)
+        }
+    }
+
+    /// The size of the tables that are tried after those of 2^bits slots, where the last ones have
+    /// 2^most: those that suffice by the guess, or a step more, or the last ones where the guess is
+    /// more than a step.
+    pub fn next_size(&self, bits: u32, most: u32) -> u32
+        requires { (bits < most) × (most ≤ MAX_BITS) }
+        ensures { (bits < result) × (result ≤ most) }
+    {
+        let nodes = self.guess_nodes();
+        let guess = size_for(nodes, most);
+        if bits < guess {
+            return guess;
+        }
+        let step = bits + NEAR_BITS.min(most - bits);
+        if nodes <= 1 << step { step } else { most }
     }
 }
 
-/// The size of the tables that are tried after those of 2^bits slots, where the last ones have
-/// 2^most.
+/// The size of the tables that suffice for so many nodes, where the last ones have 2^most slots.
+fn size_for(nodes: u64, most: u32) -> u32
+    ensures most { result ≤ most }
+    ensures least { (FEW_BITS ≤ result) ⊎ (result ≡ most) }
+{
+    if nodes <= 1 << FEW_BITS {
+        most.min(FEW_BITS)
+    } else if nodes <= 1 << MANY_BITS || most > MOST_AT_ONCE {
+        most.min(MANY_BITS)
+    } else {
+        most
+    }
+}
+
+/// The size of the tables that are tried after those of 2^bits slots, where nothing is guessed and
+/// the last ones have 2^most.
 pub fn next_bits(bits: u32, most: u32) -> u32
     requires { bits < most }
     ensures { (bits < result) × (result ≤ most) }

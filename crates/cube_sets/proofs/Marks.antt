@@ -9,7 +9,6 @@ use Rattle.std.proofs.lemmas.List.Elements.{All-more}
 use Rattle.lattice.specs.Words.{divides}
 use Rattle.lattice.specs.declared.row.Row.{Row}
 use Rattle.lattice.proofs.Polynomials.{divides_by_bits}
-use Rattle.cube_sets.specs.declared.buckets.TheConstants.{BUCKETS}
 use Rattle.cube_sets.specs.Clashes.{SharePoint}
 use Rattle.cube_sets.specs.Buckets.{Fixes, IsMarked, MeetsNone}
 use Rattle.cube_sets.proofs.Pairs.{bit_from_divides, no_mask}
@@ -44,16 +43,17 @@ fixes_cut_other m c r h = ⊎_elim (λ none. inl none) (λ fixed. inr (divides_c
 
 -- ---- marks of the rows so far
 
-module _ (common : ℕ) (offs : List ℕ) (i : ℕ) (inside : i < length offs) where
+module _ (buckets common : ℕ) (offs : List ℕ) (i : ℕ) (inside : i < length offs) where
   -- a mark that grows keeps what is marked
-  marked_still : (off : ℕ) (r : Row) → IsMarked common offs r → IsMarked common (slice_set offs i (bit_or (get_or offs i 0) off)) r
+  marked_still : (off : ℕ) (r : Row) → IsMarked buckets common offs r
+      → IsMarked buckets common (slice_set offs i (bit_or (get_or offs i 0) off)) r
   marked_still off r marked = grind (arith, common_steps, divides_more)
 
-  pub marked_more : (rows : List Row) (k : ℕ) (d : Row) → k < length rows → i ≡ bit_and (get_or rows k d).value common % BUCKETS
-      → All (IsMarked common offs) (take k rows)
-      → All (IsMarked common (slice_set offs i (bit_or (get_or offs i 0) (get_or rows k d).off))) (take (k + 1) rows)
+  pub marked_more : (rows : List Row) (k : ℕ) (d : Row) → k < length rows → i ≡ bit_and (get_or rows k d).value common % buckets
+      → All (IsMarked buckets common offs) (take k rows)
+      → All (IsMarked buckets common (slice_set offs i (bit_or (get_or offs i 0) (get_or rows k d).off))) (take (k + 1) rows)
   marked_more rows k d below is before =
-      All-more (IsMarked common (slice_set offs i (bit_or (get_or offs i 0) (get_or rows k d).off))) rows k d below
+      All-more (IsMarked buckets common (slice_set offs i (bit_or (get_or offs i 0) (get_or rows k d).off))) rows k d below
       (λ j e less. marked_still (get_or rows k d).off (get_or (take k rows) j e) (before j e less))
       (grind (arith, get_or-set_at, divides_added))
 
@@ -66,16 +66,16 @@ same_bucket n common a b first second shared = same_from_bits _ _ (λ i.
     ap (λ x. bit_at x i) (agree_where_shared n a b shared) in
     grind (arith, bit_at_and, bit_at-lt, (divides_by_bits common a.care).0 first i, (divides_by_bits common b.care).0 second i))
 
-none_unmarked_fixed : (common : ℕ) (offs : List ℕ) (a b : Row) → divides common a.care ≡ true → divides common b.care ≡ true
-    → bit_and a.on (get_or offs (bit_and a.value common % BUCKETS) 0) ≡ 0 → IsMarked common offs b → MeetsNone a b
-none_unmarked_fixed common offs a b first second apart marked n c clash =
+none_unmarked_fixed : (buckets common : ℕ) (offs : List ℕ) (a b : Row) → divides common a.care ≡ true → divides common b.care ≡ true
+    → bit_and a.on (get_or offs (bit_and a.value common % buckets) 0) ≡ 0 → IsMarked buckets common offs b → MeetsNone a b
+none_unmarked_fixed buckets common offs a b first second apart marked n c clash =
     let same = same_bucket n common a b first second clash.shared in let at = c.output - 1 in
-    let mark = get_or offs (bit_and a.value common % BUCKETS) 0 in let here : divides b.off mark ≡ true = grind arith in
+    let mark = get_or offs (bit_and a.value common % buckets) 0 in let here : divides b.off mark ≡ true = grind arith in
     let set = (divides_by_bits b.off mark).0 here at in grind (arith, bit_at-zero at, bit_at_and a.on mark at, bit_from_divides)
 
-pub none_unmarked : (common : ℕ) (offs : List ℕ) (a b : Row) → Fixes common a → Fixes common b
-    → bit_and a.on (get_or offs (bit_and a.value common % BUCKETS) 0) ≡ 0 → IsMarked common offs b → MeetsNone a b
-none_unmarked common offs a b first second apart marked n c clash =
+pub none_unmarked : (buckets common : ℕ) (offs : List ℕ) (a b : Row) → Fixes common a → Fixes common b
+    → bit_and a.on (get_or offs (bit_and a.value common % buckets) 0) ≡ 0 → IsMarked buckets common offs b → MeetsNone a b
+none_unmarked buckets common offs a b first second apart marked n c clash =
     let at = c.output - 1 in
     ⊎_elim (λ none. no_mask at a.on none.0 clash.on) (λ f. ⊎_elim (λ none. no_mask at b.off none.1 clash.off)
-    (λ s. none_unmarked_fixed common offs a b f s apart marked n c clash) second) first
+    (λ s. none_unmarked_fixed buckets common offs a b f s apart marked n c clash) second) first

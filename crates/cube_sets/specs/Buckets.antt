@@ -3,16 +3,15 @@ use Rattle.std.specs.Prelude.{◌≡◌, ◌⊎◌, ℕ, ◌%◌, true, bit_and,
 use Rattle.lattice.specs.Family.{divides}
 use Rattle.lattice.specs.declared.row.Row.{Row}
 use Rattle.cube_sets.specs.declared.clash.Clash.{Clash}
-use Rattle.cube_sets.specs.declared.buckets.TheConstants.{BUCKETS}
 use Rattle.cube_sets.specs.Clashes.{IsClashOf}
 
 -- the row gives no value, or fixes these columns
 abbrev pub Fixes : (common : ℕ) → Row → Type 0
 Fixes common r = ((r.on ≡ 0) × (r.off ≡ 0)) ⊎ (divides common r.care ≡ true)
 
--- the mark of the row's bucket has all outputs that the row says to be 0
-abbrev pub IsMarked : (common : ℕ) → List ℕ → Row → Type 0
-IsMarked common offs r = divides r.off (slice_index_or offs (bit_and r.value common % BUCKETS) 0) ≡ true
+-- of so many buckets, the mark of the row's has all outputs that the row says to be 0
+abbrev pub IsMarked : (buckets common : ℕ) → List ℕ → Row → Type 0
+IsMarked buckets common offs r = divides r.off (slice_index_or offs (bit_and r.value common % buckets) 0) ≡ true
 
 -- the on-row `a` does not contradict the off-row `b`
 abbrev pub MeetsNone : Row → Row → Type 0

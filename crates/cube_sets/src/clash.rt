@@ -3,12 +3,11 @@ ghost use Rattle.std.specs.Prelude.{◌≡◌, ◌↔◌, ◌^◌, ◌<◌, ℕ,
 ghost use Rattle.std.specs.List.{All, Contains};
 ghost use Rattle.lattice.specs.Family.{divides};
 ghost use Rattle.lattice.specs.Rows.{IsConsistent};
-ghost use Rattle.cube_sets.specs.declared.buckets.TheConstants.{BUCKETS};
 ghost use Rattle.cube_sets.specs.Buckets.{Fixes, IsMarked};
 ghost use Rattle.cube_sets.specs.Clashes.{SharePoint, IsClashOf, IsAmong, IsClash, IsLeastOf};
 ghost use Rattle.cube_sets.specs.Clashes.{AnswersUpTo};
 
-use crate::buckets::{BUCKETS, common_care, mark_offs, may_clash};
+use crate::buckets::{BUCKETS, OTHER_BUCKETS, common_care, mark_offs, may_clash};
 use lattice::{Kind, Row};
 use pla_reader::Pla;
 
@@ -60,15 +59,23 @@ fn clash_of(a: &Row, b: &Row, outputs: u32) -> Option<Clash>
 }
 
 /// The least clash of the on-row `a` with an off-row of `p`, of those at an output up to `outputs`.
-/// The outputs of value 0 are marked in the buckets of their rows.
-fn least_with(p: &Pla, offs: &[u64], common: u64, a: &Row, outputs: u32) -> Option<Clash>
+/// The outputs of value 0 are marked twice, each time in other buckets of their rows.
+fn least_with(
+    p: &Pla,
+    offs: &[u64],
+    others: &[u64],
+    common: u64,
+    a: &Row,
+    outputs: u32,
+) -> Option<Clash>
     requires row { Contains p.now.rows a.now }
-    requires length { length offs.now ≡ BUCKETS }
+    requires some { (0 < length offs.now) × (0 < length others.now) }
     requires fixed { All (Fixes common) p.now.rows }
-    requires marked { All (IsMarked common offs.now) p.now.rows }
+    requires marked { All (IsMarked (length offs.now) common offs.now) p.now.rows }
+    requires marked_again { All (IsMarked (length others.now) common others.now) p.now.rows }
     ensures { AnswersUpTo outputs (IsAmong (IsClashOf p.now.inputs a.now) p.now.rows) result }
 {
-    if outputs == 0 || !may_clash(a, offs, common) {
+    if outputs == 0 || !may_clash(a, offs, common) || !may_clash(a, others, common) {
         return None;
     }
     let mut least = None;
@@ -91,11 +98,13 @@ fn least_clash(p: &Pla) -> Option<Clash>
     let common = common_care(p.rows.as_slice());
     let mut offs = [0; BUCKETS];
     mark_offs(&mut offs, p.rows.as_slice(), common);
+    let mut others = [0; OTHER_BUCKETS];
+    mark_offs(&mut others, p.rows.as_slice(), common);
     let mut least = None;
     // Lines ascend, so after a clash only one at a lesser output can be less.
     let mut outputs = p.outputs;
     for a in p.rows.as_slice() {
-        if let Some(clash) = least_with(p, &offs, common, a, outputs) {
+        if let Some(clash) = least_with(p, &offs, &others, common, a, outputs) {
             outputs = clash.output - 1;
             least = Some(clash);
         }

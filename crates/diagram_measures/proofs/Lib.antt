@@ -1,2 +1,4 @@
 mod MeasureLemmas
 mod MetLemmas
+mod LeastLemmas
+pub mod LeastMembers

@@ -1,5 +1,5 @@
--- What is measured of a polynomial and of its diagram.
-use Rattle.std.specs.Prelude.{ℕ, max, count_ones, [], ◌∷◌, length}
+-- What is measured of a polynomial and of its diagram, and the least member of a family.
+use Rattle.std.specs.Prelude.{ℕ, max, count_ones, Option, None, Some, [], ◌∷◌, length}
 use Rattle.lattice.specs.Family.{Family}
 use Rattle.lattice.specs.WorkingLists.{working_set}
 
@@ -11,3 +11,8 @@ degree_of (m ∷ ms) = max (count_ones m) (degree_of ms)
 -- the number of distinct nodes of the diagram over n variables: of the subfamilies, among which the two constants are not
 abbrev pub nodes_of : ℕ → Family → ℕ
 nodes_of n f = length (working_set n (f ∷ []))
+
+-- the least member, if there is any: the first one, since a family is the ascending list of its members
+abbrev pub least_member_of : Family → Option ℕ
+least_member_of [] = None
+least_member_of (m ∷ ms) = Some m

@@ -1,7 +1,7 @@
 ghost use Rattle.std.specs.Prelude.{◌≤◌};
 
 use aig_reader::{Aig, read};
-use circuit_solve::{Solution, measure_circuit, solve_circuit};
+use circuit_solve::{Solution, least_ones, measure_circuit, solve_circuit};
 use lattice::{Mono, MonoLists};
 use node_store::SolveRefusal;
 use set_algebra::TermsRefusal;
@@ -25,6 +25,9 @@ const ONE_HOT: &[u8] =
 // x1 + .. + x8.
 const PARITY: &[u8] =
     b"aig 29 8 0 1 21\n59\n\x0d\x03\x10\x01\x01\x02\x01\x10\x04\x10\x01\x02\x01\x14\x04\x14\x01\x02\x01\x18\x04\x18\x01\x02\x01\x1c\x04\x1c\x01\x02\x01 \x04 \x01\x02\x01$\x04$\x01\x02";
+
+// 0 and 1, of one input.
+const CONSTANTS: &[u8] = b"aag 1 1 0 2 0\n2\n0\n1\n";
 
 // The circuit that the bytes say.
 fn circuit_of(alloc: Global, bytes: &[u8]) -> Result<Aig, Fail> {
@@ -174,6 +177,65 @@ fn measures_that_need_many_nodes(rt: HostRuntime) -> Result<(), Fail> {
     let aig = circuit_of(rt.alloc(), PARITY)?;
     assert!(rt; 1 <= aig.inputs);
     let full = measure_circuit(rt.alloc(), 4, &aig, None);
+    assert!(rt; matches!(full, Err(SolveRefusal::Full)));
+    Ok(())
+}
+
+// The least points at which the outputs of a circuit are 1.
+fn found_ones(
+    alloc: Global,
+    bytes: &[u8],
+    bits: u32,
+    care: Option<usize>,
+) -> Result<Result<Vec<Option<Mono>>, SolveRefusal>, Fail>
+    requires bits { (4 ≤ bits) × (bits ≤ 16) }
+{
+    let aig = circuit_of(alloc, bytes)?;
+    if aig.inputs == 0 {
+        return Err("an input".into());
+    }
+    if let Some(output) = care {
+        if output >= aig.outputs.len() {
+            return Err("the output".into());
+        }
+    }
+    Ok(least_ones(alloc, bits, &aig, care))
+}
+
+// The first of 0, 1, 2 and so on at which the output is 1, where each point is cared for.
+#[test]
+fn least_ones_of_all_points(rt: HostRuntime) -> Result<(), Fail> {
+    let xor = found_ones(rt.alloc(), XOR, 8, None)??;
+    assert_eq!(rt; xor.as_slice(), [Some(Mono(1))].as_slice());
+    let majority = found_ones(rt.alloc(), MAJORITY, 8, None)??;
+    assert_eq!(rt; majority.as_slice(), [Some(Mono(3))].as_slice());
+    let adder = found_ones(rt.alloc(), ADDER, 8, None)??;
+    assert_eq!(rt; adder.as_slice(), [Some(Mono(1)), Some(Mono(3))].as_slice());
+    let constants = found_ones(rt.alloc(), CONSTANTS, 8, None)??;
+    assert_eq!(rt; constants.as_slice(), [None, Some(Mono(0))].as_slice());
+    let parity = found_ones(rt.alloc(), PARITY, 10, None)??;
+    assert_eq!(rt; parity.as_slice(), [Some(Mono(1))].as_slice());
+    Ok(())
+}
+
+// At 010 to 111, at 100 to 111, at 001, 010 and 100, and at no point.
+#[test]
+fn least_ones_of_some_points(rt: HostRuntime) -> Result<(), Fail> {
+    let ones = found_ones(rt.alloc(), ONE_HOT, 10, Some(0))??;
+    assert_eq!(rt; ones.as_slice(), [Some(Mono(4)), Some(Mono(2))].as_slice());
+    let ones = found_ones(rt.alloc(), ONE_HOT, 10, Some(1))??;
+    assert_eq!(rt; ones.as_slice(), [Some(Mono(4)), Some(Mono(4))].as_slice());
+    let ones = found_ones(rt.alloc(), ONE_HOT, 10, Some(2))??;
+    assert_eq!(rt; ones.as_slice(), [Some(Mono(2)), Some(Mono(4))].as_slice());
+    let ones = found_ones(rt.alloc(), CONSTANTS, 8, Some(0))??;
+    assert_eq!(rt; ones.as_slice(), [None].as_slice());
+    Ok(())
+}
+
+// The nodes have a limit.
+#[test]
+fn least_ones_that_need_many_nodes(rt: HostRuntime) -> Result<(), Fail> {
+    let full = found_ones(rt.alloc(), PARITY, 4, None)?;
     assert!(rt; matches!(full, Err(SolveRefusal::Full)));
     Ok(())
 }

@@ -1,7 +1,8 @@
 ghost use Rattle.std.specs.Prelude.{◌<◌, ◌≤◌, ◌^◌};
 ghost use Rattle.std.specs.List.{All};
 
-use diagram_measures::{Measures, measure};
+use diagram_measures::{Measures, least_member, measure};
+use lattice::Mono;
 use node_store::{PlainStore, any_plan};
 use set_algebra::{family_of, power};
 use std::alloc::Global;
@@ -67,6 +68,41 @@ fn large_products(rt: HostRuntime) -> Result<(), Fail> {
     assert_eq!(rt;
         measured_product(rt.alloc(), 62)?,
         measures(4_611_686_018_427_387_904, 62, 62)
+    );
+    Ok(())
+}
+
+// The least of these numbers.
+fn least_of(alloc: Global, vars: u32, numbers: &[u64]) -> Result<Option<Mono>, Fail>
+    requires vars { (1 ≤ vars) × (vars ≤ 62) }
+    requires below { All (λ m. m < 2 ^ vars) numbers.now }
+{
+    let mut store = PlainStore::make(alloc, 10, vars, any_plan(vars))?;
+    let family = family_of(&mut store, vars, numbers)?;
+    Ok(least_member(&mut store, family))
+}
+
+// Over four variables, and over the most.
+#[test]
+fn least_members(rt: HostRuntime) -> Result<(), Fail> {
+    assert_eq!(rt; least_of(rt.alloc(), 4, &[])?, None);
+    assert_eq!(rt; least_of(rt.alloc(), 4, &[0])?, Some(Mono(0)));
+    assert_eq!(rt; least_of(rt.alloc(), 4, &[15, 0])?, Some(Mono(0)));
+    assert_eq!(rt; least_of(rt.alloc(), 4, &[10])?, Some(Mono(10)));
+    assert_eq!(rt; least_of(rt.alloc(), 4, &[8, 4, 2, 1])?, Some(Mono(1)));
+    assert_eq!(rt; least_of(rt.alloc(), 4, &[12, 9, 5, 6])?, Some(Mono(5)));
+    assert_eq!(rt; least_of(rt.alloc(), 4, &[14, 15, 13])?, Some(Mono(13)));
+    assert_eq!(rt;
+        least_of(rt.alloc(), 62, &[4_611_686_018_427_387_903])?,
+        Some(Mono(4_611_686_018_427_387_903))
+    );
+    assert_eq!(rt;
+        least_of(
+            rt.alloc(),
+            62,
+            &[4_611_686_018_427_387_903, 2_305_843_009_213_693_952]
+        )?,
+        Some(Mono(2_305_843_009_213_693_952))
     );
     Ok(())
 }

@@ -5,6 +5,10 @@
 #[cfg(test)]
 mod of_aig_inputs;
 #[cfg(test)]
+mod of_aig_miter;
+#[cfg(test)]
+mod of_aig_pairs;
+#[cfg(test)]
 mod of_aig_reader;
 #[cfg(test)]
 mod of_anf_printer;

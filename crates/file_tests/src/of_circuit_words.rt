@@ -58,6 +58,10 @@ fn words_that_are_taken(rt: HostRuntime) -> Result<(), Fail> {
         mode: CircuitMode::Basis,
         ..plain
     };
+    let equal = Wanted {
+        mode: CircuitMode::Equal,
+        ..plain
+    };
     let count = Wanted {
         mode: CircuitMode::Count,
         ..plain
@@ -76,6 +80,7 @@ fn words_that_are_taken(rt: HostRuntime) -> Result<(), Fail> {
         ("circuit anf", plain),
         ("circuit basis", basis),
         ("circuit count", count),
+        ("circuit equal", equal),
         (" count", count),
         ("circuit -- basis", basis),
         ("circuit anf --nodes=7", seven),

@@ -1,12 +1,12 @@
 //! Phase 2 of a run: the elements of the bases of all outputs, from the leads that phase 1 found.
 ghost use Rattle.std.specs.Prelude.{◌≡◌, ◌+◌, ◌<◌, ◌≤◌, ◌^◌, ◌++◌, [], IfOk, IsErrOf, OnOk, length};
-ghost use Rattle.std.specs.Prelude.{map, reverse, sum_by};
+ghost use Rattle.std.specs.Prelude.{map, reverse, sum_by, true};
 ghost use Rattle.lattice.specs.Family.{Covers};
 ghost use Rattle.lattice.specs.Rows.{IsConsistent};
-ghost use Rattle.lattice.specs.WorkingLists.{output_numbers, second_phase, working_set};
+ghost use Rattle.lattice.specs.WorkingLists.{is_basis, output_numbers, second_phase, working_set};
 ghost use Rattle.lattice.specs.declared.kind.Mode.{Mode};
 ghost use Rattle.lattice.specs.declared.kind.Mode.TheVariants.{Basis};
-ghost use Rattle.node_store.specs.Stores.{Grows, IsFull};
+ghost use Rattle.node_store.specs.Stores.{Grows, IsFull, Reads};
 ghost use Rattle.computed_cache.specs.Cached.{cached_state};
 ghost use Rattle.pla_reader.specs.Reading.{description};
 ghost use Rattle.interp_run.specs.Phases.{AreLeads, AreOf, IsFirst, IsSecond, by_output};
@@ -24,8 +24,8 @@ use set_algebra::{WalkRefusal, count_terms, lists_of};
 use std::alloc::Global;
 use std::thread::Threads;
 
-/// A list without monomials for each output.
-pub(crate) fn list_no_leads(alloc: Global, outputs: u32) -> Result<MonoLists, Memory>
+// A list without monomials for each output.
+fn list_no_leads(alloc: Global, outputs: u32) -> Result<MonoLists, Memory>
     ensures { IfOk result (λ lists. map reverse lists ≡ map (λ _. []) (output_numbers outputs)) }
 {
     let mut lists = MonoLists::new(alloc);
@@ -35,9 +35,9 @@ pub(crate) fn list_no_leads(alloc: Global, outputs: u32) -> Result<MonoLists, Me
     Ok(lists)
 }
 
-/// The leads of each output, from the greatest down, in mode basis, where there are no more than
-/// `limit` terms in what was found: in the polynomials and, as the leads, of the bases.
-pub(crate) fn list_leads<S: Store>(
+// The leads of each output, from the greatest down, in mode basis, where there are no more than
+// `limit` terms in what was found: in the polynomials and, as the leads, of the bases.
+fn list_found_leads<S: Store>(
     alloc: Global,
     store: &mut S,
     pla: &Pla,
@@ -46,6 +46,7 @@ pub(crate) fn list_leads<S: Store>(
 ) -> Result<MonoLists, WalkRefusal>
     requires { AreOf (S.state store.old) (description pla.now) found.now
         (first_tasks (description pla.now) Basis) }
+    ensures reads { Reads (S.state store.old) (S.state store.new) }
     ensures leads { IfOk result (AreLeads (description pla.now) Basis) }
     ensures within { OnOk result (terms_of (S.state store.old) found.now ≤ limit) }
     ensures terms { IsErrOf result WalkRefusal.Over
@@ -57,6 +58,32 @@ pub(crate) fn list_leads<S: Store>(
     };
     let mut left = limit - count;
     lists_of(alloc, store, leads, &mut left)
+}
+
+/// The leads of each output, from the greatest down, from what phase 1 found. In mode basis there
+/// are no more than `limit` terms in this: in the polynomials and, as the leads, of the bases. In
+/// the other modes there are no leads, and nothing is counted.
+pub(crate) fn list_leads<S: Store>(
+    alloc: Global,
+    store: &mut S,
+    pla: &Pla,
+    mode: Mode,
+    found: &[Handle],
+    limit: u64,
+) -> Result<MonoLists, WalkRefusal>
+    requires { AreOf (S.state store.old) (description pla.now) found.now
+        (first_tasks (description pla.now) mode) }
+    ensures reads { Reads (S.state store.old) (S.state store.new) }
+    ensures leads { IfOk result (AreLeads (description pla.now) mode) }
+    ensures within { OnOk result (is_basis mode ≡ true
+        → terms_of (S.state store.old) found.now ≤ limit) }
+    ensures terms { IsErrOf result WalkRefusal.Over → (is_basis mode ≡ true)
+        × (limit < terms_of (S.state store.old) found.now) }
+{
+    match mode {
+        Mode::Basis => list_found_leads(alloc, store, pla, found, limit),
+        Mode::Anf | Mode::Check | Mode::Gen => Ok(list_no_leads(alloc, pla.outputs)?),
+    }
 }
 
 // The tasks with those for the elements of an output behind them, by ascending lead.

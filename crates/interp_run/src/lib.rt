@@ -14,7 +14,6 @@ mod plan;
 mod printed;
 mod solve;
 mod summary;
-mod tables;
 mod tasks;
 mod top;
 

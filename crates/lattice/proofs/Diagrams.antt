@@ -44,6 +44,8 @@ pub use Rattle.lattice.proofs.WorkingSets.{covers_nil, covers_one, covers_head, 
 pub use Rattle.lattice.proofs.WorkingSets.{covers_nothing, covers_more, covers_lists, part_at}
 -- What working sets are.
 pub use Rattle.lattice.proofs.WorkingSets.{working_set_members, working_set_is_node_list, working_set_is_distinct}
+-- The places of probe paths.
+pub use Rattle.lattice.proofs.Paths.{path_is_whole, place_below, slots_in_lines}
 -- The number of slots.
 pub use Rattle.lattice.proofs.Tables.{shifted_one, slots_most}
 -- Filled slots, and filling one.

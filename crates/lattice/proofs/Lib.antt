@@ -12,6 +12,7 @@ mod WordParts
 mod Pointwise
 mod WorkingSets
 mod Tables
+mod Paths
 mod Histories
 mod SoundTables
 mod Ideals

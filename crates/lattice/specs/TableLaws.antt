@@ -1,14 +1,26 @@
--- Laws on tables: filling keeps words, each handle of a canonical one denotes a family, what is known of handles is one-to-one, and
--- what makes a table sound.
-use Rattle.std.specs.Prelude.{◌≡◌, ◌^◌, ℕ, List, Option, Some, None, length, slice_index, slice_set}
+-- Laws on tables: a probe path comes to each place once, filling keeps words, each handle of a canonical one denotes a family, what is
+-- known of handles is one-to-one, and what makes a table sound.
+use Rattle.std.specs.Prelude.{◌≡◌, ◌<◌, ◌≤◌, ◌^◌, ℕ, List, Option, Some, None, length, slice_index, slice_set}
 use Rattle.std.specs.List.{All}
 use Rattle.lattice.specs.Family.{Family}
 use Rattle.lattice.specs.Tables.{IsHandle, IsCanonical, KeepsWords, DenotesIn}
-use Rattle.lattice.specs.NodeWords.{cache_bits}
+use Rattle.lattice.specs.NodeWords.{place, cache_bits}
 use Rattle.lattice.specs.CacheWords.{IsVacantOrTrue}
 use Rattle.lattice.specs.History.{FitsHistory}
 use Rattle.lattice.specs.SoundTables.{IsSoundOn, IsSoundTable}
 use Rattle.lattice.specs.declared.entry.Entry.{Entry}
+use Rattle.lattice.specs.declared.limits.TheConstants.{MIN_BITS}
+
+-- of its 2 ^ bits places the word's path comes to this one once
+pub record ComesOnce (bits w at : ℕ) : Type 0 where
+  pub steps : ℕ
+  pub within : steps < 2 ^ bits
+  pub there : place bits w steps ≡ at
+  pub only : (d : ℕ) → d < 2 ^ bits → place bits w d ≡ at → d ≡ steps
+
+-- A probe path comes to each place of the table once.
+abbrev pub PathIsWhole : Type 0
+PathIsWhole = (bits w at : ℕ) → MIN_BITS ≤ bits → at < 2 ^ bits → ComesOnce bits w at
 
 -- Filling a vacant place keeps the words of all filled ones.
 abbrev pub FillingKeepsWords : Type 0

@@ -13,7 +13,8 @@ pub use Rattle.lattice.specs.History.{refused}
 pub use Rattle.lattice.specs.Ideals.{Ideal, Intersection, IsElementOf, IsLeadOf, IsReducedBasisOf, IsTop, Polynomials, Sum}
 pub use Rattle.lattice.specs.Interpolation.{Fits, IsLeast, IsLowerPart, IsUpperPart}
 unfoldable pub use Rattle.lattice.specs.Interpolation.{interpolate, lower_points, upper_ones, upper_zeros}
-pub use Rattle.lattice.specs.NodeWords.{cache_bits, cache_word, hi_of, key_at, lo_of, mixed, mixed_key, node_word, result_of, var_of}
+pub use Rattle.lattice.specs.NodeWords.{cache_bits, cache_word, hi_of, key_at, line_at, lo_of, mixed, mixed_key, mixing}
+pub use Rattle.lattice.specs.NodeWords.{node_word, result_of, stride, var_of}
 unfoldable pub use Rattle.lattice.specs.NodeWords.{cache_place, place, quotient}
 pub use Rattle.lattice.specs.Operations.{IsAllowed, IsClosed, is_pointwise, takes_family, takes_variable, test_of, variable}
 unfoldable pub use Rattle.lattice.specs.Operations.{answer, polynomial_where, product_of}
@@ -23,7 +24,7 @@ pub use Rattle.lattice.specs.Rows.{IsConsistent, care_ones, care_zeros, dc_rows,
 pub use Rattle.lattice.specs.Rows.{on_set}
 unfoldable pub use Rattle.lattice.specs.Rows.{cover, cube, in_cube, points_where, rows_with}
 pub use Rattle.lattice.specs.SoundTables.{HasFamily, IsKeptWord, IsSoundOn, IsSoundTable}
-pub use Rattle.lattice.specs.TableLaws.{AgreesWith, KnownIsOneToOne, UnionAgrees, first_known}
+pub use Rattle.lattice.specs.TableLaws.{AgreesWith, ComesOnce, KnownIsOneToOne, PathIsWhole, UnionAgrees, first_known}
 pub use Rattle.lattice.specs.Tables.{DenotesIn, IsCanonical, IsFilled, IsHandle, IsNodeWord, IsReached, IsStored, KeepsWords, MayFill}
 pub use Rattle.lattice.specs.Tables.{nothing, slot, unit, var_at}
 pub use Rattle.lattice.specs.WorkingLists.{care_set, first_rows, is_basis, output_numbers}

@@ -15,7 +15,7 @@ ghost use Rattle.lattice.specs.Laws.{StoredFit, FittingIsLegal, HistoriesAppend,
 ghost use Rattle.lattice.specs.Laws.{ConsistentByRows, RoseIsGreater};
 ghost use Rattle.lattice.specs.TableLaws.{FillingKeepsWords, HandlesDenote, KnownIsOneToOne};
 ghost use Rattle.lattice.specs.TableLaws.{UnionAgrees, AgreementStays};
-ghost use Rattle.lattice.specs.TableLaws.{WordsAreSound, FittingIsSound};
+ghost use Rattle.lattice.specs.TableLaws.{WordsAreSound, FittingIsSound, PathIsWhole};
 ghost use Rattle.lattice.specs.IdealLaws.{IntersectionIsOfUnion, SumIsOfIntersection};
 ghost use Rattle.lattice.specs.IdealLaws.{LeadsOfIdeal, BasisOfIdeal};
 
@@ -220,6 +220,11 @@ pub fn rose_is_greater()
 /// A description is consistent where no on-row and off-row of one output share a point.
 pub fn consistent_by_rows()
     ensures { ConsistentByRows }
+{}
+
+/// The probe path of a word comes to each place of the table once.
+pub fn path_is_whole()
+    ensures { PathIsWhole }
 {}
 
 /// Filling a vacant place keeps the words of all filled ones.

@@ -17,7 +17,8 @@ mod words;
 pub use crate::entry::Entry;
 pub use crate::kind::{Kind, Mode};
 pub use crate::limits::{
-    HANDLE_UNIT, KEY_BITS, MAX_BITS, MAX_VARS, MIN_BITS, MIN_CACHE_BITS, MIXING, TOP_UNIT, UNMIXING,
+    HANDLE_UNIT, KEY_BITS, LINE, MAX_BITS, MAX_VARS, MIN_BITS, MIN_CACHE_BITS, MIXING, TOP_UNIT,
+    UNMIXING,
 };
 pub use crate::lists::{MonoLists, Monos, Name, Names, Order, Pages, Seq, Text};
 pub use crate::memory::Memory;

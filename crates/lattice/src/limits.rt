@@ -13,6 +13,10 @@ pub const MAX_BITS: u32 = 23;
 /// these are more.
 pub const MIN_CACHE_BITS: u32 = 12;
 
+/// The number of words that stand together in a line of a processor's cache. The places of a table
+/// are counted in lines of so many.
+pub const LINE: usize = 8;
+
 /// What a word counts for one in its upper handle: a handle in a word is below it.
 pub const HANDLE_UNIT: u64 = 1 << 24;
 

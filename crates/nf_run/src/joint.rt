@@ -15,8 +15,8 @@ ghost use Rattle.nf_run.specs.Joint.{second_phase_list};
 use crate::phases::{first_phase, second_phase};
 use crate::plans::{Sought, plan_for};
 use computed_cache::CachedPass;
-use cube_build::{first_bits, next_bits};
-use lattice::{Mono, MonoLists, Monos};
+use cube_build::Demand;
+use lattice::{Kind, Mono, MonoLists, Monos};
 use node_store::Store;
 use pla_reader::Pla;
 use set_algebra::{TermsRefusal, lists_upto, walk_upto};
@@ -164,6 +164,16 @@ fn joint_basis_at_once(
     basis_in(alloc, &mut pass, p, joining, leads.as_slice(), limit)
 }
 
+/// What the basis asks of its tables. In type f all points are care points, so that it has no
+/// elements.
+fn demand_of(p: &Pla) -> Demand<'_> {
+    Demand {
+        pla: p,
+        is_basis: p.kind != Kind::F,
+        besides: 0,
+    }
+}
+
 /// The reduced basis of the intersection or of the sum of two ideals, those of the care points of
 /// outputs 1 and 2: the terms of each element from the greatest to the least, the elements by
 /// ascending lead. Each of two phases works on a table of 2^bits slots of its own: the first finds
@@ -189,10 +199,11 @@ pub fn joint_basis(
         → IsJointBasis (description p.now) joining basis
         → first_refused bits limit (description p.now) joining basis ≡ Some e) }
 {
-    let mut tried = first_bits(p, bits, true);
+    let demand = demand_of(p);
+    let mut tried = demand.first_size(bits);
     while tried < bits {
         match joint_basis_at_once(alloc, tried, p, joining, limit) {
-            Err(TermsRefusal::Full) => tried = next_bits(tried, bits),
+            Err(TermsRefusal::Full) => tried = demand.next_size(tried, bits),
             basis => return basis,
         }
     }

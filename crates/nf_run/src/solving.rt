@@ -12,13 +12,18 @@ use crate::answering::answer_queries;
 use crate::plans::{Sought, plan_for};
 use crate::queries::Query;
 use computed_cache::CachedPass;
-use cube_build::{SMALL_BITS, first_bits, next_bits};
+use cube_build::{Demand, next_bits};
 use lattice::MonoLists;
 use node_store::Store;
 use pla_reader::Pla;
 use set_algebra::{TermsRefusal, lists_upto};
 use std::alloc::Global;
 use unique_table::Shared;
+
+/// Queries begin on tables of at most 2^MIDDLE_BITS slots, however many nodes are guessed: these
+/// are filled in vain in little time beside a run that needs greater ones, and the guess is often
+/// wrong for the points where a polynomial is 1.
+const MIDDLE_BITS: u32 = 16;
 
 /// The answers' terms, each from the greatest to the least, found in a store with the plan of the
 /// queries.
@@ -58,27 +63,20 @@ fn reduce_on(
     reduce_in(alloc, &mut pass, p, queries, limit)
 }
 
-/// Whether the terms of the queries may need more nodes than a small table has: the points where a
-/// polynomial is 1 may need twice as many for each term more.
-fn need_many(p: &Pla, queries: &[Query]) -> bool {
-    let mut nodes = 0u64;
+/// What the queries ask of their tables: polynomials from the points of each output, and for each
+/// query the points where it is 1 and where it is 0. For each of its terms more these may need
+/// twice as many nodes, but no more than there are points.
+fn demand_of<'a>(p: &'a Pla, queries: &[Query]) -> Demand<'a> {
+    let mut besides = 0u64;
     for query in queries {
         let terms = query.terms.len().min(32);
-        nodes = nodes.saturating_add(u64::from(p.inputs) << terms);
+        let nodes = u64::from(p.inputs) << (terms + 1);
+        besides = besides.saturating_add(nodes.min(1 << p.inputs.min(32)));
     }
-    nodes >= 1 << (SMALL_BITS - 1)
-}
-
-/// The size of the tables that queries begin with where the last ones have 2^bits slots.
-fn first_bits_for(p: &Pla, queries: &[Query], bits: u32) -> u32
-    requires { MIN_BITS ≤ bits }
-    ensures { (MIN_BITS ≤ result) × (result ≤ bits) }
-{
-    let first = first_bits(p, bits, false);
-    if first == SMALL_BITS && first < bits && need_many(p, queries) {
-        next_bits(first, bits)
-    } else {
-        first
+    Demand {
+        pla: p,
+        is_basis: false,
+        besides,
     }
 }
 
@@ -107,7 +105,7 @@ pub fn reduce(
         → (query_nodes (description p.now) queries.now ≤ 2 ^ bits)
         × (limit < answer_terms (description p.now) queries.now) }
 {
-    let mut tried = first_bits_for(p, queries, bits);
+    let mut tried = demand_of(p, queries).first_size(bits.min(MIDDLE_BITS));
     while tried < bits {
         match reduce_on(alloc, tried, p, queries, limit) {
             Err(TermsRefusal::Full) => tried = next_bits(tried, bits),

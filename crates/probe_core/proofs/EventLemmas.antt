@@ -12,9 +12,10 @@ use Rattle.lattice.specs.declared.entry.Entry.TheVariants.{Met}
 use Rattle.lattice.specs.Words.{lo_of, hi_of, place, cache_bits, key_at, result_of, IsTrueWord, IsFilled, IsHandle, IsNodeWord, IsCanonical}
 use Rattle.lattice.specs.Words.{MayFill, KeepsWords, FitsHistory, HasFamily, IsVacantOrTrue}
 use Rattle.lattice.proofs.Diagrams.{grows_handle, fits_append, fits_grows, slot_holds, fills, filling_grows, node_some, no_word}
-use Rattle.lattice.proofs.Diagrams.{none_filled, met_slot, result_handle, sound_on, sound_table, sound_word, true_word_stays}
+use Rattle.lattice.proofs.Diagrams.{none_filled, met_slot, place_below, result_handle, sound_on, sound_table, sound_word, true_word_stays}
 use Rattle.lattice.proofs.Polynomials.{All-from_map, at_or}
 use Rattle.node_store.specs.declared.store.Handle.{Handle}
+use Rattle.lattice.specs.declared.limits.TheConstants.{MIN_BITS}
 use Rattle.lattice.specs.declared.memory.Memory.{Memory}
 use Rattle.probe_core.specs.declared.event.Event.{Event}
 use Rattle.probe_core.specs.declared.event.Seen.{Seen}
@@ -23,7 +24,6 @@ use Rattle.probe_core.specs.Machines.{SeatState, Machine}
 use Rattle.probe_core.specs.Seats.{handle, knows, knows_key, learned, numbers, united, met_more, told_more, first_seat, twin, joined, ended}
 use Rattle.probe_core.specs.Events.{start, no_seat, seat_at, MayExchange, MayTake, meets, takes, looks, after, after_all, MayTakeAll}
 use Rattle.probe_core.specs.Soundness.{IsSoundSeat, IsSoundMachine, IsLawful}
-use Rattle.probe_core.proofs.Places.{place_below}
 
 -- ---- what a seat has fits the table
 
@@ -115,8 +115,9 @@ start_fits bits vars =
 -- ---- one event
 
 -- an exchange is made at a place of the table
-pub within : (s : Machine) (seat : SeatState) (at w : ℕ) → MayExchange s seat at w → at < 2 ^ s.bits
-within s seat at w may = let p = may.probed in subst (λ (k : ℕ). k < 2 ^ s.bits) p.there (place_below s.bits w p.steps)
+pub within : (s : Machine) (seat : SeatState) (at w : ℕ) → MayExchange s seat at w → MIN_BITS ≤ s.bits → at < 2 ^ s.bits
+within s seat at w may least =
+    let p = may.probed in subst (λ (k : ℕ). k < 2 ^ s.bits) p.there (place_below s.bits w p.steps least)
 
 -- by whether a word is vacant
 by_word : (P : Machine → Type 0) (t u : Machine) (found : ℕ) → (found ≡ 0 → P t) → (found ≢ 0 → P u) → P (if found == 0 then t else u)
@@ -175,10 +176,10 @@ module _ (s : Machine) (fits : Fits s) where
   }
 
   -- a vacant place takes it
-  takes_fit : (id at w : ℕ) → slice_index s.words at ≡ 0 → MayExchange s (seat_at s id) at w → Fits (takes s at w)
-  takes_fit id at w vacant may =
+  takes_fit : (id at w : ℕ) → slice_index s.words at ≡ 0 → MayExchange s (seat_at s id) at w → at < 2 ^ s.bits → Fits (takes s at w)
+  takes_fit id at w vacant may inside =
       let keeps = filling_grows s.words at w vacant in record {
-        canonical = fills s.bits s.vars s.words at w fits.canonical vacant (within s (seat_at s id) at w may) (may_fill id at w may);
+        canonical = fills s.bits s.vars s.words at w fits.canonical vacant inside (may_fill id at w may);
         size = fits.size;
         cache = λ p. elim (fits.cache p) [
           | inl none ↦ inl none
@@ -193,26 +194,39 @@ module _ (s : Machine) (fits : Fits s) where
 
 -- the same where the seat that exchanged the word meets its slot
 won_fits : (s : Machine) → Fits s → (id at w : ℕ) → slice_index s.words at ≡ 0 → MayExchange s (seat_at s id) at w
-    → Fits (takes (meets s id at w) at w)
-won_fits s fits id at w vacant may =
+    → at < 2 ^ s.bits → Fits (takes (meets s id at w) at w)
+won_fits s fits id at w vacant may inside =
     let here : slice_index (set s.words at w) at ≡ w =
-    get_or-set_same s.words at w 0 (grind (arith, (fits.canonical).size, within s (seat_at s id) at w may)) in
-    meets_fit (takes s at w) (takes_fit s fits id at w vacant may) id at w here
+    get_or-set_same s.words at w 0 (grind (arith, (fits.canonical).size, inside)) in
+    meets_fit (takes s at w) (takes_fit s fits id at w vacant may inside) id at w here
     (node_some s.vars s.words w (may_fill s fits id at w may).node)
 
-after_fits : (s : Machine) (e : Event) → Fits s → MayTake s e → Fits (after s e)
-after_fits s (Load id at) fits may =
+-- an event that exchanges a word does so at a place of the table
+abbrev IsInside : Machine → Event → Type 0
+IsInside s (Exchange id at w) = at < 2 ^ s.bits
+IsInside s _ = Unit {0}
+
+may_inside : (s : Machine) (e : Event) → MIN_BITS ≤ s.bits → MayTake s e → IsInside s e
+may_inside s (Load id at) least may = tt
+may_inside s (Exchange id at w) least may = within s (seat_at s id) at w may.1 least
+may_inside s (CacheLoad id at) least may = tt
+may_inside s (CacheStore id at w) least may = tt
+may_inside s (Split id) least may = tt
+may_inside s (Join id other) least may = tt
+
+after_fits : (s : Machine) (e : Event) → IsInside s e → Fits s → MayTake s e → Fits (after s e)
+after_fits s (Load id at) inside fits may =
     let w : ℕ = slice_index s.words at in by_word Fits s (meets s id at w) w (λ none. fits) (meets_fit s fits id at w refl)
-after_fits s (Exchange id at w) fits may = let found : ℕ = slice_index s.words at in
-    by_word Fits (takes (meets s id at w) at w) (meets s id at found) found (λ none. won_fits s fits id at w none may.1)
+after_fits s (Exchange id at w) inside fits may = let found : ℕ = slice_index s.words at in
+    by_word Fits (takes (meets s id at w) at w) (meets s id at found) found (λ none. won_fits s fits id at w none may.1 inside)
     (meets_fit s fits id at found refl)
-after_fits s (CacheLoad id at) fits may =
+after_fits s (CacheLoad id at) inside fits may =
     let w : ℕ = slice_index s.cache at in by_word Fits s (looks s id at w) w (λ none. fits) (looks_fit s fits id at)
-after_fits s (CacheStore id at w) fits may = let store = may.1 in stores_fit s fits at w store.within store.is_true
-after_fits s (Split id) fits may =
+after_fits s (CacheStore id at w) inside fits may = let store = may.1 in stores_fit s fits at w store.within store.is_true
+after_fits s (Split id) inside fits may =
     let new : IsSeated s (twin (seat_at s id)) = record { met = tt; known = (seat_fits s fits id).known } in
     with_seats s fits (s.seats ++ twin (seat_at s id) ∷ []) (All-push (IsSeated s) s.seats (twin (seat_at s id)) fits.seats new)
-after_fits s (Join id other) fits may =
+after_fits s (Join id other) inside fits may =
     let a = seat_at s id in let b = seat_at s other in let f = seat_fits s fits id in let g = seat_fits s fits other in
     let both : IsSeated s (joined a b) = record {
       met = fits_append (2 ^ s.bits) s.words a.met b.met f.met g.met;
@@ -222,14 +236,23 @@ after_fits s (Join id other) fits may =
     (record { met = g.met; known = g.known })
 
 -- a sound machine stays sound
-after_sound : (s : Machine) (e : Event) → MayTake s e → IsSoundMachine s → IsSoundMachine (after s e)
-after_sound s e may is = sound (after s e) (after_fits s e (fitting s is) may)
+after_sound : (s : Machine) (e : Event) → IsInside s e → MayTake s e → IsSoundMachine s → IsSoundMachine (after s e)
+after_sound s e inside may is = sound (after s e) (after_fits s e inside (fitting s is) may)
+
+-- it has the same places
+after_bits : (s : Machine) (e : Event) → (after s e).bits ≡ s.bits
+after_bits s (Load id at) = grind arith
+after_bits s (Exchange id at w) = grind arith
+after_bits s (CacheLoad id at) = grind arith
+after_bits s (CacheStore id at w) = refl
+after_bits s (Split id) = refl
+after_bits s (Join id other) = refl
 
 -- a state stays sound, by the clauses of a call that takes the event
-pub stays_sound : (s t : Machine) (e e' : Event) (r : Result Seen Memory) → e ≡ e' → MayTake s e → OnOk r (t ≡ after s e') → OnErr r (t ≡ s)
-    → IsSoundMachine s → IsSoundMachine t
-stays_sound s t e e' (Ok seen) same may ok err is = rw (ok, ← same) (after_sound s e may is)
-stays_sound s t e e' (Err none) same may ok err is = rw err is
+pub stays_sound : (s t : Machine) (e e' : Event) (r : Result Seen Memory) → e ≡ e' → IsInside s e' → MayTake s e
+    → OnOk r (t ≡ after s e') → OnErr r (t ≡ s) → IsSoundMachine s → IsSoundMachine t
+stays_sound s t e e' (Ok seen) same inside may ok err is = rw ok (after_sound s e' inside (rw same at may) is)
+stays_sound s t e e' (Err none) same inside may ok err is = rw err is
 
 pub start_sound : (bits vars : ℕ) → IsSoundMachine (start bits vars)
 start_sound bits vars = sound (start bits vars) (start_fits bits vars)
@@ -248,10 +271,12 @@ after_keeps s (Join id other) j is = refl
 
 -- ---- lists of events
 
-run_sound : (s : Machine) (es : List Event) → IsSoundMachine s → MayTakeAll s es → (n : ℕ) → IsSoundMachine (after_all s (take n es))
-run_sound s es is may zero = is
-run_sound s [] is may (suc n) = is
-run_sound s (e ∷ es) is may (suc n) = run_sound (after s e) es (after_sound s e may.0 is) may.1 n
+run_sound : (s : Machine) (es : List Event) → MIN_BITS ≤ s.bits → IsSoundMachine s → MayTakeAll s es → (n : ℕ)
+    → IsSoundMachine (after_all s (take n es))
+run_sound s es least is may zero = is
+run_sound s [] least is may (suc n) = is
+run_sound s (e ∷ es) least is may (suc n) =
+    run_sound (after s e) es (rw (after_bits s e) least) (after_sound s e (may_inside s e least may.0) may.0 is) may.1 n
 
 kept_from : (s : Machine) (es : List Event) → IsKept s (after_all s es)
 kept_from s [] j is = refl
@@ -264,6 +289,6 @@ run_keeps s [] (suc n) (suc m) less j is = refl
 run_keeps s (e ∷ es) (suc n) zero less j is = absurd (omega arith)
 run_keeps s (e ∷ es) (suc n) (suc m) less j is = run_keeps (after s e) es n m (omega arith) j is
 
-pub run_lawful : (bits vars : ℕ) (es : List Event) → MayTakeAll (start bits vars) es → IsLawful (start bits vars) es
-run_lawful bits vars es may =
-    record { sound = run_sound (start bits vars) es (start_sound bits vars) may; keeps = run_keeps (start bits vars) es }
+pub run_lawful : (bits vars : ℕ) (es : List Event) → MIN_BITS ≤ bits → MayTakeAll (start bits vars) es → IsLawful (start bits vars) es
+run_lawful bits vars es least may =
+    record { sound = run_sound (start bits vars) es least (start_sound bits vars) may; keeps = run_keeps (start bits vars) es }

@@ -165,6 +165,7 @@ impl Core {
     // is a load.
     fn exchange(&mut self, id: u32, at: u32, word: u64) -> Result<Seen, Memory>
         requires { MayTake self.old (Event.Exchange id at word) }
+        ensures inside { at < 2 ^ self.old.bits }
         ensures after { OnOk result (self.new ≡ after self.old (Event.Exchange id at word)) }
         ensures seen { IfOk result (λ shown. shown ≡ seen self.old (Event.Exchange id at word)) }
         ensures memory { OnErr result (self.new ≡ self.old) }

@@ -1,6 +1,7 @@
 pub mod Levels
 pub mod Calls
 mod GivenPoints
+mod Halving
 mod HalvesLemmas
 mod PairLemmas
 mod Refusals

@@ -4,6 +4,7 @@
 mod counted;
 mod halves;
 mod listed;
+mod operations;
 mod pairs;
 mod points;
 mod pointwise;

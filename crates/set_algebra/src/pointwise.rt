@@ -6,8 +6,9 @@ ghost use Rattle.lattice.specs.Operations.{test_of, is_pointwise};
 ghost use Rattle.node_store.specs.Stores.{State, Knows, Denotes, family, IsPlanned, Reads, Builds};
 ghost use Rattle.node_store.specs.Stores.{IsSound};
 ghost use Rattle.set_algebra.specs.Pairs.{AreInOrder, AreCofactors, IsCutAt, Asks};
-ghost use Rattle.set_algebra.specs.Begins.{IfDone, IfHalves};
+ghost use Rattle.set_algebra.specs.Begins.{IfDone, IfHalves, MayEnd, MayHalve, begun_family};
 
+use crate::operations::{Inter, Minus, Pointwise, Union, Xor};
 use crate::pairs::{Cofactors, cut};
 use lattice::Op;
 use node_store::{Full, Handle, Store, grow};
@@ -81,6 +82,7 @@ pub struct Halved {
 
 /// What there is of an operation before its halves: its result, or the operands whose low parts and
 /// whose high parts are combined.
+#[derive(Clone, Copy)]
 pub enum Begun {
     Done(Handle),
     Halves(Halved),
@@ -143,6 +145,49 @@ pub fn finish<S: Store>(
     Ok(r)
 }
 
+/// The result of an operation that was begun.
+#[inline(always)]
+#[cycle(halves)]
+fn end<O: Pointwise, S: Store>(store: &mut S, begun: Begun) -> Result<Handle, Full>
+    requires { MayEnd O.OP (S.state store.old) begun }
+    ensures { let s = S.state store.old in
+        Builds s (S.state store.new) result (begun_family O.OP s begun) }
+{
+    match begun {
+        Begun::Done(r) => Ok(r),
+        Begun::Halves(halved) => combine_halves::<O, S>(store, halved),
+    }
+}
+
+/// The result of an operation by its halves. Each is begun here, so that one which needs no halves
+/// of its own takes no call.
+#[cycle(halves)]
+fn combine_halves<O: Pointwise, S: Store>(store: &mut S, halved: Halved) -> Result<Handle, Full>
+    requires { MayHalve O.OP (S.state store.old) halved }
+    ensures { let s = S.state store.old in
+        Builds s (S.state store.new) result
+        (combine (test_of O.OP) s.vars (family s halved.x) (family s halved.y)) }
+{
+    let op = O::OP;
+    let c = halved.cofactors;
+    let low = begin(store, op, c.a_low, c.b_low);
+    let lo = end::<O, S>(store, low)?;
+    let high = begin(store, op, c.a_high, c.b_high);
+    let hi = end::<O, S>(store, high)?;
+    finish(store, op, halved, lo, hi)
+}
+
+/// The result of the operation `O`.
+fn combine_by<O: Pointwise, S: Store>(store: &mut S, a: Handle, b: Handle) -> Result<Handle, Full>
+    requires { Asks O.OP (S.state store.old) a b }
+    ensures { let s = S.state store.old in
+        Builds s (S.state store.new) result
+        (combine (test_of O.OP) s.vars (family s a) (family s b)) }
+{
+    let begun = begin(store, O::OP, a, b);
+    end::<O, S>(store, begun)
+}
+
 /// The result of a pointwise operation.
 pub fn combine<S: Store>(store: &mut S, op: Op, a: Handle, b: Handle) -> Result<Handle, Full>
     requires op { is_pointwise op ≡ true }
@@ -154,14 +199,11 @@ pub fn combine<S: Store>(store: &mut S, op: Op, a: Handle, b: Handle) -> Result<
         Builds s (S.state store.new) result
         (combine (test_of op) s.vars (family s a) (family s b)) }
 {
-    match begin(store, op, a, b) {
-        Begun::Done(r) => Ok(r),
-        Begun::Halves(halved) => {
-            let c = halved.cofactors;
-            let lo = combine(store, op, c.a_low, c.b_low)?;
-            let hi = combine(store, op, c.a_high, c.b_high)?;
-            finish(store, op, halved, lo, hi)
-        }
+    match op {
+        Op::Union => union(store, a, b),
+        Op::Inter => inter(store, a, b),
+        Op::Minus => minus(store, a, b),
+        _ => xor(store, a, b),
     }
 }
 
@@ -174,7 +216,7 @@ pub fn union<S: Store>(store: &mut S, a: Handle, b: Handle) -> Result<Handle, Fu
     ensures { let s = S.state store.old in
         Builds s (S.state store.new) result (union_of s.vars (family s a) (family s b)) }
 {
-    combine(store, Op::Union, a, b)
+    combine_by::<Union, S>(store, a, b)
 }
 
 /// The members of `a` and `b`.
@@ -186,7 +228,7 @@ pub fn inter<S: Store>(store: &mut S, a: Handle, b: Handle) -> Result<Handle, Fu
     ensures { let s = S.state store.old in
         Builds s (S.state store.new) result (inter_of s.vars (family s a) (family s b)) }
 {
-    combine(store, Op::Inter, a, b)
+    combine_by::<Inter, S>(store, a, b)
 }
 
 /// The members of `a` that are not in `b`.
@@ -198,7 +240,7 @@ pub fn minus<S: Store>(store: &mut S, a: Handle, b: Handle) -> Result<Handle, Fu
     ensures { let s = S.state store.old in
         Builds s (S.state store.new) result (minus_of s.vars (family s a) (family s b)) }
 {
-    combine(store, Op::Minus, a, b)
+    combine_by::<Minus, S>(store, a, b)
 }
 
 /// The members of exactly one of `a` and `b`.
@@ -210,5 +252,5 @@ pub fn xor<S: Store>(store: &mut S, a: Handle, b: Handle) -> Result<Handle, Full
     ensures { let s = S.state store.old in
         Builds s (S.state store.new) result (sum_of s.vars (family s a) (family s b)) }
 {
-    combine(store, Op::Xor, a, b)
+    combine_by::<Xor, S>(store, a, b)
 }

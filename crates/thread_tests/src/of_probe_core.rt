@@ -2,13 +2,14 @@ ghost use Rattle.std.specs.Prelude.{◌≡◌, IsTrue, IfOk};
 ghost use Rattle.probe_core.specs.Events.{start, is_store, MayTake, MayTakeAll, after, after_all};
 
 use lattice::Memory;
-use probe_core::{Core, Event, Seen, run};
+use probe_core::{Core, Event, Seen, probe_place, run};
 use std::alloc::Global;
 use std::process::Abort;
 use std::test::Fail;
 
 // The words of nodes and the places where their paths begin are as Python computes them:
 // word = var * 2**48 + lo * 2**24 + hi, and place = (word * 0x9E3779B97F4A7C15 % 2**64) // 2**60.
+// A path goes on by 2 * ((word * 0x9E3779B97F4A7C15 % 2**64) // 2**20 % 2**20) + 1 lines.
 
 // The word of the node of variable 3 over {0} twice, whose path begins at place 12.
 const FIRST: u64 = 844424946909185;
@@ -34,6 +35,15 @@ fn is_store(e: &Event) -> bool
     ensures { result ≡ is_store e.now }
 {
     matches!(e, Event::CacheStore { .. })
+}
+
+// The path of the word in a table of 32 places.
+fn path_of(alloc: Global, word: u64) -> Result<Vec<usize>, Memory> {
+    let mut path = Vec::new(alloc);
+    for steps in 0..32usize {
+        path.push(probe_place(5, word, steps))?;
+    }
+    Ok(path)
 }
 
 // Whether the event may be taken, and stores no cache word.
@@ -84,6 +94,25 @@ fn three_seats(alloc: Global) -> Result<Vec<Event>, Fail> {
     events.push(Event::Join { seat: 0, other: 1 })?;
     events.push(Event::Join { seat: 0, other: 2 })?;
     Ok(events)
+}
+
+// A path goes round the line where it starts, and on to the next line by its stride, which is 1 of
+// four lines for X3, and 3 for X2X3.
+#[test]
+fn two_paths(rt: HostRuntime) -> Result<(), Fail> {
+    let by_one = [
+        2, 3, 4, 5, 6, 7, 0, 1, 10, 11, 12, 13, 14, 15, 8, 9, 18, 19, 20, 21, 22, 23, 16, 17, 26,
+        27, 28, 29, 30, 31, 24, 25,
+    ];
+    let by_three = [
+        26, 27, 28, 29, 30, 31, 24, 25, 18, 19, 20, 21, 22, 23, 16, 17, 10, 11, 12, 13, 14, 15, 8,
+        9, 2, 3, 4, 5, 6, 7, 0, 1,
+    ];
+    let short = path_of(rt.alloc(), X3.1)?;
+    assert_eq!(rt; short.as_slice(), by_one.as_slice());
+    let long = path_of(rt.alloc(), X2X3.1)?;
+    assert_eq!(rt; long.as_slice(), by_three.as_slice());
+    Ok(())
 }
 
 // Of two seats that saw a vacant place and exchange one word there, the first has won, and the

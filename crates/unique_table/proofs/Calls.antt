@@ -9,7 +9,7 @@ use Rattle.std.proofs.lemmas.Nat.{pow_pos}
 use Rattle.lattice.specs.declared.entry.Entry.{Entry}
 use Rattle.lattice.specs.declared.entry.Entry.TheVariants.{Met, Ask, Full}
 use Rattle.lattice.proofs.Diagrams.{refusals_of-grows, refusals_of-quiet, refusals_of-refused, refused-append, hi_of-word, lo_of-word}
-use Rattle.lattice.proofs.Diagrams.{var_of-word}
+use Rattle.lattice.proofs.Diagrams.{path_is_whole, var_of-word}
 use Rattle.node_store.specs.Stores.{State, Knows, family, node_family, IsNode, Grows, Reads, Builds}
 use Rattle.node_store.specs.PackedNodes.{IsPackable, IsPacked}
 use Rattle.node_store.specs.declared.store.Node.{Node}
@@ -26,7 +26,7 @@ use Rattle.unique_table.specs.Rule.{IsNew}
 use Rattle.unique_table.specs.Passes.{word_of, IsUntouched, IsInterned, FindsFull, HasMet}
 use Rattle.unique_table.specs.PassOf.{AreOfOne, pass_state, pass_steps, pass_sound, bits_of}
 use Rattle.unique_table.specs.declared.pass.Pass.{Pass}
-use Rattle.unique_table.proofs.Fitting.{over, covers}
+use Rattle.unique_table.proofs.Fitting.{over}
 use Rattle.unique_table.proofs.PassNeeds.{small_known}
 
 -- the view of a pass that did nothing to its table is new
@@ -169,9 +169,9 @@ module _ (p : Pass) (n : Node) (w : ℕ) (node : IsNode (pass_state p) n) (is : 
         let one : refused (all.before ++ Full w ∷ []) ≡ 1 = grind (arith, refused-append, none_refused) in
         let crowded : IsCrowded (pass_state p).capacity (pass_state p).plan whole = grind (arith, parts, all.over low high children) in
         let met : (slot : ℕ) → slot < (pass_state p).capacity → MetOther all.before w slot = λ slot less.
-        let c = covers (p.seat.me.0).terms.bits w slot less in
-        subst (MetOther all.before w) c.2
-        (passed_at (p.seat.me.0).terms.bits w 0 all.before all.others c.0 c.0 (grind arith) (omega arith)) in
+        let c = path_is_whole (p.seat.me.0).terms.bits w slot (grind (arith, p.bits_range, p.sizes)) less in
+        subst (MetOther all.before w) c.there
+        (passed_at (p.seat.me.0).terms.bits w 0 all.before all.others c.steps c.steps (grind arith) (omega arith)) in
         let grows = goes_grows _ _ _ _ same _ all.goes in (
           grind (arith, grows, one, refusals_of-refused, over _ _ whole crowded planned),
           grind (arith, subst (λ x. (slot : ℕ) → slot < (pass_state p).capacity → MetOther all.before x slot) is met, crowded),

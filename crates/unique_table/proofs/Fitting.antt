@@ -1,14 +1,14 @@
 -- What fits a table is a store, and goes on where a slot is met, filled or passed, and where a cache word is looked at.
 use Rattle.std.proofs.Common.{◌≡◌, ◌≢◌, ℕ, zero, suc, ◌+◌, ◌-◌, ◌^◌, ◌<◌, ◌≤◌, Bool, true, false, not, Option, Some, List, [], ◌∷◌, ◌++◌}
 use Rattle.std.proofs.Common.{length, slice_index, set, sym, refl, ap, ◌∙◌, ◌⊎◌, subst, inl, inr, arith, pow_mono, get_or-set_same}
-use Rattle.std.proofs.Common.{get_or-set_other, ◌*◌, ◌/◌, ◌%◌, div-add-mod', lt_of_not-le, suc-mul}
+use Rattle.std.proofs.Common.{get_or-set_other}
 use Rattle.std.specs.List.{All, Contains}
 use Rattle.std.proofs.lemmas.Bool.{and_from}
 use Rattle.std.proofs.lemmas.List.Elements.{All-nil, All-cons, All-append, All-weaker}
 use mathlib.Core.Logic.{dite}
-use native.Mathlib.Decide.{ℕ_discrete, dec_le}
+use native.Mathlib.Decide.{ℕ_discrete}
 use Rattle.lattice.specs.Words.{Family, IsFamily, has, includes, Has, Covers, is_distinct, is_node_list, join, sub, var_of, lo_of, hi_of}
-use Rattle.lattice.specs.Words.{place, mixed, IsFilled, IsHandle, var_at, IsNodeWord, IsCanonical, MayFill, KeepsWords, DenotesIn, nothing}
+use Rattle.lattice.specs.Words.{place, IsFilled, IsHandle, var_at, IsNodeWord, IsCanonical, MayFill, KeepsWords, DenotesIn, nothing}
 use Rattle.lattice.specs.Words.{unit, slot, IsStored, AgreesWith, FitsFrom, FitsHistory}
 use Rattle.lattice.specs.declared.entry.Entry.{Entry}
 use Rattle.lattice.specs.declared.entry.Entry.TheVariants.{Met, Ask, Full}
@@ -18,7 +18,7 @@ use Rattle.lattice.proofs.Diagrams.{Has-nil, Has-cases, none_of, covered_length,
 use Rattle.lattice.proofs.Diagrams.{sub-narrow, sub-join_cases, level-below, fills, filling_grows, filled_within, node_some, legal}
 use Rattle.lattice.proofs.Diagrams.{fits_append, fits_grows, met_slot, denotes_grows, denotes_handle, denotes_one, known_one, one_handle}
 use Rattle.lattice.proofs.Diagrams.{high_after, low_after, slot_level, held_fits, some_members, variables_from, refusals_of-below}
-use Rattle.lattice.proofs.Diagrams.{join_parts, same_word, stored_grows}
+use Rattle.lattice.proofs.Diagrams.{join_parts, path_is_whole, same_word, stored_grows}
 use Rattle.unique_table.specs.declared.view.View.{View}
 use Rattle.unique_table.specs.declared.view.Terms.{Terms}
 use Rattle.unique_table.specs.Views.{Steps, known_by, steps_of, view_state}
@@ -26,19 +26,6 @@ use Rattle.unique_table.specs.Rule.{IsTable, IsPair, LiveFits, IsNew, IsSoundVie
 use Rattle.unique_table.specs.Told.{Goes, Meets, MetOther, IsAsked, IsNext, EndsPath, passing, HasNoRoom, IsCrowded}
 use Rattle.unique_table.proofs.Lists.{merged_keeps, merged_has, merged_distinct, merged_all, All-Has, append_cases, first_stays}
 use Rattle.unique_table.proofs.Lists.{agrees_of, pairs_known, second_stays, subs_of, covers_subs, all_subs}
-use Rattle.std.proofs.Math.Nat.{mod-lt}
-use Rattle.std.proofs.lemmas.Nat.{pow_pos, mod-mul-add}
-
--- each place is on a word's path
-pub covers : (b w s : ℕ) → s < 2 ^ b → (e : ℕ) × (e < 2 ^ b) × (place b w e ≡ s)
-unfolding place
-covers b w s less =
-    let m : ℕ = mixed b w in let n : ℕ = 2 ^ b in
-    let parts : m / n * n + m % n ≡ m = div-add-mod' m n in let small : m % n < n = mod-lt m (pow_pos b) in
-    let in' : s < n = less in let more : suc (m / n) * n ≡ m / n * n + n = suc-mul (m / n) n in
-    dite (dec_le (m % n) s) (λ le. (s - m % n, omega arith, ap (λ (k : ℕ). k % n) (omega arith) ∙ mod-mul-add (m / n) n s less))
-    (λ no. let after = lt_of_not-le no in
-    (s + n - m % n, omega arith, ap (λ (k : ℕ). k % n) (omega arith) ∙ mod-mul-add (suc (m / n)) n s less))
 
 -- ---- handles
 
@@ -395,15 +382,16 @@ module _ (v : View) (ws : List ℕ) (table : IsTable v.terms ws) (fits : LiveFit
         planned = planned;
         vars_low = table.vars_low;
         vars_high = table.vars_high;
+        bits_low = table.bits_low;
         bits_high = table.bits_high;
       }
 
   module _ (w i : ℕ) (filled : IsFilled ws i) (other : slice_index ws i ≢ w) where
     -- at the end of the path each slot was met, or is the one that is met now, with another word
     seen : (d : ℕ) → IsNext v w d i → suc d ≡ 2 ^ bits → (s : ℕ) → s < 2 ^ bits → (s ≡ i) ⊎ MetOther v.history w s
-    seen d next end s less = let c = covers bits w s less in dite (ℕ_discrete c.0 d)
-        (λ e. inl (sym c.2 ∙ (ap (place bits w) e ∙ next.there)))
-        (λ ne. inr (subst (MetOther v.history w) c.2 (next.others c.0 (omega (arith, c.1)))))
+    seen d next end s less = let c = path_is_whole bits w s table.bits_low less in dite (ℕ_discrete c.steps d)
+        (λ e. inl (sym c.there ∙ (ap (place bits w) e ∙ next.there)))
+        (λ ne. inr (subst (MetOther v.history w) c.there (next.others c.steps (omega (arith, c.within)))))
 
     all_other : (d : ℕ) → IsNext v w d i → suc d ≡ 2 ^ bits → (s : ℕ) → s < 2 ^ bits → IsFilled ws s × (slice_index ws s ≢ w)
     all_other d next end s less = grind (arith, seen d next end s less, met_other (2 ^ bits) ws v.history fits.history w s)

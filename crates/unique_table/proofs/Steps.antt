@@ -14,7 +14,7 @@ use Rattle.lattice.specs.Words.{Family, Covers, sub, cache_bits, IsTrueWord, IsV
 use Rattle.lattice.specs.Words.{KeepsWords, DenotesIn, nothing, unit, IsStored, HoldsWord, FitsHistory}
 use Rattle.lattice.specs.declared.entry.Entry.{Entry}
 use Rattle.lattice.specs.declared.entry.Entry.TheVariants.{Met, Ask}
-use Rattle.lattice.specs.declared.limits.TheConstants.{MAX_VARS, MAX_BITS, HANDLE_UNIT}
+use Rattle.lattice.specs.declared.limits.TheConstants.{MAX_VARS, MIN_BITS, MAX_BITS, HANDLE_UNIT}
 use Rattle.lattice.proofs.Diagrams.{Has-nil, Has-append_left, sub-nil, fits_append, denotes_one, denotes_handle, true_word_stays}
 use Rattle.lattice.proofs.Diagrams.{filling_grows, no_word, none_filled, refusals_of-append, refusals_of-grows}
 use Rattle.lattice.proofs.Polynomials.{left_nil}
@@ -78,7 +78,8 @@ unites about id v other w live = joins (IsWhole about) (FitsWhole about) IsNew i
     (λ ws _ fits fits'. (joined_fits (terms_of about) (take (2 ^ about.bits) ws) v w live fits fits', λ e. cc))
     (λ new. record { whole = new.whole; kept = new.kept; met = left_nil v.history w.history new.met }) (λ new. omega (arith, new.whole))
 
-first_table : (t : Terms) (n : ℕ) → n ≡ 2 ^ t.bits → 1 ≤ t.vars → t.vars ≤ MAX_VARS → t.bits ≤ MAX_BITS → IsTable t (replicate n 0)
+first_table : (t : Terms) (n : ℕ) → n ≡ 2 ^ t.bits → 1 ≤ t.vars → t.vars ≤ MAX_VARS → (MIN_BITS ≤ t.bits) × (t.bits ≤ MAX_BITS)
+    → IsTable t (replicate n 0)
 first_table t n is low high small = grind (arith, length-replicate, none_filled)
 
 first_pairs : (vars : ℕ) (ws : List ℕ) → All (IsPair vars ws) ((0, []) ∷ (1, 0 ∷ []) ∷ [])
@@ -88,7 +89,7 @@ first_fits : (about : About) (n : ℕ) → LiveFits (terms_of about) (replicate 
 first_fits about n = grind (arith, All-nil, pair_cases, Has-nil, sub-nil, unit_none, first_pairs about.vars (replicate n 0))
 
 -- a table of vacant words, with its first seat
-pub starts : (about : About) → 1 ≤ about.vars → about.vars ≤ MAX_VARS → about.bits ≤ MAX_BITS
+pub starts : (about : About) → 1 ≤ about.vars → about.vars ≤ MAX_VARS → (MIN_BITS ≤ about.bits) × (about.bits ≤ MAX_BITS)
     → Rule about (opening (replicate (2 ^ about.bits + 2 ^ cache_bits about.bits) 0) [] (first_view about))
 starts about low high small =
     let n : ℕ = 2 ^ about.bits in let m : ℕ = 2 ^ cache_bits about.bits in let t : Terms = terms_of about in
@@ -102,8 +103,8 @@ starts about low high small =
     (λ _. rw front (first_fits about n)) (no_word (n + m))
 
 -- the first view is a store
-pub first_sound : (about : About) → 1 ≤ about.vars → about.vars ≤ MAX_VARS → about.bits ≤ MAX_BITS → (v : View) → v ≡ first_view about
-    → IsSoundView v
+pub first_sound : (about : About) → 1 ≤ about.vars → about.vars ≤ MAX_VARS → (MIN_BITS ≤ about.bits) × (about.bits ≤ MAX_BITS)
+    → (v : View) → v ≡ first_view about → IsSoundView v
 first_sound about low high small v is = subst IsSoundView (sym is) (sound (first_view about) (replicate (2 ^ about.bits) 0)
     (first_table (terms_of about) (2 ^ about.bits) refl low high small) (first_fits about (2 ^ about.bits)) refl)
 

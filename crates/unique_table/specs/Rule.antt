@@ -6,7 +6,7 @@ use Rattle.lattice.specs.Family.{Family, Has, Covers, includes, is_distinct}
 use Rattle.lattice.specs.Cofactors.{sub}
 use Rattle.lattice.specs.Tables.{IsFilled, IsCanonical, DenotesIn, IsStored}
 use Rattle.lattice.specs.History.{FitsHistory}
-use Rattle.lattice.specs.declared.limits.TheConstants.{MAX_VARS, MAX_BITS}
+use Rattle.lattice.specs.declared.limits.TheConstants.{MAX_VARS, MIN_BITS, MAX_BITS}
 use Rattle.node_store.specs.Stores.{IsSound}
 use Rattle.unique_table.specs.declared.view.View.{View}
 use Rattle.unique_table.specs.declared.view.About.{About}
@@ -25,6 +25,7 @@ pub record IsTable (t : Terms) (ws : List ℕ) : Type 0 where
   pub planned : (s : ℕ) → IsFilled ws s → (f : Family) × DenotesIn t.vars ws (suc (suc s)) f × Has t.plan f
   pub vars_low : 1 ≤ t.vars
   pub vars_high : t.vars ≤ MAX_VARS
+  pub bits_low : MIN_BITS ≤ t.bits
   pub bits_high : t.bits ≤ MAX_BITS
 
 -- what is known of a handle is what it denotes

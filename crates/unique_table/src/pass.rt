@@ -214,7 +214,12 @@ impl<'t> Pass<'t> {
     {
         // (read once: nothing that a step calls is known not to change it)
         let bits = self.bits;
-        for steps in 0..self.slots() {
+        // Most words stand at the first place of their path, which needs no more than its start.
+        let first = self.visit::<Brand>(bits, word, 0);
+        if first.is_some() {
+            return first;
+        }
+        for steps in 1..self.slots() {
             let slot = self.visit::<Brand>(bits, word, steps);
             if slot.is_some() {
                 return slot;

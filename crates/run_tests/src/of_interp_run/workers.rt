@@ -116,11 +116,10 @@ fn jobs_of<R: Threads + Abort + Sync>(
 }
 
 // A job for each polynomial, and in mode basis one for the leads of each output and one for each
-// element besides, where phase 2 builds phase 1 again. The two sets of each of two outputs are four
-// covers, which are jobs too.
+// element besides. The two sets of each of two outputs are four covers, which are jobs too.
 #[test]
 fn jobs_are_answered_by_the_pool(rt: HostRuntime) -> Result<(), Fail> {
     assert!(rt; jobs_of(&rt, rt.alloc(), "interp anf", ADDER)? >= 4 + 2);
-    assert!(rt; jobs_of(&rt, rt.alloc(), "interp basis", PAIR)? >= 2 * (4 + 2 + 2) + 2);
+    assert!(rt; jobs_of(&rt, rt.alloc(), "interp basis", PAIR)? >= 4 + 2 + 2 + 2);
     Ok(())
 }

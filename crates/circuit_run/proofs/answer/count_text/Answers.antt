@@ -4,6 +4,7 @@ use Rattle.std.proofs.lemmas.List.{length-map}
 use Rattle.program.specs.Runs.{no_memory}
 use Rattle.aig_reader.specs.Reading.{circuit}
 use Rattle.circuit_run.specs.Parts.{view}
+use Rattle.circuit_run.specs.Subjects.{compares}
 use Rattle.circuit_run.specs.Texts.{measures_of}
 use Rattle.circuit_run.proofs.Endings.{counted_due, uncounted_ends}
 use Rattle.circuit_run.proofs.Solutions.{alone, alone_solves, measures_are, solved_count}
@@ -11,7 +12,7 @@ use Rattle.circuit_run.proofs.answer.count_text.Goals as goal
 
 pub returns-in-Err-Full-clause-err : goal.returns-in-Err-Full-clause-err
 returns-in-Err-Full-clause-err c = rw c.stop.ensures (uncounted_ends c.args.job.now (view c.args.seen.now) c.requires.whole.asked
-    c.requires.mode (c.in-Err-Full.ensures.exhausted (ap Err c.in-Err-Full.field-0-is)))
+    (ap compares c.requires.mode) c.requires.mode (c.in-Err-Full.ensures.exhausted (ap Err c.in-Err-Full.field-0-is)))
 
 pub returns-in-Err-Memory-clause-err : goal.returns-in-Err-Memory-clause-err
 returns-in-Err-Memory-clause-err c = no_memory
@@ -27,7 +28,8 @@ pub returns-in-Ok-counts_text-clause-ok : goal.returns-in-Ok-counts_text-clause-
 returns-in-Ok-counts_text-clause-ok c =
     let aig = c.args.seen.now.aig in let found = c.in-Ok.ensures.measures in
     rw (c.in-Ok-counts_text.ensures, c.deref.ensures.value ∙ measures_are aig.inputs found.0 c.in-Ok.measures.items found.2)
-    (counted_due c.args.job.now (view c.args.seen.now) c.requires.whole.asked c.requires.mode (alone found.0)
+    (counted_due c.args.job.now (view c.args.seen.now) c.requires.whole.asked (ap compares c.requires.mode)
+    c.requires.mode (alone found.0)
     (alone_solves (circuit aig) c.args.seen.now.care found.0 found.1) c.in-Ok.ensures.fits)
 
 pub returns-clause-err : goal.returns-clause-err

@@ -9,7 +9,7 @@ use Rattle.circuit_run.proofs.answer.solve_text.Goals as goal
 
 pub returns-in-Err-clause-err : goal.returns-in-Err-clause-err
 returns-in-Err-clause-err c = rw c.stop.ensures (unlisted_ends c.args.job.now (view c.args.seen.now) c.requires.whole.asked
-    c.requires.mode c.in-Err.refusal (rw c.has_basis.ensures at c.in-Err.ensures.refused))
+    c.requires.one c.requires.mode c.in-Err.refusal (rw c.has_basis.ensures at c.in-Err.ensures.refused))
 
 pub solution_text-requires-clause-count : goal.solution_text-requires-clause-count
 solution_text-requires-clause-count c = rw c.as_slice-polynomials.ensures
@@ -24,7 +24,8 @@ solution_text-requires-clause-basis c = rw c.as_slice.ensures (elements_are c.in
 pub returns-in-Ok-solution_text-clause-ok : goal.returns-in-Ok-solution_text-clause-ok
 returns-in-Ok-solution_text-clause-ok c =
     rw (c.in-Ok-solution_text.ensures, c.as_slice-polynomials.ensures, c.as_slice.ensures)
-    (listed_due c.args.job.now (view c.args.seen.now) c.requires.whole.asked c.requires.mode (solved c.in-Ok.solution)
+    (listed_due c.args.job.now (view c.args.seen.now) c.requires.whole.asked c.requires.one c.requires.mode
+    (solved c.in-Ok.solution)
     (rw c.has_basis.ensures at c.in-Ok.ensures.solved) (rw c.has_basis.ensures at c.in-Ok.ensures.within))
 
 pub returns-clause-err : goal.returns-clause-err

@@ -4,7 +4,7 @@ use Rattle.std.proofs.lemmas.Slice.Zip.{zip_turn}
 use Rattle.anf_printer.specs.Text.{left_text}
 use Rattle.anf_printer.specs.declared.lines.Left.TheVariants.{Output}
 use Rattle.circuit_run.specs.Texts.{count_line, counts_text}
-use Rattle.circuit_run.proofs.PrintedLines.{counts_more}
+use Rattle.circuit_run.proofs.PrintedLines.{found_more}
 use Rattle.circuit_run.proofs.counts.count_lines.Goals as goal
 
 pub loop-number-preserved : goal.loop-number-preserved
@@ -13,7 +13,7 @@ loop-number-preserved c =
     c.loop-number.number-iterator c.next.new.self c.next.result (search rules) (search rules) c.loop-number.yielded_by
     (c.in-Some.number, c.in-Some.measured) c.in-Some.is c.next.ensures.steps in
     let here = length c.loop-number.yielded in let number = c.in-Some.number.now in let m = c.in-Some.measured.now in
-    let more = counts_more c.args.outputs.now c.args.numbers.now c.args.measures.now here _ number m turn.0 turn.1
+    let more = found_more count_line c.args.outputs.now c.args.numbers.now c.args.measures.now here _ number m turn.0 turn.1
     (turn.2 number) (turn.3 m) (length-append c.loop-number.yielded ((c.in-Some.number, c.in-Some.measured) ∷ [])) in
     let name : c.as_slice-name.result.now ≡ left_text c.args.outputs.now (Output number) = grind (arith, get_or_default) in
     let so_far = counts_text c.args.outputs.now (take here c.args.numbers.now) (take here c.args.measures.now) in

@@ -1,4 +1,4 @@
-use Rattle.std.proofs.Common.{arith}
+use Rattle.std.proofs.Common.{length, arith}
 use Rattle.std.proofs.lemmas.List.Elements.{All-contains}
 use Rattle.lattice.specs.declared.row.Row.{Row}
 use Rattle.pla_reader.specs.Description.{FitsSizes}
@@ -8,6 +8,7 @@ use Rattle.cube_sets.proofs.Search.{with_on_row, search_next, search_end}
 use Rattle.cube_sets.proofs.clash.least_with.Goals as goal
 use Rattle.cube_sets.proofs.clash.least_with.Goals.{in-Some, in_default, then-outputs-eq0-via-then-outputs-eq0}
 use Rattle.cube_sets.proofs.clash.least_with.Goals.{then-outputs-eq0-via-else-outputs-eq0+then-not-may_clash}
+use Rattle.cube_sets.proofs.clash.least_with.Goals.{then-outputs-eq0-via-else-outputs-eq0+else-not-may_clash+then-not-may_clash-2}
 
 pub returns-then-outputs-eq0 : goal.returns-then-outputs-eq0
 returns-then-outputs-eq0 c d clash = elim c.then-outputs-eq0.branch [
@@ -15,7 +16,14 @@ returns-then-outputs-eq0 c d clash = elim c.then-outputs-eq0.branch [
       let last = clash.0 in omega arith)
   | then-outputs-eq0-via-else-outputs-eq0+then-not-may_clash w ↦ w.may_clash.ensures w.if-not-may_clash.true clash.1.0
       (All-contains (Fixes c.args.common) c.args.p.now.rows clash.1.0 c.requires.fixed clash.1.1)
-      (All-contains (IsMarked c.args.common c.args.offs.now) c.args.p.now.rows clash.1.0 c.requires.marked clash.1.1)
+      (All-contains (IsMarked (length c.args.offs.now) c.args.common c.args.offs.now) c.args.p.now.rows clash.1.0
+      c.requires.marked clash.1.1)
+      c.args.p.now.inputs d clash.1.2
+  | then-outputs-eq0-via-else-outputs-eq0+else-not-may_clash+then-not-may_clash-2 w ↦
+      w.may_clash-else-not-may_clash.ensures w.if-not-may_clash-2.true clash.1.0
+      (All-contains (Fixes c.args.common) c.args.p.now.rows clash.1.0 c.requires.fixed clash.1.1)
+      (All-contains (IsMarked (length c.args.others.now) c.args.common c.args.others.now) c.args.p.now.rows clash.1.0
+      c.requires.marked_again clash.1.1)
       c.args.p.now.inputs d clash.1.2
 ]
 

@@ -1,7 +1,7 @@
 use Rattle.std.proofs.Common.{◌∙◌, Err, ap, arith, drop, get_or, length, map, take}
 use Rattle.std.proofs.lemmas.List.Sums.{sum_by-drop_more}
 use Rattle.node_store.specs.Stores.{no_handle}
-use Rattle.node_store.proofs.StoreLaws.{All_known-later, Grows-knows, Grows-trans, Reads-refl, Reads-trans}
+use Rattle.node_store.proofs.StoreLaws.{All_known-later, Grows-knows, Grows-trans, Reads-trans}
 use Rattle.lattice.proofs.Polynomials.{same_error}
 use Rattle.interp_run.specs.Phases.{answer_in, second_terms, terms_of}
 use Rattle.interp_run.proofs.GroupedElements.{next_output, no_more_outputs}

@@ -11,12 +11,12 @@ pub of_words-requires : goal.of_words-requires
 of_words-requires c =
     let about : About = record { bits = c.args.bits; vars = c.args.vars; plan = c.args.plan } in
     subst (λ (ws : List ℕ). Rule about (opening ws [] (first_view about))) (sym (search rules))
-    (starts about c.requires.vars.0 c.requires.vars.1 c.requires.bits.1)
+    (starts about c.requires.vars.0 c.requires.vars.1 c.requires.bits)
 
 pub invariant_of-result-clause-sound : goal.invariant_of-result-clause-sound
 invariant_of-result-clause-sound c =
     first_sound (record { bits = c.args.bits; vars = c.args.vars; plan = c.args.plan }) c.requires.vars.0 c.requires.vars.1
-    c.requires.bits.1 _ (search rules)
+    c.requires.bits _ (search rules)
 
 pub returns : goal.returns
 unfolding token_state token_steps token_table table_name view_state

@@ -1,0 +1,2 @@
+pub mod Miter
+pub mod Laws

@@ -1,0 +1,4 @@
+mod Parts
+mod Naming
+mod Matched
+pub mod PairLaws
