@@ -721,6 +721,8 @@ class Hostile(Solving):
         """An interrupted run ends with what it started."""
         for number, status in ((signal.SIGINT, 130), (signal.SIGTERM, 143), (signal.SIGHUP, 129)):
             with self.case(number):
+                # Where the tests run under nohup it is ignored, and what they start has it so.
+                self.addCleanup(signal.signal, number, signal.signal(number, signal.SIG_DFL))
                 path = self.here / "program"
                 path.write_text("#!/bin/sh\necho $$ > started\nexec sleep 60\n")
                 path.chmod(0o755)
