@@ -2,7 +2,7 @@
 
 A run on such a file ends: by its answer, or by the count of nodes or terms that is due, in a time that is told here. On
 random files no mode takes more than twice the processor time that `interp basis` takes on the same file, or on one of
-the joined points, where their basis is the larger one.
+the joined points, where their basis is the larger one, but for some milliseconds for its start and its queries.
 Where memory is refused a run ends with status 7, where a read fails with 8, and where a write fails with 9. The other
 statuses are in test_queries.
 """
