@@ -1,5 +1,5 @@
 //! The points at which a monomial or a polynomial is 1.
-ghost use Rattle.std.specs.Prelude.{◌≡◌, ◌<◌, ◌≤◌, ◌^◌, Ok};
+ghost use Rattle.std.specs.Prelude.{◌≡◌, ◌<◌, ◌≤◌, ◌^◌, IfSome, IfNone, Ok};
 ghost use Rattle.lattice.specs.Family.{Covers};
 ghost use Rattle.lattice.specs.Basis.{ones_at};
 ghost use Rattle.lattice.specs.Polynomial.{ones_of};
@@ -8,7 +8,6 @@ ghost use Rattle.node_store.specs.Stores.{Knows, family, IsPlanned, Reads, Build
 ghost use Rattle.set_algebra.specs.Begins.{IfDone, IfHalves};
 ghost use Rattle.set_algebra.specs.Pairs.{AreCofactors, IsCutAt};
 ghost use Rattle.bool_poly.specs.Parts.{AreOnes, AsksOnes, AsksWith, part_with};
-ghost use Rattle.bool_poly.specs.Begins.{MayEndOnes, MayHalveOnes, begun_needs, begun_ones};
 
 use lattice::{Mono, Op};
 use node_store::{Full, Handle, Store, grow};
@@ -79,6 +78,30 @@ pub fn part_with<S: Store>(
     xor(store, low, high)
 }
 
+/// The points of `set` at which the polynomial `h` is 1, where they need no halves: where a look at
+/// the handles is enough, or they are kept.
+#[inline(always)]
+fn found_ones<S: Store>(store: &mut S, h: Handle, set: Handle) -> Option<Handle>
+    requires { AsksOnes (S.state store.old) h set }
+    ensures reads { Reads (S.state store.old) (S.state store.new) }
+    ensures some { let s = S.state store.old in
+        IfSome result (λ r. Gives s (S.state store.new) (Ok r)
+        (ones_of s.vars (family s h) (family s set)) (needs_of s Ones h set.0)) }
+    ensures varies { IfNone result (2 ≤ h.0) }
+    ensures filled { IfNone result (1 ≤ set.0) }
+{
+    if h.0 == 0 {
+        return Some(Handle(0));
+    }
+    if set.0 == 0 {
+        return Some(set);
+    }
+    if h.0 == 1 {
+        return Some(set);
+    }
+    store.look(Op::Ones, h, set.0)
+}
+
 /// What there is before the halves of `ones_of`: the result, where a look at the handles is enough
 /// or it is kept, and else `h` and `set`, cut at their first variable. The low half is that of both
 /// low parts, and the high half that of `part_with`.
@@ -100,24 +123,14 @@ pub fn begin_ones<S: Store>(store: &mut S, h: Handle, set: Handle) -> Begun
         (λ b. AsksWith (S.state store.new) b.cofactors.a_low b.cofactors.a_high
         b.cofactors.b_high) }
 {
-    if h.0 == 0 {
-        return Begun::Done(Handle(0));
+    match found_ones(store, h, set) {
+        Some(r) => Begun::Done(r),
+        None => Begun::Halves(Halved {
+            x: h,
+            y: set,
+            cofactors: cut(store, h, set),
+        }),
     }
-    if set.0 == 0 {
-        return Begun::Done(set);
-    }
-    if h.0 == 1 {
-        return Begun::Done(set);
-    }
-    if let Some(r) = store.look(Op::Ones, h, set.0) {
-        return Begun::Done(r);
-    }
-    let cofactors = cut(store, h, set);
-    Begun::Halves(Halved {
-        x: h,
-        y: set,
-        cofactors,
-    })
 }
 
 /// What there is after the halves of `ones_of`, `lo` of the points without the variable of the cut
@@ -143,35 +156,42 @@ pub fn finish_ones<S: Store>(
     Ok(r)
 }
 
-/// The points that were begun.
+/// The points of `set` at which the polynomial `h` is 1. They are looked for here, inlined where
+/// they are asked for, so that what needs no halves takes no call.
 #[inline(always)]
 #[cycle(halves)]
-fn end_ones<S: Store>(store: &mut S, begun: Begun) -> Result<Handle, Full>
-    requires { MayEndOnes (S.state store.old) begun }
+fn ones_by<S: Store>(store: &mut S, h: Handle, set: Handle) -> Result<Handle, Full>
+    requires { AsksOnes (S.state store.old) h set }
     ensures { let s = S.state store.old in
-        Gives s (S.state store.new) result (begun_ones s begun) (begun_needs s begun) }
+        Gives s (S.state store.new) result (ones_of s.vars (family s h) (family s set))
+        (needs_of s Ones h set.0) }
 {
-    match begun {
-        Begun::Done(r) => Ok(r),
-        Begun::Halves(halved) => ones_halves(store, halved),
+    match found_ones(store, h, set) {
+        Some(r) => Ok(r),
+        None => ones_halves(store, h, set),
     }
 }
 
-/// The points by their halves. Each is begun here, so that one which needs no halves of its own
-/// takes no call.
+/// The points by their halves. The operands are cut here and not where they are asked for, so that
+/// a call passes two handles alone.
 #[cycle(halves)]
-fn ones_halves<S: Store>(store: &mut S, halved: Halved) -> Result<Handle, Full>
-    requires { MayHalveOnes (S.state store.old) halved }
+fn ones_halves<S: Store>(store: &mut S, h: Handle, set: Handle) -> Result<Handle, Full>
+    requires asks { AsksOnes (S.state store.old) h set }
+    requires varies { 2 ≤ h.0 }
+    requires filled { 1 ≤ set.0 }
     ensures { let s = S.state store.old in
-        Gives s (S.state store.new) result (ones_of s.vars (family s halved.x) (family s halved.y))
-        (needs_of s Ones halved.x halved.y.0) }
+        Gives s (S.state store.new) result (ones_of s.vars (family s h) (family s set))
+        (needs_of s Ones h set.0) }
 {
-    let c = halved.cofactors;
-    let low = begin_ones(store, c.a_low, c.b_low);
-    let lo = end_ones(store, low)?;
+    let c = cut(store, h, set);
+    let lo = ones_by(store, c.a_low, c.b_low)?;
     let with = part_with(store, c.a_low, c.a_high, c.b_high)?;
-    let high = begin_ones(store, with, c.b_high);
-    let hi = end_ones(store, high)?;
+    let hi = ones_by(store, with, c.b_high)?;
+    let halved = Halved {
+        x: h,
+        y: set,
+        cofactors: c,
+    };
     finish_ones(store, halved, lo, hi)
 }
 
@@ -184,6 +204,5 @@ pub fn ones_of<S: Store>(store: &mut S, h: Handle, set: Handle) -> Result<Handle
         Gives s (S.state store.new) result (ones_of s.vars (family s h) (family s set))
         (needs_of s Ones h set.0) }
 {
-    let begun = begin_ones(store, h, set);
-    end_ones(store, begun)
+    ones_by(store, h, set)
 }

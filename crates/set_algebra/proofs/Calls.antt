@@ -14,8 +14,8 @@ use Rattle.set_algebra.specs.Pairs.{AreCofactors}
 use Rattle.set_algebra.specs.declared.pairs.Cofactors.{Cofactors}
 use Rattle.set_algebra.specs.GivenPoints.{GivesPoints}
 use Rattle.set_algebra.specs.declared.points.ValuedPoints.{ValuedPoints}
--- the level of what was begun, by which a recursion ends, and the parts of a cut in a later state
-pub use Rattle.set_algebra.proofs.Halving.{begun_top, cofactors_at, cofactors_later, cut_of, parts_fall}
+-- the parts of a cut in a later state
+pub use Rattle.set_algebra.proofs.Halving.{cofactors_at, cofactors_later, cut_of, parts_fall}
 -- errors where points are given, and points that are given after reads or as others
 pub use Rattle.set_algebra.proofs.GivenPoints.{points_failed, failed_points, points_after, points_as}
 -- terms later

@@ -1,26 +1,16 @@
--- An operation that was begun: its operands' level, by which the recursion ends, and that it may be ended, in a later state too.
-use Rattle.std.proofs.Common.{◌≡◌, ◌∙◌, ℕ, ◌+◌, ◌*◌, ◌-◌, ◌<◌, ◌≤◌, max, Result, Ok, Some, refl, inl, ap, arith}
-use Rattle.lattice.specs.Words.{Family, IsFamily, combine, level, test_of}
-use Rattle.lattice.proofs.Diagrams.{level-below}
+-- Operands that were cut: their parts are asked and have later variables alone, by which the recursion ends, and give the whole.
+use Rattle.std.proofs.Common.{◌∙◌, ℕ, ◌-◌, ◌<◌, suc, max, Ok, Some, refl, inl, ap, arith}
+use Rattle.lattice.specs.Words.{Family, IsFamily, combine, Covers, level, sub, test_of}
+use Rattle.lattice.proofs.Diagrams.{combine-covers_low, combine-covers_high, level-below, test_none}
 use Rattle.lattice.proofs.Polynomials.{IsFamily-low_cofactor, IsFamily-high_cofactor}
 use Rattle.lattice.specs.declared.op.Op.{Op}
-use Rattle.node_store.specs.Stores.{State, Knows, Denotes, family, Grows, Reads, Builds}
-use Rattle.node_store.specs.declared.store.Full.{Full}
+use Rattle.node_store.specs.Stores.{State, Knows, Denotes, family, IsSound, Grows, Reads, Builds}
 use Rattle.node_store.specs.declared.store.Handle.{Handle}
 use Rattle.node_store.proofs.StoreLaws.{Denotes-family, Denotes-knows, Grows-family, Grows-refl, Grows-trans}
 use Rattle.node_store.proofs.StoreLaws.{Reads-refl, then_call}
-use Rattle.set_algebra.proofs.Levels.{Finishes, asks_later, combine_later, finishes, order-asks, order-same, order-top, top_later}
-use Rattle.set_algebra.specs.Pairs.{AreCofactors, AreInOrder, Asks, IsCutAt}
-use Rattle.set_algebra.specs.Begins.{IfDone, IfHalves, MayEnd, MayHalve, begun_family}
+use Rattle.set_algebra.proofs.Levels.{Finishes, combine_later, finishes, top_after, top_later}
+use Rattle.set_algebra.specs.Pairs.{AreCofactors, Asks, IsCutAt}
 use Rattle.set_algebra.specs.declared.pairs.Cofactors.{Cofactors}
-use Rattle.set_algebra.specs.declared.pointwise.Halved.{Halved}
-use Rattle.set_algebra.specs.declared.pointwise.Begun.{Begun}
-use Rattle.set_algebra.specs.declared.pointwise.Begun.TheVariants.{Done, Halves}
-
--- how many variables there are from the first one of the operands on, and none where there is a result
-abbrev pub begun_top : State → Begun → ℕ
-begun_top s (Done r) = 0
-begun_top s (Halves h) = max (level s.vars (family s h.x)) (level s.vars (family s h.y))
 
 -- where operands were cut
 pub cut_of : {s t : State} {x y : Handle} {c : Cofactors} → AreCofactors s t x y c → IsCutAt s x y c.var
@@ -48,75 +38,46 @@ pub cofactors_at : {s t u : State} {x y : Handle} {c : Cofactors} → Grows s t 
     → AreCofactors s t x y c → AreCofactors u u x y c
 cofactors_at {s} {t} {u} {x} {y} {c} one two kx ky are = let whole = Grows-trans s t u one two in grind (arith, Grows-family)
 
--- an operation on a and b, as state s has them, was begun, and may be ended in t
-pub record Begins (op : Op) (s t : State) (a b : Handle) (begun : Begun) : Type 0 where
-  pub may : MayEnd op t begun
-  pub gives : begun_family op t begun ≡ combine (test_of op) s.vars (family s a) (family s b)
-  pub falls : begun_top t begun ≤ max (level s.vars (family s a)) (level s.vars (family s b))
+-- parts whose result is planned with the whole's may be combined
+part_asks : (op : Op) (s t : State) (F : Family) (p q : Handle) (P Q : Family) → Grows s t → Covers s.plan (sub s.vars F) → Denotes t p P
+    → Denotes t q Q → Covers (sub s.vars F) (sub s.vars (combine (test_of op) s.vars P Q)) → Asks op t p q
+part_asks op s t F p q P Q grows planned p_is q_is covers = grind (arith, Denotes-knows, Denotes-family)
 
--- the operands that a start in s left for its halves in t
-halves_begin : {op : Op} {s t : State} {a b : Handle} (h : Halved) → Reads s t → Asks op s a b → AreInOrder op a b h.x h.y
-    → AreCofactors s t h.x h.y h.cofactors → Asks op t h.cofactors.a_low h.cofactors.b_low → Asks op t h.cofactors.a_high h.cofactors.b_high
-    → Begins op s t a b (Halves h)
-halves_begin {op} {s} {t} {a} {b} h reads asks order are low high =
-    let mine = order-asks op s a b h.x h.y order asks in let grows = reads.grows in record {
-      may = record {
-        asks = asks_later op s t h.x h.y grows mine;
-        cofactors = cofactors_at grows (Grows-refl t) mine.first mine.second are;
-        low = low;
-        high = high;
-      };
-      gives = combine_later (test_of op) s t h.x h.y grows mine.first mine.second ∙ order-same op s a b h.x h.y order;
-      falls = omega (arith, top_later s t h.x h.y grows mine.first mine.second, order-top op s a b h.x h.y order);
-    }
+-- so may both halves of operands that are asked in s and were found in t
+pub parts_asked : {op : Op} {s t : State} {x y : Handle} {c : Cofactors} → IsSound s → Asks op s x y → Grows s t → AreCofactors s t x y c
+    → Asks op t c.a_low c.b_low × Asks op t c.a_high c.b_high
+parts_asked {op} {s} {t} {x} {y} {c} ok mine grows are =
+    let fits = top_after s x y (suc (s.vars - c.var)) ok mine.first mine.second are.top in
+    let less : s.vars - c.var < s.vars = omega (arith, are.first, are.last) in (
+      part_asks op s t _ c.a_low c.b_low _ _ grows mine.planned are.a_low are.b_low
+          (combine-covers_low (test_of op) (test_none op) s.vars (s.vars - c.var) (family s x) (family s y) fits.0 fits.1 less),
+      part_asks op s t _ c.a_high c.b_high _ _ grows mine.planned are.a_high are.b_high
+          (combine-covers_high (test_of op) (test_none op) s.vars (s.vars - c.var) (family s x) (family s y) fits.0 fits.1 less),
+    )
 
--- what a start says is enough to end it; the start was of the operation o, which is op
-pub begins : {op o : Op} {s t : State} {a b : Handle} (begun : Begun) → o ≡ op → Asks op s a b → Reads s t
-    → IfDone begun (λ r. Builds s t (Ok r) (combine (test_of o) s.vars (family s a) (family s b)))
-    → IfHalves begun (λ h. AreInOrder o a b h.x h.y) → IfHalves begun (λ h. AreCofactors s t h.x h.y h.cofactors)
-    → IfHalves begun (λ h. Asks o t h.cofactors.a_low h.cofactors.b_low)
-    → IfHalves begun (λ h. Asks o t h.cofactors.a_high h.cofactors.b_high) → Begins op s t a b begun
-begins {op} {o} {s} {t} {a} {b} (Done r) is asks reads done order are low high =
-    let given = rw is at done in
-    record { may = Denotes-knows t r _ given.ok; gives = Denotes-family t r _ given.ok; falls = omega arith }
-begins (Halves h) is asks reads done order are low high = halves_begin h reads asks (rw is at order) are (rw is at low) (rw is at high)
+-- the parts have later variables alone than the first one of the operands, where t is the state in which they are asked
+module _ {s t : State} {x y : Handle} {c : Cofactors} (grows : Grows s t) (kx : Knows s x) (ky : Knows s y)
+    (are : AreCofactors s t x y c) where
+  there : AreCofactors t t x y c
+  there = cofactors_at grows (Grows-refl t) kx ky are
 
--- what was ended is the result
-pub ended : {op : Op} {s t u : State} {a b : Handle} {begun : Begun} {r : Result Handle Full} → Begins op s t a b begun
-    → Builds t u r (begun_family op t begun) → Builds t u r (combine (test_of op) s.vars (family s a) (family s b))
-ended is built = rw is.gives at built
+  pub low_falls : max (level t.vars (family t c.a_low)) (level t.vars (family t c.b_low))
+      < max (level s.vars (family s x)) (level s.vars (family s y))
+  low_falls =
+      let parts = parts_fall (cut_of there) there.a_low there.b_low (IsFamily-low_cofactor _ _) (IsFamily-low_cofactor _ _) in
+      omega (arith, top_later s t x y grows kx ky, parts)
 
--- ---- the halves, one after the other, of operands that may be halved in s
+  pub high_falls : max (level t.vars (family t c.a_high)) (level t.vars (family t c.b_high))
+      < max (level s.vars (family s x)) (level s.vars (family s y))
+  high_falls =
+      let parts = parts_fall (cut_of there) there.a_high there.b_high (IsFamily-high_cofactor _ _) (IsFamily-high_cofactor _ _) in
+      omega (arith, top_later s t x y grows kx ky, parts)
 
--- the first half has a later first variable than the operands have
-pub low_falls : {op : Op} {s t : State} {h : Halved} {low : Begun} → MayHalve op s h
-    → Begins op s t h.cofactors.a_low h.cofactors.b_low low
-    → 2 * begun_top t low + 1 < 2 * max (level s.vars (family s h.x)) (level s.vars (family s h.y))
-low_falls may low_is = let is = may.cofactors in
-    let parts = parts_fall (cut_of is) is.a_low is.b_low (IsFamily-low_cofactor _ _) (IsFamily-low_cofactor _ _) in
-    omega (arith, low_is.falls, parts)
-
--- the second half was begun in a later state u
-pub high_begun : {op : Op} {s u v : State} {h : Halved} {high : Begun} → MayHalve op s h → Grows s u
-    → Begins op u v h.cofactors.a_high h.cofactors.b_high high → Begins op s v h.cofactors.a_high h.cofactors.b_high high
-high_begun {op} {s} {u} {v} {h} {high} may grows is =
-    let later = top_later s u _ _ grows may.high.first may.high.second in
-    let same = combine_later (test_of op) s u _ _ grows may.high.first may.high.second in
-    record { may = is.may; gives = is.gives ∙ same; falls = omega (arith, later, is.falls) }
-
--- it has a later first variable too
-pub high_falls : {op : Op} {s t : State} {h : Halved} {high : Begun} → MayHalve op s h
-    → Begins op s t h.cofactors.a_high h.cofactors.b_high high
-    → 2 * begun_top t high + 1 < 2 * max (level s.vars (family s h.x)) (level s.vars (family s h.y))
-high_falls may high_is = let is = may.cofactors in
-    let parts = parts_fall (cut_of is) is.a_high is.b_high (IsFamily-high_cofactor _ _) (IsFamily-high_cofactor _ _) in
-    omega (arith, high_is.falls, parts)
-
--- the ends of both halves may be finished: the first was begun in r and ended in u, the second begun in v and ended in w
-pub halves_finish : {op : Op} {s r u v w : State} {h : Halved} {low high : Begun} {lo hi : Handle} → MayHalve op s h → Reads s v
-    → Grows u v → Begins op s r h.cofactors.a_low h.cofactors.b_low low → Builds r u (Ok lo) (begun_family op r low)
-    → Begins op s v h.cofactors.a_high h.cofactors.b_high high → Builds v w (Ok hi) (begun_family op v high)
-    → Finishes op s w h.x h.y h.x h.y h.cofactors.var lo hi
-halves_finish {op} {s} {r} {u} {v} {w} {h} {low} {high} {lo} {hi} may reads later low_is one high_is two =
-    finishes may.asks (inl (refl, refl)) may.cofactors (Reads-refl s) (then_call reads two)
-    (two.grows.known lo.0 _ (later.known lo.0 _ one.ok) ∙ ap Some low_is.gives) (two.ok ∙ ap Some high_is.gives)
+-- the halves may be finished, the first asked in t, where the cut was, and the second in u
+pub halves_finish : {op : Op} {s t u v : State} {x y lo hi : Handle} {c : Cofactors} → Asks op s x y → AreCofactors s t x y c → Reads s t
+    → Asks op t c.a_high c.b_high → Builds t u (Ok lo) (combine (test_of op) t.vars (family t c.a_low) (family t c.b_low))
+    → Builds u v (Ok hi) (combine (test_of op) u.vars (family u c.a_high) (family u c.b_high)) → Finishes op s v x y x y c.var lo hi
+halves_finish {op} {s} {t} {u} {v} {x} {y} {lo} {hi} {c} asks are reads high one two =
+    let same = combine_later (test_of op) t u c.a_high c.b_high one.grows high.first high.second in
+    finishes asks (inl (refl, refl)) are reads (then_call (then_call (Reads-refl t) one) two)
+    (two.grows.known lo.0 _ one.ok) (two.ok ∙ ap Some same)

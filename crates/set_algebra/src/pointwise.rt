@@ -6,7 +6,7 @@ ghost use Rattle.lattice.specs.Operations.{test_of, is_pointwise};
 ghost use Rattle.node_store.specs.Stores.{State, Knows, Denotes, family, IsPlanned, Reads, Builds};
 ghost use Rattle.node_store.specs.Stores.{IsSound};
 ghost use Rattle.set_algebra.specs.Pairs.{AreInOrder, AreCofactors, IsCutAt, Asks};
-ghost use Rattle.set_algebra.specs.Begins.{IfDone, IfHalves, MayEnd, MayHalve, begun_family};
+ghost use Rattle.set_algebra.specs.Begins.{IfDone, IfHalves};
 
 use crate::operations::{Inter, Minus, Pointwise, Union, Xor};
 use crate::pairs::{Cofactors, cut};
@@ -65,11 +65,29 @@ fn at_once(op: Op, a: Handle, b: Handle) -> Option<Handle>
 fn in_order(op: Op, a: Handle, b: Handle) -> (Handle, Handle)
     ensures { AreInOrder op a b result.0 result.1 }
 {
-    if keeps_first(op) == keeps_second(op) && b.0 < a.0 {
-        (b, a)
+    if keeps_first(op) == keeps_second(op) {
+        (Handle(a.0.min(b.0)), Handle(a.0.max(b.0)))
     } else {
         (a, b)
     }
+}
+
+/// The result of the operands in order, where it needs no halves: where it needs no look at the
+/// nodes, or is kept.
+#[inline(always)]
+fn found<S: Store>(store: &mut S, op: Op, x: Handle, y: Handle) -> Option<Handle>
+    requires op { is_pointwise op ≡ true }
+    requires asks { Asks op (S.state store.old) x y }
+    ensures reads { Reads (S.state store.old) (S.state store.new) }
+    ensures some { let s = S.state store.old in
+        IfSome result (λ r. Builds s (S.state store.new) (Ok r)
+        (combine (test_of op) s.vars (family s x) (family s y))) }
+    ensures none { IfNone result ((2 ≤ x.0) ⊎ (2 ≤ y.0)) }
+{
+    if let Some(r) = at_once(op, x, y) {
+        return Some(r);
+    }
+    store.look(op, x, y.0)
 }
 
 /// The operands in order, and their parts.
@@ -106,15 +124,15 @@ pub fn begin<S: Store>(store: &mut S, op: Op, a: Handle, b: Handle) -> Begun
     ensures high { IfHalves result
         (λ h. Asks op (S.state store.new) h.cofactors.a_high h.cofactors.b_high) }
 {
-    if let Some(r) = at_once(op, a, b) {
-        return Begun::Done(r);
-    }
     let (x, y) = in_order(op, a, b);
-    if let Some(r) = store.look(op, x, y.0) {
-        return Begun::Done(r);
+    match found(store, op, x, y) {
+        Some(r) => Begun::Done(r),
+        None => Begun::Halves(Halved {
+            x,
+            y,
+            cofactors: cut(store, x, y),
+        }),
     }
-    let cofactors = cut(store, x, y);
-    Begun::Halves(Halved { x, y, cofactors })
 }
 
 /// What there is after the halves of a pointwise operation, `lo` of the low parts and `hi` of the
@@ -145,47 +163,43 @@ pub fn finish<S: Store>(
     Ok(r)
 }
 
-/// The result of an operation that was begun.
+/// The result of the operation `O`. It is looked for here, inlined where it is asked for, so that
+/// what needs no halves takes no call.
 #[inline(always)]
 #[cycle(halves)]
-fn end<O: Pointwise, S: Store>(store: &mut S, begun: Begun) -> Result<Handle, Full>
-    requires { MayEnd O.OP (S.state store.old) begun }
-    ensures { let s = S.state store.old in
-        Builds s (S.state store.new) result (begun_family O.OP s begun) }
-{
-    match begun {
-        Begun::Done(r) => Ok(r),
-        Begun::Halves(halved) => combine_halves::<O, S>(store, halved),
-    }
-}
-
-/// The result of an operation by its halves. Each is begun here, so that one which needs no halves
-/// of its own takes no call.
-#[cycle(halves)]
-fn combine_halves<O: Pointwise, S: Store>(store: &mut S, halved: Halved) -> Result<Handle, Full>
-    requires { MayHalve O.OP (S.state store.old) halved }
-    ensures { let s = S.state store.old in
-        Builds s (S.state store.new) result
-        (combine (test_of O.OP) s.vars (family s halved.x) (family s halved.y)) }
-{
-    let op = O::OP;
-    let c = halved.cofactors;
-    let low = begin(store, op, c.a_low, c.b_low);
-    let lo = end::<O, S>(store, low)?;
-    let high = begin(store, op, c.a_high, c.b_high);
-    let hi = end::<O, S>(store, high)?;
-    finish(store, op, halved, lo, hi)
-}
-
-/// The result of the operation `O`.
 fn combine_by<O: Pointwise, S: Store>(store: &mut S, a: Handle, b: Handle) -> Result<Handle, Full>
     requires { Asks O.OP (S.state store.old) a b }
     ensures { let s = S.state store.old in
         Builds s (S.state store.new) result
         (combine (test_of O.OP) s.vars (family s a) (family s b)) }
 {
-    let begun = begin(store, O::OP, a, b);
-    end::<O, S>(store, begun)
+    let op = O::OP;
+    let (x, y) = in_order(op, a, b);
+    match found(store, op, x, y) {
+        Some(r) => Ok(r),
+        None => combine_halves::<O, S>(store, x, y),
+    }
+}
+
+/// The result of operands in order by their halves. They are cut here and not where they are asked
+/// for, so that a call passes two handles alone.
+#[cycle(halves)]
+fn combine_halves<O: Pointwise, S: Store>(
+    store: &mut S,
+    x: Handle,
+    y: Handle,
+) -> Result<Handle, Full>
+    requires asks { Asks O.OP (S.state store.old) x y }
+    requires some { (2 ≤ x.0) ⊎ (2 ≤ y.0) }
+    ensures { let s = S.state store.old in
+        Builds s (S.state store.new) result
+        (combine (test_of O.OP) s.vars (family s x) (family s y)) }
+{
+    let op = O::OP;
+    let c = cut(store, x, y);
+    let lo = combine_by::<O, S>(store, c.a_low, c.b_low)?;
+    let hi = combine_by::<O, S>(store, c.a_high, c.b_high)?;
+    finish(store, op, Halved { x, y, cofactors: c }, lo, hi)
 }
 
 /// The result of a pointwise operation.
