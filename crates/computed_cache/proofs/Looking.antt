@@ -1,5 +1,5 @@
 -- What a word of a key's place tells, where its quotient is the key's.
-use Rattle.std.proofs.Common.{◌≡◌, ◌≢◌, ◌⊎◌, inl, inr, ℕ, ◌/◌, ◌<◌}
+use Rattle.std.proofs.Common.{◌≡◌, ◌≢◌, ◌⊎◌, inl, inr, ℕ, ◌+◌, ◌-◌, ◌*◌, ◌/◌, ◌%◌, ◌^◌, ◌<◌, ◌≤◌, arith}
 use Rattle.lattice.specs.Words.{cache_bits, cache_place, quotient, result_of, number_of, key_for}
 use Rattle.lattice.specs.declared.limits.TheConstants.{HANDLE_UNIT}
 use Rattle.lattice.specs.declared.op.Op.{Op}
@@ -7,6 +7,22 @@ use Rattle.lattice.proofs.Diagrams.{same_number, key_below, same_key, quotient_o
 use Rattle.node_store.specs.Stores.{State, AreOperands, IsResult}
 use Rattle.node_store.specs.declared.store.Handle.{Handle}
 use Rattle.unique_table.specs.Kept.{IsKept}
+
+-- what is left of a word, without what its quotient gives it and the one that tells a result from a vacant word
+abbrev pub rest_of : ℕ → ℕ → ℕ
+rest_of base w = (w + (18446744073709551616 - (base + 1))) % 18446744073709551616
+
+module _ (q base w : ℕ) (small : q < 2 ^ 40) (is : base ≡ q * HANDLE_UNIT) where
+  -- where it is a handle, the word is made of both
+  pub word_of_rest : w < 2 ^ 64 → rest_of base w < HANDLE_UNIT - 1 → w ≡ q * HANDLE_UNIT + rest_of base w + 1
+  word_of_rest fits near = omega (arith, is, small)
+
+  -- where it is none, the word is vacant or has another quotient
+  pub other_of_rest : (s t : State) (bits place : ℕ) → HANDLE_UNIT - 1 ≤ rest_of base w → (w ≡ 0) ⊎ IsKept s t bits place w
+      → (w ≡ 0) ⊎ (w / HANDLE_UNIT ≢ q)
+  other_of_rest s t bits place far (inl none) = inl none
+  other_of_rest s t bits place far (inr kept) =
+      let fits = kept.r_fits in let made = (kept.word).word in inr (λ same. omega (arith, fits, made, same, far, is, small))
 
 module _ (s t : State) (bits : ℕ) (op : Op) (a : Handle) (b w : ℕ) (a_fits : a.0 < HANDLE_UNIT) (b_fits : b < HANDLE_UNIT)
     (some : w ≢ 0) (same : w / HANDLE_UNIT ≡ quotient (cache_bits bits) (key_for op a.0 b))

@@ -128,12 +128,14 @@ impl<'t> Store for CachedPass<'t> {
         // It loads no node word that tells it anything.
         ensures history { (cached_state self.new).history ≡ (cached_state self.old).history }
     {
-        let slot = slot_of(self.pass.bits(), op, a, b);
+        let slot = slot_of(self.pass.cache_bits(), op, a, b);
         let word = self.pass.cache_load(slot.place);
-        if word == 0 || word / HANDLE_UNIT != slot.quotient {
+        // Of a vacant word, and of one of another key, this is no handle.
+        let found = word.wrapping_sub(slot.base + 1);
+        if found >= HANDLE_UNIT - 1 {
             return None;
         }
-        Some(Handle((word % HANDLE_UNIT) as u32 - 1))
+        Some(Handle(found as u32))
     }
 
     /// Stores one word, once, at the place of the operation's key.
@@ -145,8 +147,8 @@ impl<'t> Store for CachedPass<'t> {
             (cache_place (cache_of self.old) (key_for op a.0 b))
             (cache_word (cache_of self.old) (key_for op a.0 b) r.0) }
     {
-        let target = slot_of(self.pass.bits(), op, a, b);
-        let word = target.quotient * HANDLE_UNIT + u64::from(r.0) + 1;
+        let target = slot_of(self.pass.cache_bits(), op, a, b);
+        let word = target.base + u64::from(r.0) + 1;
         self.pass.cache_store(target.place, word);
     }
 }

@@ -15,4 +15,4 @@ pub use crate::plain::PlainStore;
 pub use crate::refusal::SolveRefusal;
 pub use crate::store::{Full, Handle, Node, Store};
 pub use crate::walk::{first_var, grow, parts, parts_of};
-pub use crate::word::{pack, unpack};
+pub use crate::word::{node_of, pack, unpack};

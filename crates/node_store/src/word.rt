@@ -1,6 +1,7 @@
 //! Nodes as words.
-ghost use Rattle.std.specs.Prelude.{◌≡◌, ◌<◌, ◌≤◌, IfSome, IfNone};
-ghost use Rattle.lattice.specs.NodeWords.{node_word};
+ghost use Rattle.std.specs.Prelude.{◌≡◌, ◌≢◌, ◌<◌, ◌≤◌, IfSome, IfNone};
+ghost use Rattle.lattice.specs.NodeWords.{node_word, var_of, hi_of};
+ghost use Rattle.lattice.specs.declared.limits.TheConstants.{MAX_VARS};
 ghost use Rattle.node_store.specs.PackedNodes.{IsPackable, IsPacked};
 
 use crate::store::{Handle, Node};
@@ -20,14 +21,22 @@ pub fn unpack(word: u64) -> Option<Node>
     ensures none { IfNone result ((n : Node) → ¬ IsPacked word n) }
 {
     let var = word / TOP_UNIT;
-    let lo = word / HANDLE_UNIT % HANDLE_UNIT;
-    let hi = word % HANDLE_UNIT;
-    if var < 1 || (MAX_VARS as u64) < var || hi == 0 {
+    if var < 1 || (MAX_VARS as u64) < var || word % HANDLE_UNIT == 0 {
         return None;
     }
-    Some(Node {
-        var: var as u32,
-        lo: Handle(lo as u32),
-        hi: Handle(hi as u32),
-    })
+    Some(node_of(word))
+}
+
+/// The node with this word, where there is one.
+pub fn node_of(word: u64) -> Node
+    requires first { 1 ≤ var_of word }
+    requires last { var_of word ≤ MAX_VARS }
+    requires full { hi_of word ≢ 0 }
+    ensures { IsPacked word result }
+{
+    Node {
+        var: (word / TOP_UNIT) as u32,
+        lo: Handle((word / HANDLE_UNIT % HANDLE_UNIT) as u32),
+        hi: Handle((word % HANDLE_UNIT) as u32),
+    }
 }

@@ -1,15 +1,15 @@
 -- What the calls of a pass leave, as calls of a store.
 use Rattle.std.proofs.Common.{◌≡◌, ℕ, suc, ◌+◌, ◌-◌, ◌^◌, ◌<◌, ◌≤◌, Some, None, Ok, Err, Option, IsNone, IfSome, IfNone, List, []}
 use Rattle.std.proofs.Common.{◌∷◌, ◌++◌, ◌∙◌, zero, ◌==◌, true, false, length-append, eq-eqb, eqb-true, length, sym, refl, ◌↔◌, ◌⊎◌}
-use Rattle.std.proofs.Common.{subst, arith}
-use Rattle.lattice.specs.Words.{Family, Has, var_of, lo_of, hi_of, place, refused}
+use Rattle.std.proofs.Common.{subst, arith, pow_mono}
+use Rattle.lattice.specs.Words.{Family, Has, var_of, lo_of, hi_of, place, cache_bits, refused}
 use Rattle.std.proofs.lemmas.List.{append-nil, append_assoc}
 use Rattle.std.proofs.lemmas.List.Elements.{Contains-append_right}
 use Rattle.std.proofs.lemmas.Nat.{pow_pos}
 use Rattle.lattice.specs.declared.entry.Entry.{Entry}
 use Rattle.lattice.specs.declared.entry.Entry.TheVariants.{Met, Ask, Full}
 use Rattle.lattice.proofs.Diagrams.{refusals_of-grows, refusals_of-quiet, refusals_of-refused, refused-append, hi_of-word, lo_of-word}
-use Rattle.lattice.proofs.Diagrams.{path_is_whole, var_of-word}
+use Rattle.lattice.proofs.Diagrams.{path_is_whole, place_below, var_of-word}
 use Rattle.node_store.specs.Stores.{State, Knows, family, node_family, IsNode, Grows, Reads, Builds}
 use Rattle.node_store.specs.PackedNodes.{IsPackable, IsPacked}
 use Rattle.node_store.specs.declared.store.Node.{Node}
@@ -20,9 +20,10 @@ use Rattle.atomic_table.specs.Seated.{TableId}
 use Rattle.unique_table.specs.declared.view.View.{View}
 use Rattle.unique_table.specs.Kept.{IsKept}
 use Rattle.unique_table.specs.Views.{name_of, known_by, steps_of, after_load, after_store, view_state}
-use Rattle.unique_table.specs.Told.{AreChildren, HasChildren, MetOther, IsAsked, IsNext, HasNoRoom, Passes, IsCrowded, Goes, Meets}
-use Rattle.unique_table.specs.Told.{PassesBy, Interned, AllOthers, Looked, Stored, Sat}
+use Rattle.unique_table.specs.Told.{AreChildren, HasChildren, MetOther, IsAsked, IsNext, Passes, IsCrowded, Goes, Meets}
+use Rattle.unique_table.specs.Told.{PassesBy, Stands, Interned, AllOthers, Looked, Stored, Sat}
 use Rattle.unique_table.specs.Rule.{IsNew}
+use Rattle.unique_table.specs.Walks.{Walked}
 use Rattle.unique_table.specs.Passes.{word_of, IsUntouched, IsInterned, FindsFull, HasMet}
 use Rattle.unique_table.specs.PassOf.{AreOfOne, pass_state, pass_steps, pass_sound, bits_of}
 use Rattle.unique_table.specs.declared.pass.Pass.{Pass}
@@ -54,17 +55,6 @@ by_append bits w d k [] more by rest is = let same : d ≡ k = omega arith in rw
 by_append bits w d k (Met h x ∷ es) more by rest is = (by.0, by.1, by_append bits w (suc d) k es more by.2 rest (omega arith))
 by_append bits w d k (Ask h x ∷ es) more by rest is = absurd by
 by_append bits w d k (Full x ∷ es) more by rest is = absurd by
-
--- what holds after the places before the d-th were passed
-pub record Walked (p : Pass) (w d : ℕ) (q : Pass) : Type 0 where
-  pub same : AreOfOne p q
-  pub within : d ≤ 2 ^ p.bits
-  pub before : List Entry
-  pub count : length before ≡ d
-  pub others : PassesBy p.bits w 0 before
-  pub goes : d < 2 ^ p.bits → Goes p.seat.me.0 before q.seat.me.0
-  pub full : d ≡ 2 ^ p.bits → Goes p.seat.me.0 (before ++ Full w ∷ []) q.seat.me.0 × HasNoRoom p.seat.me.0 w
-  pub fresh : IsNew p.seat.me.0 → IsNew q.seat.me.0 × (d ≡ 0)
 
 pub walked_none : (p : Pass) (w : ℕ) → Walked p w 0 p
 walked_none p w = grind (arith, append-nil, pow_pos)
@@ -98,6 +88,54 @@ module _ (p : Pass) (w d : ℕ) (q : Pass) (walked : Walked p w d q) (less : d <
             (grind (arith, more, append_assoc), λ low high known. grind (arith, t.1.over e low high, g));
         fresh = λ new. absurd (old (walked.fresh new).0);
       }
+
+-- after the first place of the path
+pub first_passed : (p : Pass) (w : ℕ) (q : Pass) → AreOfOne p q → (IsNew p.seat.me.0 → ⊥)
+    → (other : ℕ) × Passes p.seat.me.0 (0 + 1 == 2 ^ p.bits) (place p.bits w 0) other w q.seat.me.0 → Walked p w 1 q
+first_passed p w q same old t = walked_more p w 0 p (walked_none p w) (pow_pos p.bits) q same old t
+
+-- what was asked for is asked for still
+pub still_asked : (v u : View) (w : ℕ) (more : List Entry) → Goes v more u → IsAsked v w → IsAsked u w
+still_asked v u w more goes asked = grind (arith, goes, asked)
+
+-- the word stands at the next place
+module _ (p : Pass) (w d : ℕ) (q : Pass) (walked : Walked p w d q) where
+  found_next : d < 2 ^ p.bits → (q' : Pass) → AreOfOne q q' → (at : ℕ) → at ≡ place q.bits w d → Stands q.seat.me.0 at w q'.seat.me.0
+      → (at < 2 ^ p.bits) × Interned p.seat.me.0 w at q'.seat.me.0
+  found_next less q' same at is stands =
+      let here : List Entry = Met (suc (suc at)) w ∷ Ask (suc (suc at)) w ∷ [] in
+      let goes = goes_on _ _ _ walked.before here (walked.goes less) stands.meets.goes in
+      let bits : q.bits ≡ p.bits = walked.same.bits in let terms : (p.seat.me.0).terms.bits ≡ p.bits = p.sizes.0 in
+      let count = walked.count in let others = walked.others in
+      (rw (is, bits) (place_below p.bits w d p.bits_range.0), grind (arith, goes, stands, walked.goes less, q'.sound))
+
+  -- each place was passed
+  pub all_passed : 2 ^ p.bits ≤ d → AllOthers p.seat.me.0 w q.seat.me.0
+  all_passed all =
+      let whole : d ≡ 2 ^ p.bits = omega (arith, walked.within) in let full = walked.full whole in
+      let terms : (p.seat.me.0).terms.bits ≡ p.bits = p.sizes.0 in let count = walked.count in let others = walked.others in
+      grind (arith, full, q.sound)
+
+-- what is told of a word that was found further on, of each pass that the walk may have begun with
+pub found_further : (o q q' : Pass) (w d : ℕ) → ((p : Pass) → Walked p w 1 o → Walked p w d q) → d < 2 ^ q.bits → AreOfOne q q'
+    → (r : Option ℕ) → IfSome r (λ at. (at ≡ place q.bits w d) × Stands q.seat.me.0 at w q'.seat.me.0)
+    → IfSome r (λ at. (p : Pass) → Walked p w 1 o → (at < 2 ^ p.bits) × Interned p.seat.me.0 w at q'.seat.me.0)
+found_further o q q' w d walks less same None found = tt
+found_further o q q' w d walks less same (Some at) found = λ p began.
+    let walked = walks p began in let bits : q.bits ≡ p.bits = walked.same.bits in
+    found_next p w d q walked (rw (← bits) less) q' same at found.0 found.1
+
+-- and of the pass that it did begin with
+module _ (p o q : Pass) (w : ℕ) (began : Walked p w 1 o) where
+  pub of_found : (r : Option ℕ) → IfSome r (λ at. (p : Pass) → Walked p w 1 o → (at < 2 ^ p.bits) × Interned p.seat.me.0 w at q.seat.me.0)
+      → IfSome r (λ at. (at < 2 ^ p.bits) × Interned p.seat.me.0 w at q.seat.me.0)
+  of_found None found = tt
+  of_found (Some at) found = found p began
+
+  pub of_none : (r : Option ℕ) → IfNone r ((p : Pass) → Walked p w 1 o → AllOthers p.seat.me.0 w q.seat.me.0)
+      → IfNone r (AllOthers p.seat.me.0 w q.seat.me.0)
+  of_none None all = all p began
+  of_none (Some at) all = tt
 
 module _ (z y : TableId) (v u : View) (same : y ≡ z) (more : List Entry) (goes : Goes v more u) where
   -- what goes on is a later state
@@ -242,6 +280,13 @@ module _ (p q : Pass) (h : Handle) (w : ℕ) (same : q.seat.table_id ≡ p.seat.
   node_told None some other = let t = meets.teaches in grind (arith, other (node_of w), packed, pass_sound q)
 
 -- ---- cache words
+
+-- the cache words of a pass have indices that fit
+pub cache_index_small : (p : Pass) (place : ℕ) → place < 2 ^ cache_bits p.bits → p.slots + place ≤ 16777216
+cache_index_small p place inside =
+    let range = p.bits_range in let cache : cache_bits p.bits ≤ 23 = omega (arith, range) in
+    let least : 2 ^ p.bits ≤ 8388608 = pow_mono range.1 in let most : 2 ^ cache_bits p.bits ≤ 8388608 = pow_mono cache in
+    omega (arith, p.counts.1)
 
 module _ (p : Pass) (y : TableId) (m : Sat) (place at w : ℕ) (same : y ≡ p.seat.table_id) (there : at ≡ 2 ^ p.bits + place) where
   -- what is told where a cache word was loaded

@@ -6,5 +6,6 @@ pub mod Kept
 pub mod Told
 pub mod Passes
 pub mod PassOf
+pub mod Walks
 pub mod PassLaws
 pub mod RuleLaws

@@ -5,6 +5,7 @@ ghost use Rattle.std.specs.Prelude.{◌∷◌, ◌++◌};
 ghost use Rattle.lattice.specs.Family.{Family};
 ghost use Rattle.lattice.specs.NodeWords.{place, cache_bits};
 ghost use Rattle.lattice.specs.declared.limits.TheConstants.{MAX_VARS, MIN_BITS, MAX_BITS};
+ghost use Rattle.lattice.specs.declared.limits.TheConstants.{MIN_CACHE_BITS};
 ghost use Rattle.lattice.specs.declared.entry.Entry.TheVariants.{Met};
 ghost use Rattle.unique_table.specs.Views.{known_by};
 ghost use Rattle.unique_table.specs.Rule.{first_view, second_view, joined_view, IsNew, IsSoundView};
@@ -16,8 +17,8 @@ use crate::plays::{Asked, CacheLoad, CacheStore, Check, Insert, Nodes, Probe, Tw
 use crate::view::{About, View};
 use crate::zeros::{spare_count, zeros_or};
 use atomic_table::{Seat, Table};
-use lattice::{Memory, Op, Plan};
-use node_store::{Full, Handle, Node, Store, pack, unpack};
+use lattice::{MIN_CACHE_BITS, Memory, Op, Plan};
+use node_store::{Full, Handle, Node, Store, node_of, pack};
 use probe_core::{cache_size, probe_place};
 use std::alloc::Global;
 use std::marker::Brand;
@@ -43,18 +44,22 @@ pub struct Token {
     ghost sound: { IsSoundView seat.me.0 } by { IsSoundView-prop seat.me.0 },
 }
 
-/// A token at its table: a store.
+/// A token at its table: a store. It keeps the sizes of the table and of its cache at hand, since
+/// each call needs one of them.
 #[derive(Drop)]
 pub struct Pass<'t> {
     table: &'t Shared,
     seat: Seat<(), View>,
     bits: u32,
+    cache_log2: u32,
+    slots: usize,
     vars: u32,
     ghost of: { seat.table_id ≡ table.now.table.shared.table_id },
     ghost bare: { seat.me.1 ≡ [] },
     ghost bits_range: { (MIN_BITS ≤ bits) × (bits ≤ MAX_BITS) },
     ghost sizes: { (seat.me.0.terms.bits ≡ bits) × (seat.me.0.terms.vars ≡ vars)
         × (seat.table_id.words ≡ 2 ^ bits + 2 ^ cache_bits bits) },
+    ghost counts: { (cache_log2 ≡ cache_bits bits) × (slots ≡ 2 ^ bits) },
     ghost sound: { IsSoundView seat.me.0 } by { IsSoundView-prop seat.me.0 },
 }
 
@@ -93,18 +98,11 @@ impl Shared {
             table: self,
             seat,
             bits,
+            cache_log2: bits.max(MIN_CACHE_BITS),
+            slots: 1usize << bits,
             vars,
         }
     }
-}
-
-// The word of the table that is the cache word of the place.
-fn cache_index(bits: u32, place: u32) -> usize
-    requires bits { bits ≤ MAX_BITS }
-    requires place { place < 2 ^ cache_bits bits }
-    ensures { result ≡ 2 ^ bits + place }
-{
-    (1usize << bits) + place as usize
 }
 
 impl<'t> Pass<'t> {
@@ -114,6 +112,7 @@ impl<'t> Pass<'t> {
     ghost use Rattle.unique_table.specs.Passes.{token_state, token_steps, table_name, IsJoined};
     ghost use Rattle.unique_table.specs.Passes.{IsUntouched, twin_of};
     ghost use Rattle.unique_table.specs.PassOf.{pass_state, pass_steps, bits_of, AreOfOne};
+    ghost use Rattle.unique_table.specs.Walks.{Walked};
 
     /// Gives the token back with all that it knows.
     pub fn end(self) -> Token
@@ -124,6 +123,8 @@ impl<'t> Pass<'t> {
             table: _,
             seat,
             bits,
+            cache_log2: _,
+            slots: _,
             vars,
         } = self;
         Token { seat, bits, vars }
@@ -194,13 +195,6 @@ impl<'t> Pass<'t> {
         None
     }
 
-    // How many slots there are.
-    fn slots(&self) -> usize
-        ensures { result ≡ 2 ^ self.entry.now.bits }
-    {
-        1usize << self.bits
-    }
-
     // The slot of the word, which is looked for along its path and put where the path is vacant
     // first. None where all slots have other words.
     fn find(&mut self, word: u64) -> Option<usize>
@@ -212,14 +206,31 @@ impl<'t> Pass<'t> {
         ensures none { IfNone result (AllOthers self.old.seat.me.0 word self.new.seat.me.0) }
         ensures vacant { IsNew self.old.seat.me.0 → result ≡ Some (place self.old.bits word 0) }
     {
-        // (read once: nothing that a step calls is known not to change it)
-        let bits = self.bits;
         // Most words stand at the first place of their path, which needs no more than its start.
-        let first = self.visit::<Brand>(bits, word, 0);
+        let first = self.visit::<Brand>(self.bits, word, 0);
         if first.is_some() {
             return first;
         }
-        for steps in 1..self.slots() {
+        self.find_further(word)
+    }
+
+    // The slot of a word that does not stand at the first place of its path. (a function of its
+    // own, so that a word that does stand there pays for no loop)
+    #[inline(never)]
+    fn find_further(&mut self, word: u64) -> Option<usize>
+        requires asked { IsAsked self.old.seat.me.0 word }
+        requires first { (p : Pass) × Walked p word 1 self.old }
+        ensures same { AreOfOne self.old self.new }
+        ensures some { IfSome result
+            (λ at. (p : Pass) → Walked p word 1 self.old → (at < 2 ^ p.bits)
+            × Interned p.seat.me.0 word at self.new.seat.me.0) }
+        ensures none { IfNone result
+            ((p : Pass) → Walked p word 1 self.old
+            → AllOthers p.seat.me.0 word self.new.seat.me.0) }
+    {
+        // (read once: nothing that a step calls is known not to change it)
+        let bits = self.bits;
+        for steps in 1..self.slots {
             let slot = self.visit::<Brand>(bits, word, steps);
             if slot.is_some() {
                 return slot;
@@ -247,9 +258,17 @@ impl<'t> Pass<'t> {
         self.bits
     }
 
+    /// The cache of the table has 2^cache_bits words.
+    pub fn cache_bits(&self) -> u32
+        ensures range { (MIN_CACHE_BITS ≤ result) × (result ≤ MAX_BITS) }
+        ensures is { result ≡ cache_bits (bits_of self.entry.now) }
+    {
+        self.cache_log2
+    }
+
     /// Loads the cache word of the place. It is vacant, as all are in a new table, or that of a key
     /// at this place: where the pass knows the handles of the key, it knows the result afterwards.
-    pub fn cache_load(&mut self, place: u32) -> u64
+    pub fn cache_load(&mut self, place: usize) -> u64
         requires { place < 2 ^ cache_bits (bits_of self.old) }
         ensures reads { Reads (pass_state self.old) (pass_state self.new) }
         ensures history { (pass_state self.new).history ≡ (pass_state self.old).history }
@@ -259,7 +278,7 @@ impl<'t> Pass<'t> {
         ensures steps { pass_steps self.new ≡ after_load (pass_steps self.old) place result }
         ensures bits { bits_of self.new ≡ bits_of self.old }
     {
-        let at = cache_index(self.bits, place);
+        let at = self.slots + place;
         self.table
             .table
             .shared
@@ -267,14 +286,14 @@ impl<'t> Pass<'t> {
     }
 
     /// Stores the word of a result at its key's place.
-    pub fn cache_store(&mut self, place: u32, word: u64)
+    pub fn cache_store(&mut self, place: usize, word: u64)
         requires place { place < 2 ^ cache_bits (bits_of self.old) }
         requires word { IsShown (pass_state self.old) (bits_of self.old) place word }
         ensures same { pass_state self.new ≡ pass_state self.old }
         ensures steps { pass_steps self.new ≡ after_store (pass_steps self.old) place word }
         ensures bits { bits_of self.new ≡ bits_of self.old }
     {
-        let at = cache_index(self.bits, place);
+        let at = self.slots + place;
         self.table
             .table
             .shared
@@ -293,6 +312,8 @@ impl<'t> Pass<'t> {
             table: self.table,
             seat,
             bits: self.bits,
+            cache_log2: self.cache_log2,
+            slots: self.slots,
             vars: self.vars,
         }
     }
@@ -308,6 +329,8 @@ impl<'t> Pass<'t> {
             table: _,
             seat,
             bits: _,
+            cache_log2: _,
+            slots: _,
             vars: _,
         } = other;
         let table = &self.table.table.shared;
@@ -383,7 +406,7 @@ impl<'t> Store for Pass<'t> {
             return None;
         }
         let word = self.word_at(h.0 as usize - 2);
-        unpack(word)
+        Some(node_of(word))
     }
 
     /// None: it keeps no results.

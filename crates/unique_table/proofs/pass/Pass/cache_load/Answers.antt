@@ -1,12 +1,13 @@
 use Rattle.std.proofs.Common.{arith}
+use Rattle.std.proofs.Math.Facts.{Fits-below}
 use Rattle.unique_table.specs.PassOf.{pass_state, pass_steps, bits_of}
-use Rattle.unique_table.proofs.Calls.{looked_told}
+use Rattle.unique_table.proofs.Calls.{cache_index_small, looked_told}
 use Rattle.unique_table.proofs.Steps.{loads}
 use Rattle.unique_table.proofs.pass.Pass.cache_load.Goals as goal
 
-pub cache_index-at-requires-clause-place : goal.cache_index-at-requires-clause-place
+pub overflow_add-at : goal.overflow_add-at
 unfolding bits_of
-cache_index-at-requires-clause-place c = c.requires
+overflow_add-at c = Fits-below {n = 16777216} tt (cache_index_small c.args.self.now c.args.place c.requires)
 
 pub load-requires : goal.load-requires
 unfolding bits_of
@@ -15,5 +16,5 @@ load-requires c = let p = c.args.self.now in
 
 pub returns : goal.returns
 unfolding pass_state pass_steps bits_of
-returns c = assumption (looked_told c.args.self.now c.load.new.seat.table_id c.load.new.seat.me c.args.place c.cache_index-at.result
-    c.load.result c.load.ensures.0 c.cache_index-at.ensures c.load.ensures.2)
+returns c = assumption (looked_told c.args.self.now c.load.new.seat.table_id c.load.new.seat.me c.args.place _
+    c.load.result c.load.ensures.0 (grind arith) c.load.ensures.2)

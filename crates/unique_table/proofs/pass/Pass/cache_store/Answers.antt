@@ -1,13 +1,14 @@
 use Rattle.std.proofs.Common.{arith}
+use Rattle.std.proofs.Math.Facts.{Fits-below}
 use Rattle.unique_table.specs.Views.{name_of}
 use Rattle.unique_table.specs.PassOf.{pass_state, pass_steps, bits_of}
-use Rattle.unique_table.proofs.Calls.{stored_told}
+use Rattle.unique_table.proofs.Calls.{cache_index_small, stored_told}
 use Rattle.unique_table.proofs.Steps.{stores}
 use Rattle.unique_table.proofs.pass.Pass.cache_store.Goals as goal
 
-pub cache_index-at-requires-clause-place : goal.cache_index-at-requires-clause-place
+pub overflow_add-at : goal.overflow_add-at
 unfolding bits_of
-cache_index-at-requires-clause-place c = c.requires.place
+overflow_add-at c = Fits-below {n = 16777216} tt (cache_index_small c.args.self.now c.args.place c.requires.place)
 
 pub store-requires : goal.store-requires
 unfolding pass_state bits_of
@@ -19,5 +20,5 @@ store-requires c = let p = c.args.self.now in (
 
 pub returns : goal.returns
 unfolding pass_state pass_steps bits_of
-returns c = assumption (stored_told c.args.self.now c.store.new.seat.table_id c.store.new.seat.me c.args.place c.cache_index-at.result
-    c.args.word c.store.ensures.0 c.cache_index-at.ensures c.store.ensures.2)
+returns c = assumption (stored_told c.args.self.now c.store.new.seat.table_id c.store.new.seat.me c.args.place _
+    c.args.word c.store.ensures.0 (grind arith) c.store.ensures.2)

@@ -1,9 +1,5 @@
 use Rattle.std.specs.Prelude.{◌+◌, ◌^◌, ◌==◌}
-use Rattle.unique_table.proofs.Calls.{Walked}
 use Rattle.unique_table.proofs.pass.Pass.find.Given as goal
 
 abbrev pub ghosts-visit : goal.ghosts-visit
 ghosts-visit a = record { asked = a.word; last = a.steps + 1 == 2 ^ a.self.now.bits }
-
-abbrev pub invariant-loop-steps : goal.invariant-loop-steps
-invariant-loop-steps l = Walked l.fn.self l.word l.steps l.self
