@@ -106,8 +106,9 @@ class Threads(Test):
     def test_large(self):
         """On the other ones the workers are as many as are asked for, and one of them is the main thread.
 
-        How many more threads start depends on who draws a job, as the operations of a job fork. In mode gen there are
-        four jobs and then two, so that four threads start in any case; in mode basis each of two phases starts them.
+        How many more threads start depends on who draws a job, as several workers do one job where there are more of
+        them than jobs. In mode gen there are four jobs and then two, so that four threads start in any case; in mode
+        basis each of two phases starts them.
         """
         for what, line, text in large_files():
             for name, workers in itertools.product(PROGRAMS, WORKERS):
@@ -118,7 +119,7 @@ class Threads(Test):
                     self.assertEqual(started == 0, workers == 1)
 
     def test_a_job_each(self):
-        """Where each worker has a job, each of the two lists of jobs starts all of them, and no operation forks."""
+        """Where each worker has a job, each of the two lists of jobs starts all of them, and no job has several."""
         _, line, text = next(large_files())
         for name, workers in itertools.product(PROGRAMS, WORKERS):
             with self.case(f"{name} --workers {workers}"):

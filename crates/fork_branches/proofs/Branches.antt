@@ -1,5 +1,6 @@
 -- Two branches on one table: each goes on from a twin of the state, which then takes in what both know.
 use Rattle.std.proofs.Common.{◌≡◌, ◌∙◌, ◌++◌, ◌<◌, ◌≤◌, ℕ, ap, arith, Result, Ok, Err, List, rules}
+use Rattle.std.specs.Prelude.{IsErr}
 use Rattle.lattice.specs.Words.{Family, Rose}
 use Rattle.node_store.specs.Stores.{State, Grows, IsFull, IsSound, Gives, Reads}
 use Rattle.node_store.specs.declared.store.Handle.{Handle}
@@ -86,6 +87,28 @@ pub in_row : {s t u : State} {lo hi : Handle} {f g : Family} {needed more : List
 in_row {s} {t} {u} low high =
     let quiet = high.quiet ∙ low.quiet in
     search (Grows-trans s t u low.grows high.grows, high.grows.known, low.ok, high, high.grows.held, low.held, rules)
+
+-- the high half before the low one
+pub turned_row : {s t u : State} {lo hi : Handle} {f g : Family} {needed more : List Family} → Gives s t (Ok hi) g more
+    → Gives t u (Ok lo) f needed → GivesBoth s u (Ok (lo, hi)) f g needed more
+turned_row {s} {t} {u} high low =
+    let quiet = low.quiet ∙ high.quiet in
+    search (Grows-trans s t u high.grows low.grows, low.grows.known, high.ok, low, low.grows.held, high.held, rules)
+
+-- the second call failed after the first one
+pub then_failed : {s t u : State} {h : Handle} {e : Full} {f f' g g' : Family} {needed needed' more more' : List Family}
+    (r : Result (Handle × Handle) Full) → IsErr r → Gives s t (Ok h) f' needed' → Gives t u (Err e) g' more'
+    → GivesBoth s u r f g needed more
+then_failed (Ok p) err one two = cc
+then_failed {s} {t} {u} (Err e) err one two = record {
+  grows = Grows-trans s t u one.grows two.grows;
+  low = tt;
+  high = tt;
+  low_held = tt;
+  high_held = tt;
+  quiet = tt;
+  full = record { rose = rw one.quiet at two.full.rose; over = two.full.over };
+}
 
 -- both are there, and nothing was refused
 pub both_reads : {s t : State} {lo hi : Handle} {f g : Family} {needed more : List Family} → GivesBoth s t (Ok (lo, hi)) f g needed more

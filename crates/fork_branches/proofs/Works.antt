@@ -25,6 +25,10 @@ use Rattle.fork_branches.proofs.Branches.{branch_full, branch_quiet, full_later,
 pub may_later : {tasks : Tasks} {s t : State} → Grows s t → MayWork tasks s → MayWork tasks t
 may_later grows may = search (grows.known, may.uses, may.planned, grows.plan, grows.vars)
 
+-- in a twin too
+pub may_twin : {tasks : Tasks} {s : State} → MayWork tasks s → MayWork tasks (twin_of s)
+may_twin may = record { few = may.few; vars = may.vars; uses = may.uses; planned = may.planned }
+
 answer_later : {tasks : Tasks} {s t : State} {a : Answer} → Grows s t → IsAnswer tasks s a → IsAnswer tasks t a
 answer_later grows is = grind arith
 
@@ -148,6 +152,4 @@ module _ {A : Type 0} {tasks : Tasks} {s y u w v : State} {front back : List Ans
 -- what a branch is sent by a pass in the state s
 pub sent : {tasks : Tasks} {table : Shared} {token : Token} (crew : Crew) (s : State) → MayWork tasks s → s.table ≡ Some (table_name table)
     → token_state token ≡ twin_of s → AreIdle tasks.total crew → IsSent tasks table token crew
-sent {tasks} crew s may of state idle =
-    let there : MayWork tasks (twin_of s) = record { few = may.few; vars = may.vars; uses = may.uses; planned = may.planned } in
-    record { of_table = rw state of; may = rw state there; idle = idle }
+sent crew s may of state idle = record { of_table = rw state of; may = rw state (may_twin may); idle = idle }

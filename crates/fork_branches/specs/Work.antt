@@ -56,7 +56,7 @@ answers_of Away = []
 answers_of (One w) = w.answers.items
 answers_of (Two' p a q b) = answers_of a ++ answers_of b
 
--- a worker before its first job, with room for the answers of all jobs, and with 1 to 16 workers for its operations
+-- a worker before its first job, with room for the answers of all jobs, and with 1 to 16 workers for each of its jobs
 pub record IsIdle (total : ℕ) (w : Worker) : Type 0 where
   pub none : w.answers.items ≡ []
   pub room : total ≤ vec_capacity w.answers
@@ -75,7 +75,7 @@ lists_of Away = []
 lists_of (One w) = numbers_of w.answers.items ∷ []
 lists_of (Two' p a q b) = lists_of a ++ lists_of b
 
--- how many workers the operations of all job workers have
+-- how many workers the jobs of all job workers have
 abbrev pub workers_of : Crew → ℕ
 workers_of Away = 0
 workers_of (One w) = w.workers

@@ -13,7 +13,7 @@ pub struct Answer {
     pub handle: Handle,
 }
 
-/// A job worker: how many workers its operations have, and the answers of the jobs whose
+/// A job worker: by how many workers each of its jobs is run, and the answers of the jobs whose
 /// numbers it took.
 #[derive(Drop)]
 pub struct Worker {
@@ -30,8 +30,8 @@ pub enum Crew {
     Two(Box<Crew>, Box<Crew>),
 }
 
-/// So many job workers, each with room for so many answers. The operations of each have `each`
-/// workers, and those of the first `more` of them one more.
+/// So many job workers, each with room for so many answers. The jobs of each have `each` workers,
+/// and those of the first `more` of them one more.
 pub fn make_crew(
     alloc: Global,
     room: u32,

@@ -7,7 +7,6 @@ ghost use Rattle.fork_branches.specs.Work.{IsSent, IsBack, answers_of, job_worke
 
 use crate::crew::Crew;
 use crate::fork::Fork;
-use crate::forked::Forked;
 use crate::jobs::Jobs;
 use crate::work::work;
 use computed_cache::CachedPass;
@@ -149,8 +148,9 @@ pub fn work_in<R: Threads + Sync, J: Jobs, D: Dealing>(
         Crew::Away => (hand, Ok(())),
         Crew::One(worker) => {
             let (mut worker, mut hand) = (worker, hand);
-            let mut ops = Forked::new(fork.rt, fork.gate, worker.workers);
-            let result = work(dealer, jobs, &mut ops, pass, &mut hand, &mut worker.answers);
+            let result = work(
+                fork, worker.workers, dealer, jobs, pass, &mut hand, &mut worker.answers,
+            );
             *crew = Crew::One(worker);
             (hand, result)
         }

@@ -7,11 +7,13 @@ mod crews;
 mod fork;
 mod forked;
 mod jobs;
+mod one;
 mod ones;
 mod pairs;
 mod pool;
 mod shares;
 mod solve;
+mod turned;
 mod work;
 
 pub use crate::forked::Forked;

@@ -12,7 +12,6 @@ ghost use Rattle.fork_branches.specs.Solves.{AreSolved, Refuses, AreRun, placed}
 use crate::crew::{Answer, Crew, make_crew};
 use crate::crews::work_in;
 use crate::fork::Fork;
-use crate::forked::Forked;
 use crate::jobs::Jobs;
 use crate::shares::Shares;
 use crate::work::work;
@@ -119,8 +118,7 @@ fn work_out<R: Threads + Sync, J: Jobs, D: Dealing>(
 {
     let (mut hand, result) = work_in(fork, dealer, jobs, pass, hand, crew);
     result?;
-    let mut ops = Forked::new(fork.rt, fork.gate, 1);
-    work(dealer, jobs, &mut ops, pass, &mut hand, rest)
+    work(fork, 1, dealer, jobs, pass, &mut hand, rest)
 }
 
 /// Runs all jobs, and gives the handle of each, by number, and which job worker ran it.
@@ -128,12 +126,12 @@ fn work_out<R: Threads + Sync, J: Jobs, D: Dealing>(
 /// As many job workers as there are workers, or as there are jobs where these are fewer, take the
 /// numbers of a dealing one by one. They are started by halves, each of which enters the gate
 /// first: place 0 in the first half, and place 1 in the second. The workers are shared out among
-/// them evenly, the first ones getting one more, and a job worker's operations run in as many
-/// branches as it has workers. Once all have ended the caller takes what they left, for the first
-/// of them. All memory is taken before the first number: after `Memory` no job was run. `Full`
-/// where a worker found no slot for a family that its job needed, once all have ended: the pass
-/// knows, holds and did what all workers did then too. After its first `Full` a worker goes on
-/// taking numbers, and runs no more jobs.
+/// them evenly, the first ones getting one more, and each job of a job worker runs in as many
+/// branches as it has workers, each of which does the whole job. Once all have ended the caller
+/// takes what they left, for the first of them. All memory is taken before the first number: after
+/// `Memory` no job was run. `Full` where a worker found no slot for a family that its job needed,
+/// once all have ended: the pass knows, holds and did what all workers did then too. After its
+/// first `Full` a worker goes on taking numbers, and runs no more jobs.
 pub fn solve_by<R: Threads + Sync, J: Jobs, D: Dealing>(
     rt: &R,
     alloc: Global,

@@ -5,23 +5,27 @@ ghost use Rattle.job_counter.specs.Numbers.{once_below};
 ghost use Rattle.fork_branches.specs.Work.{MayWork, Works, Takes};
 
 use crate::crew::Answer;
+use crate::fork::Fork;
 use crate::jobs::Jobs;
-use bool_poly::SetOps;
+use crate::one::run_in;
 use computed_cache::CachedPass;
 use job_counter::Dealing;
 use node_store::Full;
+use outside::Rendezvous;
+use std::thread::Threads;
 
-/// Takes numbers and runs their jobs until the hand gives none. Where the table is full it goes on
-/// taking numbers, and runs no more jobs.
-pub fn work<'t, J: Jobs, O: SetOps<CachedPass<'t>>, D: Dealing>(
+/// Takes numbers and runs their jobs, each by as many workers, until the hand gives none. Where the
+/// table is full it goes on taking numbers, and runs no more jobs.
+pub fn work<R: Threads + Sync, J: Jobs, D: Dealing>(
+    fork: &Fork<R, Rendezvous>,
+    workers: u32,
     dealer: &D,
     jobs: &J,
-    ops: &mut O,
-    pass: &mut CachedPass<'t>,
+    pass: &mut CachedPass,
     hand: &mut D::Hand,
     answers: &mut Vec<Answer>,
 ) -> Result<(), Full>
-    requires ready { O.ready ops.old }
+    requires workers { (1 ≤ workers) × (workers ≤ 16) }
     requires may { MayWork (J.tasks jobs.now) (cached_state pass.old) }
     requires total { D.total dealer.now ≡ (J.tasks jobs.now).total }
     requires of { D.is_of dealer.now hand.old }
@@ -35,7 +39,7 @@ pub fn work<'t, J: Jobs, O: SetOps<CachedPass<'t>>, D: Dealing>(
         → D.took dealer.now hand.new x ≡ once_below x (D.total dealer.now)) }
 {
     while let Some(number) = dealer.take(hand) {
-        match jobs.one(pass, ops, number) {
+        match run_in(fork, workers, 0, jobs, pass, number) {
             Ok(handle) => answers.push(Answer { number, handle }).unwrap(),
             Err(full) => {
                 take_rest(dealer, hand, jobs.count());

@@ -80,7 +80,8 @@ fn build_cares<S: Store>(
 }
 
 /// The care sets of all outputs. Each row's cube is built once, by the pass; their unions are jobs
-/// of the pool.
+/// of the pool. A cover has one worker at most: its unions stand in a row, so that several workers
+/// would do the same ones at the same time.
 pub(crate) fn find_cares<R: Threads + Sync, P: Pool>(
     interp: &mut Interp<'_, R, P>,
     store: &mut CachedPass,
@@ -106,6 +107,7 @@ pub(crate) fn find_cares<R: Threads + Sync, P: Pool>(
 {
     let cubes = row_cubes(interp.alloc, store, pla)?;
     let jobs = CoverJobs { pla, cubes: &cubes };
+    let workers = workers.min(jobs.count().max(1));
     let covers = interp.pool.all(interp.rt, interp.alloc, store, &jobs, interp.gate, workers)?;
     build_cares(interp.alloc, store, pla, &covers)
 }

@@ -63,11 +63,16 @@ impl Noted {
 
     // Whether each job was called once, and those that waited saw the others begin.
     pub(crate) fn went_well(&self) -> bool {
+        self.had_calls(1)
+    }
+
+    // Whether each job was called so often, and those that waited saw the others begin.
+    fn had_calls(&self, times: u64) -> bool {
         self.missed.load(Ordering::SeqCst) == 0
             && self
                 .calls
                 .iter()
-                .all(|call| call.load(Ordering::SeqCst) == 1)
+                .all(|call| call.load(Ordering::SeqCst) == times)
     }
 }
 
@@ -227,6 +232,22 @@ fn as_many_workers_as_asked(rt: HostRuntime) -> Result<(), Fail> {
         )?;
         assert!(rt; jobs.went_well(), "{workers} workers");
         assert_eq!(rt; handles.len(), workers as usize);
+    }
+    Ok(())
+}
+
+// One job and several workers: each of them does it, and waits until all have begun, so they are at
+// work at one time. The first two meet at the gate.
+#[test]
+fn one_job_by_several_workers(rt: HostRuntime) -> Result<(), Fail> {
+    for workers in [2u32, 3, 16] {
+        assert!(rt; 1 <= workers && workers <= 16);
+        let jobs = Noted::new(rt.alloc(), 1, 1, u64::from(workers))?;
+        let gate = Rendezvous::waiting(LOOKS);
+        let handles = all_by(&rt, rt.alloc(), &mut Drawn::new(), &jobs, &gate, workers)?;
+        assert!(rt; jobs.had_calls(u64::from(workers)), "{workers} workers");
+        assert!(rt; gate.met());
+        assert_eq!(rt; handles.len(), 1);
     }
     Ok(())
 }

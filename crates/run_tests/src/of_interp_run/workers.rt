@@ -34,12 +34,11 @@ fn any_number_of_workers(rt: HostRuntime) -> Result<(), Fail> {
     Ok(())
 }
 
-// With two workers the branches of an operation are at their starts at one time: each waits at the
-// gate until it has seen the other. A body that runs both branches on one thread, or that drops the
-// workers or the gate, gives the same text and fails here. The first two files have several jobs,
-// whose workers meet before any operation. The last one has one cover and one polynomial, each of
-// which a worker finds alone: there the branches of the polynomial's operations are the first to
-// meet.
+// With two workers both are at their starts at one time: each waits at the gate until it has seen
+// the other. A body that runs both on one thread, or that drops the workers or the gate, gives the
+// same text and fails here. The first two files have several jobs, whose workers meet before any of
+// them. The last one has one cover, which one worker finds, and one polynomial: there the two
+// workers that both find it are the first to meet.
 #[test]
 fn branches_meet(rt: HostRuntime) -> Result<(), Fail> {
     let parity = ".i 3\n.o 1\n001 1\n010 1\n100 1\n111 1\n";

@@ -19,7 +19,7 @@ work_both-join-front-requires-after_bounds g t c κs within =
     search (rules, front, back)
 
 pub work_in-work-result-requires : goal.work_in-work-result-requires
-work_in-work-result-requires g t c κs =
+work_in-work-result-requires g t c =
     let idle : AreIdle (g.J.Jobs.tasks c.args.jobs.now).total (One c.in-One.worker) =
     rw (sym c.replace.ensures.value ∙ c.in-One.is) at c.requires.idle in
     search (rules, idle)

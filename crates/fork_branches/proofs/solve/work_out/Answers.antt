@@ -10,7 +10,7 @@ returns-in_err-result-clause-worked g c =
     record { between = t; beside = c.work_in-hand.ensures.worked; after = record { answers = []; result = Ok tt; works = nothing_works t } }
 
 pub work-requires : goal.work-requires
-work-requires g c κs =
+work-requires g c =
     let may : MayWork (g.J.Jobs.tasks c.args.jobs.now) (cached_state c.work_in-hand.new.pass) =
     may_later c.work_in-hand.ensures.works.grows c.requires.may in search (rules, may)
 

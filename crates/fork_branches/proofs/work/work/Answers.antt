@@ -24,9 +24,8 @@ loop-number-smaller g c =
 pub loop-number-preserved : goal.loop-number-preserved
 loop-number-preserved g c =
     let a : Answer = record { number = c.in-Some.number; handle = c.in-Ok.handle } in let before = c.loop-number.invariant in
-    let took = c.in-Some.ensures in let gives = c.in-Ok.ensures.result in
+    let took = c.in-Some.ensures in let gives = c.in-Ok.ensures.runs in
     let items : c.push.new.self.items ≡ c.loop-number.answers.items ++ a ∷ [] = rw c.unwrap.ensures at c.push.ensures.items in record {
-      ready = c.in-Ok.ensures.ready;
       may = may_later gives.grows before.may;
       room = omega (arith, c.push.ensures.capacity, before.room);
       works = rw items
@@ -37,4 +36,4 @@ loop-number-preserved g c =
 pub returns-in-Err-clause-works : goal.returns-in-Err-clause-works
 returns-in-Err-clause-works g c =
     rw (← append-nil c.loop-number.answers.items)
-    (works_then (Err c.in-Err.full) c.loop-number.invariant.works (full_works c.in-Err.ensures.result))
+    (works_then (Err c.in-Err.full) c.loop-number.invariant.works (full_works c.in-Err.ensures.runs))

@@ -5,7 +5,6 @@ use Rattle.fork_branches.proofs.work.work.Given as goal
 
 abbrev pub invariant-loop-number : goal.invariant-loop-number
 invariant-loop-number g l = let tasks = g.J.Jobs.tasks l.jobs in record {
-  ready : g.O.SetOps.ready l.ops;
   may : MayWork tasks (cached_state l.pass);
   room : tasks.total ≤ vec_capacity l.answers;
   works : Works tasks (cached_state l.fn.pass) (cached_state l.pass) l.answers.items (Ok (tt {0}));
