@@ -149,7 +149,13 @@ pub fn work_in<R: Threads + Sync, J: Jobs, D: Dealing>(
         Crew::One(worker) => {
             let (mut worker, mut hand) = (worker, hand);
             let result = work(
-                fork, worker.workers, dealer, jobs, pass, &mut hand, &mut worker.answers,
+                fork,
+                worker.workers,
+                dealer,
+                jobs,
+                pass,
+                &mut hand,
+                &mut worker.answers,
             );
             *crew = Crew::One(worker);
             (hand, result)
