@@ -1,0 +1,157 @@
+#!/usr/bin/env python3
+"""Counts the instructions of interp beside those of a plain program of the same method, and compares what they print.
+
+    looks.py [--program PATH] [FILE..]
+
+It makes the files (make_files.py), builds the plain program (plain.rs) by rustc, runs both programs on each file under
+callgrind, a tool of valgrind, and prints a table: the bits of a slot, how often the plain program looks for a kept
+result, the instructions of both whole runs in millions, those of the operations on diagrams alone by the number of
+looks, and how many times as many of these interp takes. Both programs have a table of the least of a few sizes that
+suffices for the plain one. Where rustc or valgrind is missing, nothing is measured.
+"""
+
+import argparse
+import pathlib
+import re
+import shutil
+import subprocess
+import sys
+import tempfile
+
+import make_files
+import run
+
+HERE = pathlib.Path(__file__).resolve().parent
+SOURCE = HERE / "plain.rs"
+TOOLS = ("rustc", "valgrind", "callgrind_annotate")
+
+# The files that are measured where none is named.
+NAMES = [
+    "points_20", "points_24", "multiplier_6", "redundant_28", "cubes_14", "majority_13", "points_14_basis",
+    "points_24_basis",
+]  # fmt: skip
+
+HEADS = [
+    "file", "mode", "bits", "looks", "interp, whole run", "plain, whole run", "interp, a look", "plain, a look", "ratio",
+]  # fmt: skip
+
+# The sizes of table that are tried, in bits of a slot, and the status of the plain program where its table is full.
+SIZES = (12, 16, 18, 19, 20)
+FULL = 3
+
+# A line of callgrind_annotate: the instructions of a function, and its name behind that of its file.
+LINE = re.compile(r"^ *([\d,]+)(?: \([ \d.]+%\))?  (?:[^\s:]*:)?(\S.*)$", re.M)
+TOTAL = "PROGRAM TOTALS"
+# What works on diagrams in interp: the functions of these crates, and those of interp_run that some of them are inlined
+# in. Left out are how a table is made and how terms are counted and listed, as they are of the plain program.
+CRATES = [
+    "set_algebra", "node_store", "bool_poly", "computed_cache", "unique_table", "interp_lex", "vanish_basis",
+    "std_monomials", "cube_build", "fork_branches",
+]  # fmt: skip
+INLINED = "interp_run::(solve::find_first|cover_jobs|tasks)"
+LEFT_OUT = "unique_table::pass::Shared::make|set_algebra::(counted|terms)::"
+OPERATIONS = re.compile(f"(?!{LEFT_OUT})(({'|'.join(CRATES)})::|{INLINED})")
+# What works on diagrams in the plain program, with all that is called there.
+PHASES = re.compile(r"(\w+::)?(cares_of|polynomials_of|leads_of|elements_of)(?: \[|$)")
+
+
+def build(folder):
+    """The paths of the plain program and of its build that counts looks."""
+    found = []
+    for name, flags in (("plain", []), ("plain_count", ["--cfg", "count"])):
+        words = ["rustc", "--edition", "2021", "-C", "opt-level=3", "-C", "panic=abort", *flags, str(SOURCE)]
+        subprocess.run([*words, "-o", str(folder / name)], check=True)
+        found.append(str(folder / name))
+    return found
+
+
+def ended(words, file):
+    """How a run on a file ends, with what it prints."""
+    with open(file, "rb") as text:
+        return subprocess.run(words, stdin=text, capture_output=True, check=False)
+
+
+def counted(program, mode, file):
+    """The bits of the least table that suffices for the plain program, and how its run ends; None where none does."""
+    for bits in SIZES:
+        end = ended([program, mode, str(bits)], file)
+        if end.returncode != FULL:
+            return bits, end
+    return None
+
+
+def functions(words, file, options=()):
+    """(instructions, name) of each function that a run on a file calls, and of the whole run. A program may be a script
+    that another program takes the place of, in the same process; what else the script starts is no part of the run."""
+    with tempfile.TemporaryDirectory() as folder, open(file, "rb") as text:
+        profiles = f"--callgrind-out-file={folder}/%p"
+        valgrind = ["valgrind", "--tool=callgrind", "--trace-children=yes", profiles, *words]
+        child = subprocess.Popen(valgrind, stdin=text, stdout=subprocess.DEVNULL, stderr=subprocess.DEVNULL)
+        child.wait()
+        annotate = ["callgrind_annotate", "--threshold=100", "--auto=no", *options, f"{folder}/{child.pid}"]
+        printed = subprocess.run(annotate, capture_output=True, text=True, check=True).stdout
+    return [(int(count.replace(",", "")), name) for count, name in LINE.findall(printed)]
+
+
+def sums(found, pattern):
+    """The instructions of the whole run, and of the functions whose names begin so."""
+    total = next(count for count, name in found if name == TOTAL)
+    return total, sum(count for count, name in found if pattern.match(name))
+
+
+def measured(name, folder, program, plain):
+    """Prints the line of a file, and answers whether both programs print the same where both have an answer."""
+    mode, make = make_files.FILES[name]
+    path = folder / f"{name}.pla"
+    path.write_text(make())
+    # interp runs first, and not under valgrind: a script may have to build it, and a file with too many terms ends it,
+    # where the plain program would take all memory.
+    if ended([program, mode, "--nodes", str(SIZES[-1])], path).returncode:
+        return no_answer(name, "interp")
+    size = counted(plain[1], mode, path)
+    if size is None:
+        return no_answer(name, "plain")
+    bits, plain_end = str(size[0]), size[1]
+    words = [program, mode, "--nodes", bits]
+    end = ended(words, path)
+    if end.returncode:
+        return no_answer(name, "interp")
+    counts = sums(functions(words, path), OPERATIONS)
+    plain_counts = sums(functions([plain[0], mode, bits], path, ["--inclusive=yes"]), PHASES)
+    print(f"| `{name}` | {mode} | {bits} | {cells(int(plain_end.stderr), counts, plain_counts)} |", flush=True)
+    return end.stdout == plain_end.stdout
+
+
+def no_answer(name, program):
+    """Says which program has no answer for a file, so that there is nothing that differs."""
+    print(f"{name}: {program} has no answer", file=sys.stderr)
+    return True
+
+
+def cells(looks, counts, plain_counts):
+    """What a line has of the looks and of the instructions of both programs."""
+    whole = [f"{total / 1e6:.1f}" for total, _ in (counts, plain_counts)]
+    parts = [f"{spent / looks:.1f}" for _, spent in (counts, plain_counts)]
+    return " | ".join([f"{looks:,}", *whole, *parts, f"{counts[1] / plain_counts[1]:.2f}"])
+
+
+def main():
+    parser = argparse.ArgumentParser()
+    parser.add_argument("--program", default=str(HERE.parent / "interp"))
+    parser.add_argument("files", nargs="*")
+    options = parser.parse_args()
+    missing = [name for name in TOOLS if not shutil.which(name)]
+    if missing:
+        print(f"{missing[0]} is not installed: nothing is measured", file=sys.stderr)
+        return 0
+    with tempfile.TemporaryDirectory() as folder:
+        folder = pathlib.Path(folder)
+        plain = build(folder)
+        print(f"| {' | '.join(HEADS)} |\n|{'---|' * len(HEADS)}")
+        names = options.files or NAMES
+        differ = [name for name in names if not measured(name, folder, options.program, plain)]
+    return run.tell(differ, "what is printed differs")
+
+
+if __name__ == "__main__":
+    sys.exit(main())
