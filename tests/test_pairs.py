@@ -172,11 +172,11 @@ class Large(Test):
                     if ended.status in (5, 6):
                         continue
                     self.assertEqual(ended.err, "")
+                    met.add(ended.status)
                     names = [name for name, _ in first.outputs]
                     second.outputs.sort(key=lambda output: names.index(output[0]))
                     self.assertEqual(ended.status == 0, are_equal(pathlib.Path(folder), first, second))
                     self.look(first, second, ended)
-                    met.add(ended.status)
         self.assertEqual(met, {0, 1})
 
     def test_written_by_abc(self):
