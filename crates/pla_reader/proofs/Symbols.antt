@@ -1,13 +1,14 @@
 -- The symbols of a line and of its parts, and the masks that they make.
-use Rattle.std.proofs.Common.{◌≡◌, ℕ, ◌+◌, ◌*◌, ◌^◌, ◌%◌, ◌<◌, ◌≤◌, Bool, true, ◌&&◌, cond, bit_or, List, [], ◌∷◌, ◌++◌, length, get_or}
-use Rattle.std.proofs.Common.{take, drop, refl, sym, arith}
+use Rattle.std.proofs.Common.{◌≡◌, ℕ, ◌+◌, ◌*◌, ◌^◌, ◌%◌, ◌<◌, ◌≤◌, Bool, ◌&&◌, cond, bit_or, List, [], ◌∷◌, ◌++◌, length, get_or}
+use Rattle.std.proofs.Common.{false, take, drop, length-drop, refl, sym, ap, arith}
 use Rattle.std.specs.List.{list_all, count_by}
 use Rattle.std.proofs.Math.Nat.{pow-succ'}
 use Rattle.std.proofs.Math.Pow.{pow_mono}
 use Rattle.std.proofs.lemmas.Nat.{pow_below}
 use Rattle.std.specs.Int.Bits.{or_shifted_r}
-use Rattle.std.proofs.lemmas.List.{length_push, take_at, drop_at, take-append-drop}
-use Rattle.std.proofs.lemmas.List.Elements.{filter-append}
+use Rattle.std.proofs.lemmas.List.{length_push, take_more, get_or-drop, get_or-take, length-take, length-take-le}
+use Rattle.std.proofs.lemmas.List.Folds.{list_all_at, list_all_more}
+use Rattle.std.proofs.Math.Seq.{drop-cons}
 use Rattle.std.proofs.lemmas.List.Sums.{length-filter}
 use Rattle.std.proofs.lemmas.Grind.{common_steps}
 use Rattle.pla_reader.specs.Grammar.{is_symbol, symbols}
@@ -16,40 +17,52 @@ use Rattle.pla_reader.specs.Reading.{input_mask, output_mask}
 abbrev pub bit : Bool → ℕ
 bit t = cond t 1 0
 
-pub symbols-append : (front back : List ℕ) → symbols (front ++ back) ≡ symbols front ++ symbols back
-unfolding symbols
-symbols-append front back = filter-append is_symbol front back
-
 pub symbols_nil : symbols [] ≡ []
 unfolding symbols
 symbols_nil = refl
+
+pub symbols_cons : (byte : ℕ) (line : List ℕ) → symbols (byte ∷ line) ≡ cond (is_symbol byte) (byte ∷ symbols line) (symbols line)
+unfolding symbols
+symbols_cons byte line = refl
+
+pub symbols_at : (line : List ℕ) (i : ℕ) → i < length line → symbols (drop i line)
+    ≡ cond (is_symbol (get_or line i 0)) (get_or line i 0 ∷ symbols (drop (i + 1) line)) (symbols (drop (i + 1) line))
+unfolding symbols
+symbols_at line i lt = grind (arith, drop-cons line i 0 lt)
 
 pub count_is : (line : List ℕ) → count_by is_symbol line ≡ length (symbols line)
 unfolding symbols
 count_is line = sym (length-filter is_symbol line)
 
-pub symbols_cut : (line : List ℕ) (i : ℕ) → symbols (take i line) ++ symbols (drop i line) ≡ symbols line
-symbols_cut line i = simp (← symbols-append, take-append-drop)
+-- where no symbol is left
+pub none_left : (all : List ℕ) (n : ℕ) → drop n all ≡ [] → length all ≤ n
+none_left all n none = omega (arith, length-drop n all, ap length none)
 
-pub symbols_next : (line : List ℕ) (i : ℕ) → i < length line → symbols (take (i + 1) line)
-    ≡ cond (is_symbol (get_or line i 0)) (symbols (take i line) ++ get_or line i 0 ∷ []) (symbols (take i line))
-unfolding symbols
-symbols_next line i lt = grind (arith, common_steps, filter-append)
+-- the symbol behind the first so many
+module _ (all : List ℕ) (n s : ℕ) (later : List ℕ) (next : drop n all ≡ s ∷ later) where
+  pub one_left : n < length all
+  one_left = omega (arith, length-drop n all, ap length next)
 
-pub cut_front : (line : List ℕ) (i : ℕ) → symbols (take i line) ≡ take (length (symbols (take i line))) (symbols line)
-cut_front line i = grind (arith, symbols_cut line i, take_at)
+  pub next_is : get_or all n 0 ≡ s
+  next_is = grind (arith, get_or-drop n all 0 0)
 
-pub cut_back : (line : List ℕ) (i : ℕ) → symbols (drop i line) ≡ drop (length (symbols (take i line))) (symbols line)
-cut_back line i = grind (arith, symbols_cut line i, drop_at)
+  pub next_taken : take (n + 1) all ≡ take n all ++ s ∷ []
+  next_taken = grind (arith, take_more all n 0 one_left, next_is)
 
-pub few_upto : (line : List ℕ) (i : ℕ) → length (symbols (take i line)) ≤ length (symbols line)
-few_upto line i = grind (arith, common_steps, symbols_cut line i)
+  pub next_dropped : drop (n + 1) all ≡ later
+  next_dropped = grind (arith, drop-cons all n 0 one_left)
 
-pub good_here : (good : ℕ → Bool) (line : List ℕ) (i : ℕ) → i < length line
-    → (list_all good (symbols (take i line)) ≡ list_all good (symbols (take i line)))
-    × (list_all good (symbols line) ≡ (list_all good (symbols (take i line))
-    && (cond (is_symbol (get_or line i 0)) (good (get_or line i 0)) true && list_all good (symbols (drop (i + 1) line)))))
-good_here good line i lt = (refl, grind (arith, common_steps, symbols_next, symbols_cut line (i + 1)))
+  module _ (good : ℕ → Bool) where
+    pub next_good : list_all good (take (n + 1) all) ≡ (list_all good (take n all) && good s)
+    next_good = rw (list_all_more good all n 0 one_left, next_is) refl
+
+    pub one_bad : good s ≡ false → list_all good all ≡ false
+    one_bad bad = list_all_at good all n 0 one_left (rw next_is bad)
+
+    pub bad_taken : good s ≡ false → (m : ℕ) → n < m → list_all good (take m all) ≡ false
+    bad_taken bad m lt =
+        let long : n < length (take m all) = (let at = one_left in grind (arith, length-take)) in
+        list_all_at good (take m all) n 0 long (rw (get_or-take m all n 0 lt, next_is) bad)
 
 module _ (test : ℕ → Bool) where
   pub input_mask_nil : input_mask test [] ≡ 0
@@ -86,8 +99,16 @@ module _ (test : ℕ → Bool) where
 pub or_next : (t : Bool) (k m : ℕ) → k < 64 → m < 2 ^ k → bit_or m (bit t * 2 ^ k % 2 ^ 64) ≡ bit t * 2 ^ k + m
 or_next t k m few below = grind (arith, pow_below k 64 few, or_shifted_r (bit t) k m below)
 
-pub ruleset row_steps = (common_steps, symbols_nil, symbols_next, few_upto, good_here)
+-- the mask of outputs with the next symbol's bit
+pub mask_next : (test : ℕ → Bool) (all : List ℕ) (n s : ℕ) (later : List ℕ) → drop n all ≡ s ∷ later → n < 64 → (m b : ℕ)
+    → m ≡ output_mask test (take n all) → b ≡ bit (test s) → bit_or m (b * 2 ^ n % 2 ^ 64) ≡ output_mask test (take (n + 1) all)
+mask_next test all n s later next few m b is is_bit =
+    let lt = one_left all n s later next in let long = length-take-le n all (omega arith) in
+    let below : output_mask test (take n all) < 2 ^ n = grind (arith, output_mask-lt test (take n all)) in
+    rw (is, is_bit, next_taken all n s later next, output_mask_push, long) (or_next (test s) n (output_mask test (take n all)) few below)
 
-pub ruleset input_steps = (row_steps, cut_front, cut_back, input_mask_nil, input_mask_push, input_mask_small, count_is)
+pub ruleset row_steps = (common_steps, symbols_nil, symbols_cons, none_left, one_left, next_taken, next_dropped, next_good)
 
-pub ruleset output_steps = (row_steps, output_mask_nil, output_mask_push, output_mask-lt, or_next)
+pub ruleset input_steps = (row_steps, input_mask_nil, input_mask_push, input_mask_small, bad_taken)
+
+pub ruleset output_steps = (row_steps, output_mask_nil)

@@ -6,7 +6,7 @@ ghost use Rattle.lattice.specs.declared.limits.TheConstants.{MAX_VARS};
 ghost use Rattle.pla_reader.specs.Grammar.{is_unsupported};
 
 use crate::arguments::{kind_in, names_in, size_in};
-use crate::lines::{first_word, is_printable, is_word};
+use crate::lines::{from_first_word, is_printable, is_word, split_word};
 use crate::pla::Rows;
 use crate::refusal::{LineRefusal, Why};
 use crate::row::row_in;
@@ -103,11 +103,14 @@ impl Draft {
         if !is_printable(line) {
             return Err(LineRefusal::Bad(Why::BadByte));
         }
-        let Some((word, arguments)) = first_word(line) else {
+        let words = from_first_word(line);
+        if words.is_empty() {
             return Ok(false);
-        };
-        if word[0] == b'.' {
-            return self.add_command(alloc, word, arguments);
+        }
+        // Most lines are rows, and a row is not cut into words.
+        if words[0] == b'.' {
+            let (command, arguments) = split_word(words);
+            return self.add_command(alloc, command, arguments);
         }
         let kind = self.kind.unwrap_or(Kind::Fd);
         let row = row_in(self.sizes(), kind, self.rows.len(), number, line)?;

@@ -1,12 +1,12 @@
 //! The lines of a text, and the words that stand on a line.
-ghost use Rattle.std.specs.Prelude.{◌≡◌, ◌+◌, ◌<◌, ◌≤◌, ◌==◌, true, not, [], ◌∷◌, length, Some};
-ghost use Rattle.std.specs.Prelude.{None, MatchOption};
+ghost use Rattle.std.specs.Prelude.{◌≡◌, ◌+◌, ◌<◌, ◌≤◌, ◌==◌, true, not, [], ◌∷◌, length, take};
+ghost use Rattle.std.specs.Prelude.{drop, Some, None, MatchOption};
 ghost use Rattle.std.specs.List.{list_all, position_or_len};
 ghost use Rattle.std.specs.Str.{bytes_eq};
 ghost use Rattle.std.specs.Io.BufRead.{strip_last};
 ghost use Rattle.pla_reader.specs.Lines.{lines_of, is_blank, is_printable, before_comment, content};
 ghost use Rattle.pla_reader.specs.Lines.{words_of};
-ghost use Rattle.pla_reader.specs.Parts.{BeginsWithWord};
+ghost use Rattle.pla_reader.specs.Parts.{BeginsWithWord, from_first_word};
 ghost use Rattle.pla_reader.specs.Grammar.{only};
 
 /// Whether the byte is a space or a tab.
@@ -65,12 +65,10 @@ pub fn without_last(line: &[u8], last: u8) -> &[u8]
 fn before_comment(line: &[u8]) -> &[u8]
     ensures { result.now ≡ before_comment true line.now }
 {
-    let mut may_begin = true;
     for (i, byte) in line.iter().enumerate() {
-        if may_begin && *byte == b'#' {
+        if *byte == b'#' && (i == 0 || is_blank(line[i - 1])) {
             return &line[..i];
         }
-        may_begin = is_blank(*byte);
     }
     line
 }
@@ -103,17 +101,31 @@ fn first_blank(line: &[u8]) -> usize
         .unwrap_or(line.len())
 }
 
+/// A line without the blanks before its first word.
+pub fn from_first_word(line: &[u8]) -> &[u8]
+    ensures { result.now ≡ from_first_word line.now }
+{
+    let (_, words) = line.split_at(first_of_word(line));
+    words
+}
+
+/// The word that a line begins with, and what follows it.
+pub fn split_word(line: &[u8]) -> (&[u8], &[u8])
+    ensures word { result.0.now ≡ take (position_or_len is_blank line.now) line.now }
+    ensures rest { result.1.now ≡ drop (position_or_len is_blank line.now) line.now }
+{
+    line.split_at(first_blank(line))
+}
+
 /// The first word of a line, and what follows it.
 pub fn first_word(line: &[u8]) -> Option<(&[u8], &[u8])>
     ensures { MatchOption result (words_of line.now ≡ [])
         (λ r. BeginsWithWord line.now r.0.now r.1.now) }
 {
-    let start = first_of_word(line);
-    if start == line.len() {
-        return None;
+    match from_first_word(line) {
+        [] => None,
+        words => Some(split_word(words)),
     }
-    let (_, words) = line.split_at(start);
-    Some(words.split_at(first_blank(words)))
 }
 
 /// The number of words on a line.

@@ -1,11 +1,12 @@
 //! The rows of a description.
-ghost use Rattle.std.specs.Prelude.{◌≡◌, ◌≤◌, ◌&&◌, ℕ, codes, length, take, drop, Option, Some};
+ghost use Rattle.std.specs.Prelude.{◌≡◌, ◌≤◌, ◌&&◌, ◌==◌, false, ℕ, codes, length, Option, Some};
 ghost use Rattle.std.specs.Prelude.{None, IfSome, MatchOption, MatchResult, if◌then◌else◌};
-ghost use Rattle.std.specs.List.{list_all};
 ghost use Rattle.lattice.specs.declared.limits.TheConstants.{MAX_VARS};
+ghost use Rattle.pla_reader.specs.declared.refusal.Why.TheVariants.{BadSymbol, RowLength};
 ghost use Rattle.pla_reader.specs.Description.{has_off, has_dc};
 ghost use Rattle.pla_reader.specs.Grammar.{is_symbol, symbols, is_one_of, row_fault};
-ghost use Rattle.pla_reader.specs.Reading.{input_mask, output_mask, row_of};
+ghost use Rattle.pla_reader.specs.Parts.{gives_inputs, gives_outputs, IsCubeOf};
+ghost use Rattle.pla_reader.specs.Reading.{output_mask, row_of};
 
 use crate::lines::is_blank;
 use crate::refusal::Why;
@@ -21,29 +22,11 @@ fn is_symbol(byte: u8) -> bool
 }
 
 /// The number of symbols.
-#[tactic(auto, using(crate::proofs::Symbols::input_steps))]
+#[tactic(auto, using(crate::proofs::Symbols::count_is))]
 fn count_symbols(line: &[u8]) -> usize
     ensures { result ≡ length (symbols line.now) }
 {
     line.iter().filter(|byte| is_symbol(**byte)).count()
-}
-
-/// The part of a line that has its first `count` symbols, and the rest.
-#[tactic(auto, using(crate::proofs::Symbols::input_steps))]
-fn split_symbols(line: &[u8], count: usize) -> (&[u8], &[u8])
-    ensures front { symbols result.0.now ≡ take count (symbols line.now) }
-    ensures back { symbols result.1.now ≡ drop count (symbols line.now) }
-{
-    let mut seen = 0;
-    for (i, byte) in line.iter().enumerate() {
-        if seen == count {
-            return line.split_at(i);
-        }
-        if is_symbol(*byte) {
-            seen += 1;
-        }
-    }
-    line.split_at(line.len())
 }
 
 /// Whether the symbol may stand for an input.
@@ -81,29 +64,32 @@ fn fixes_to_one(symbol: u8) -> bool
     symbol == b'1'
 }
 
-/// The cube of the symbols of a line, one for each input.
+/// The cube of the first symbols of a line, one for each input, and the rest of the line, where
+/// there are so many and each may stand for an input.
 #[tactic(auto, using(crate::proofs::Symbols::input_steps))]
-fn cube_of(line: &[u8]) -> Option<Cube>
-    requires { length (symbols line.now) ≤ MAX_VARS }
-    ensures { result ≡ (if list_all (is_one_of (codes "01-2")) (symbols line.now) then Some
-        (record {
-          care = input_mask (is_one_of (codes "01")) (symbols line.now);
-          value = input_mask (is_one_of (codes "1")) (symbols line.now);
-        }) else None) }
+fn cube_of(line: &[u8], inputs: u32) -> Option<(Cube, &[u8])>
+    requires { inputs ≤ MAX_VARS }
+    ensures { let all = symbols line.now in MatchOption result (gives_inputs inputs all ≡ false)
+        (λ r. IsCubeOf inputs all r.0.care r.0.value (symbols r.1.now)) }
 {
     let mut cube = Cube { care: 0, value: 0 };
-    for byte in line {
-        if is_symbol(*byte) {
-            if !is_input_symbol(*byte) {
-                return None;
-            }
+    let mut seen = 0;
+    let mut rest = line;
+    while seen < inputs {
+        let (byte, after) = rest.split_first()?;
+        // Asked first, since nearly all bytes are such symbols.
+        if is_input_symbol(*byte) {
             cube = Cube {
                 care: 2 * cube.care + u64::from(is_fixed(*byte)),
                 value: 2 * cube.value + u64::from(fixes_to_one(*byte)),
             };
+            seen += 1;
+        } else if is_symbol(*byte) {
+            return None;
         }
+        rest = after;
     }
-    Some(cube)
+    Some((cube, rest))
 }
 
 /// For each of ON, OFF and DC the outputs that have a cube or a point in it, as a mask. The first
@@ -136,12 +122,13 @@ fn is_dc(kind: Kind, symbol: u8) -> bool
     matches!(kind, Kind::Fd | Kind::Fdr) && (symbol == b'-' || symbol == b'2')
 }
 
-/// The marks of the symbols of a line, one for each output.
+/// The marks of the symbols of a line, where there is one for each output and each may stand for
+/// an output.
 #[tactic(auto, using(crate::proofs::Symbols::output_steps))]
-fn marks_of(kind: Kind, line: &[u8]) -> Option<Marks>
-    requires { length (symbols line.now) ≤ 64 }
+fn marks_of(kind: Kind, line: &[u8], outputs: u32) -> Option<Marks>
+    requires { outputs ≤ 64 }
     ensures { let all = symbols line.now in
-        result ≡ (if list_all (is_one_of (codes "01-~24")) all then Some (record {
+        result ≡ (if gives_outputs outputs all then Some (record {
           on = output_mask (is_one_of (codes "14")) all;
           off = output_mask (λ symbol. has_off kind && is_one_of (codes "0") symbol) all;
           dc = output_mask (λ symbol. has_dc kind && is_one_of (codes "-2") symbol) all;
@@ -152,10 +139,10 @@ fn marks_of(kind: Kind, line: &[u8]) -> Option<Marks>
         off: 0,
         dc: 0,
     };
-    let mut place = 0u32;
+    let mut place = 0;
     for byte in line {
-        if is_symbol(*byte) {
-            if !is_output_symbol(*byte) {
+        if is_output_symbol(*byte) {
+            if place == outputs {
                 return None;
             }
             marks = Marks {
@@ -164,9 +151,22 @@ fn marks_of(kind: Kind, line: &[u8]) -> Option<Marks>
                 dc: marks.dc | u64::from(is_dc(kind, *byte)) << place,
             };
             place += 1;
+        } else if is_symbol(*byte) {
+            return None;
         }
     }
-    Some(marks)
+    if place == outputs { Some(marks) } else { None }
+}
+
+/// What is wrong with the symbols of a row: their number, or else one of them.
+fn symbols_fault(line: &[u8], count: u32) -> Why
+    ensures { result ≡ (if length (symbols line.now) == count then BadSymbol else RowLength) }
+{
+    if count_symbols(line) == count as usize {
+        Why::BadSymbol
+    } else {
+        Why::RowLength
+    }
 }
 
 /// The row on a line that follows so many rows, by the numbers of inputs and outputs where they are
@@ -191,15 +191,12 @@ pub fn row_in(
     if rows >= MOST_ROWS {
         return Err(Why::TooManyRows);
     }
-    if count_symbols(line) != (inputs + outputs) as usize {
-        return Err(Why::RowLength);
-    }
-    let (ins, outs) = split_symbols(line, inputs as usize);
-    let Some(Cube { care, value }) = cube_of(ins) else {
-        return Err(Why::BadSymbol);
+    // The symbols are counted only where they are at fault.
+    let Some((Cube { care, value }, rest)) = cube_of(line, inputs) else {
+        return Err(symbols_fault(line, inputs + outputs));
     };
-    let Some(Marks { on, off, dc }) = marks_of(kind, outs) else {
-        return Err(Why::BadSymbol);
+    let Some(Marks { on, off, dc }) = marks_of(kind, rest, outputs) else {
+        return Err(symbols_fault(line, inputs + outputs));
     };
     Ok(Row {
         line: number,

@@ -1,10 +1,9 @@
 use Rattle.std.proofs.Common.{arith}
-use Rattle.std.proofs.lemmas.List.{length-take, length-drop}
-use Rattle.pla_reader.proofs.WordCuts.{no_words, word_facts}
+use Rattle.pla_reader.proofs.WordCuts.{no_words, word_cut}
 use Rattle.pla_reader.proofs.lines.first_word.Goals as goal
 
-pub returns-then-start-line : goal.returns-then-start-line
-returns-then-start-line c = grind (arith, no_words)
+pub returns-in-empty : goal.returns-in-empty
+returns-in-empty c = grind (arith, no_words)
 
-pub returns : goal.returns
-returns c = let begins = word_facts c.args.line.now in grind (arith, length-take, length-drop)
+pub returns-in_default : goal.returns-in_default
+returns-in_default c = grind (arith, word_cut c.args.line.now _ c.from_first_word.ensures)
