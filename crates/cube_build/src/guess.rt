@@ -1,11 +1,66 @@
-//! A guess at how many nodes the covers of a description have.
+//! A guess at how many nodes a run on a description needs.
 ghost use Rattle.std.specs.Prelude.{◌≤◌};
 
-use lattice::Row;
+use lattice::{Kind, Row};
 use pla_reader::Pla;
 
 /// So many rows are compared with each other.
 const SAMPLE: usize = 64;
+
+/// The values of the last inputs are told apart where there are at most 64 times so many.
+const VALUE_WORDS: usize = 128;
+
+/// The polynomial of an output needs so many nodes for each node of its cover.
+const NODES_OF_COVER: u64 = 4;
+
+/// So many elements of a basis need as many nodes as a polynomial, as they share most of theirs.
+const SHARING_ELEMENTS: u64 = 8;
+
+/// What the rows say of one output, in the mean over all.
+#[derive(Clone, Copy)]
+struct Named {
+    /// How many rows name the output.
+    rows: u64,
+    /// How many of them tell which points are its care points.
+    care_rows: u64,
+    /// Whether all outputs have the same care points, and with these the same basis.
+    is_shared: bool,
+}
+
+/// The outputs that the row names.
+fn outputs_of(row: &Row) -> u64 {
+    row.on | row.off | row.dc
+}
+
+/// The outputs of which the row tells care points. In type f all points are care points, and in
+/// type fd all but those of the rows that say don't care.
+fn cared_by(kind: Kind, row: &Row) -> u64 {
+    match kind {
+        Kind::F => 0,
+        Kind::Fd => row.dc,
+        Kind::Fr | Kind::Fdr => outputs_of(row),
+    }
+}
+
+/// What the rows say of one output.
+fn count_named(pla: &Pla) -> Named {
+    let every = u64::MAX >> (64 - pla.outputs);
+    let mut named = 0u64;
+    let mut cared = 0u64;
+    let mut is_shared = true;
+    for row in pla.rows.as_slice() {
+        let care = cared_by(pla.kind, row);
+        named = named.saturating_add(u64::from(outputs_of(row).count_ones()));
+        cared = cared.saturating_add(u64::from(care.count_ones()));
+        is_shared = is_shared && (care == 0 || care == every);
+    }
+    let outputs = u64::from(pla.outputs);
+    Named {
+        rows: named / outputs,
+        care_rows: cared / outputs,
+        is_shared,
+    }
+}
 
 /// How many nodes a tree of so many rows has at most, one for each of their fronts.
 fn count_fronts(rows: u64, inputs: u32) -> u64
@@ -44,15 +99,16 @@ fn count_meeting(rows: &[Row]) -> (u64, u64) {
     (apart, pairs)
 }
 
-/// A guess at the nodes of the cover of one output, as the first rows have it: one for each front
-/// of a row, one for each input of two rows that meet, and no more than there are points. Where
-/// most rows lie in others, those that come later are taken to meet no new ones.
-pub(crate) fn guess_cover(pla: &Pla) -> u64 {
+/// A guess at the nodes of the cover of one output that so many rows name, as the first rows have
+/// it: one for each front of a row, one for each input of two rows that meet, and no more than
+/// there are points. Where most rows lie in others, those that come later are taken to meet no new
+/// ones.
+fn guess_cover(pla: &Pla, named: u64) -> u64 {
     let all = pla.rows.len() as u64;
     let first = &pla.rows.as_slice()[..pla.rows.len().min(SAMPLE)];
     let (apart, pairs) = count_meeting(first);
     let sample = first.len().max(1) as u64;
-    let rows = all.saturating_mul(apart) / sample;
+    let rows = named.saturating_mul(apart) / sample;
     let pairs = if apart < sample / 2 {
         pairs
     } else {
@@ -62,4 +118,48 @@ pub(crate) fn guess_cover(pla: &Pla) -> u64 {
     fronts
         .saturating_add(pairs.saturating_mul(u64::from(pla.inputs)))
         .min(1 << pla.inputs.min(32))
+}
+
+/// Whether the rows are the points of a function of the last inputs: these have each of their
+/// values in just one row. Then the leads of a basis are the other inputs.
+fn is_graph(pla: &Pla) -> bool {
+    let count = pla.rows.len();
+    if count > 64 * VALUE_WORDS || count & count.saturating_sub(1) != 0 {
+        return false;
+    }
+    let every = u64::MAX >> (64 - pla.inputs);
+    let mut met = [0u64; VALUE_WORDS];
+    for row in pla.rows.as_slice() {
+        let value = row.value as usize % count;
+        let bit = 1u64 << (value % 64);
+        if row.care != every || met[value / 64] & bit != 0 {
+            return false;
+        }
+        met[value / 64] |= bit;
+    }
+    true
+}
+
+/// A guess at the elements of a basis of which so many rows tell the care points: one for each
+/// point of a row, but for a graph.
+fn guess_elements(pla: &Pla, care_rows: u64) -> u64 {
+    if is_graph(pla) {
+        u64::from(pla.inputs.saturating_sub(pla.rows.len().trailing_zeros()))
+    } else {
+        care_rows
+    }
+}
+
+/// A guess at the nodes that are needed for the polynomials of all outputs, and for their bases
+/// too, if these are asked for.
+pub(crate) fn guess_nodes(pla: &Pla, is_basis: bool) -> u64 {
+    let named = count_named(pla);
+    let polynomial = guess_cover(pla, named.rows).saturating_mul(NODES_OF_COVER);
+    let outputs = u64::from(pla.outputs);
+    if !is_basis {
+        return polynomial.saturating_mul(outputs);
+    }
+    let elements = guess_elements(pla, named.care_rows).div_ceil(SHARING_ELEMENTS);
+    let bases = if named.is_shared { 1 } else { outputs };
+    polynomial.saturating_mul(outputs.saturating_add(elements.saturating_mul(bases)))
 }

@@ -4,7 +4,7 @@ ghost use Rattle.std.specs.Prelude.{◌≡◌, ◌⊎◌, ◌<◌, ◌≤◌};
 ghost use Rattle.lattice.specs.declared.limits.TheConstants.{MIN_BITS, MAX_BITS};
 ghost use Rattle.cube_build.specs.declared.tables.TheConstants.{FEW_BITS, SMALL_BITS};
 
-use crate::guess::guess_cover;
+use crate::guess::guess_nodes;
 use pla_reader::Pla;
 
 /// A small table has 2^SMALL_BITS slots. The greater a table is, the longer it takes to make, and
@@ -51,17 +51,9 @@ impl Demand<'_> {
         nodes.saturating_add(self.besides) < 1 << SMALL_BITS
     }
 
-    /// A guess at the nodes of the run: on each output four times as many as in its cover, and for
-    /// bases, where each element is found from the cover, as many times an eighth of the rows.
-    fn guess_nodes(&self) -> u64 {
-        let pla = self.pla;
-        let nodes = guess_cover(pla).saturating_mul(4 * u64::from(pla.outputs));
-        let of_rows = if self.is_basis {
-            nodes.saturating_mul(pla.rows.len() as u64) / 8
-        } else {
-            nodes
-        };
-        of_rows.saturating_add(self.besides)
+    /// A guess at the nodes of the run.
+    fn guess(&self) -> u64 {
+        guess_nodes(self.pla, self.is_basis).saturating_add(self.besides)
     }
 
     /// The size of the tables that a run begins with whose last ones have 2^most slots: small ones
@@ -74,24 +66,23 @@ impl Demand<'_> {
         if self.is_small() {
             most.min(SMALL_BITS)
         } else {
-            size_for(self.guess_nodes(), most)
+            size_for(self.guess(), most)
         }
     }
 
     /// The size of the tables that are tried after those of 2^bits slots, where the last ones have
-    /// 2^most: those that suffice by the guess, or a step more, or the last ones where the guess is
-    /// more than a step.
+    /// 2^most: those that suffice by the guess, or else a step more, or what the guess asks for where
+    /// that is more than a step.
     pub fn next_size(&self, bits: u32, most: u32) -> u32
         requires { (bits < most) × (most ≤ MAX_BITS) }
         ensures { (bits < result) × (result ≤ most) }
     {
-        let nodes = self.guess_nodes();
+        let nodes = self.guess();
         let guess = size_for(nodes, most);
         if bits < guess {
             return guess;
         }
-        let step = bits + NEAR_BITS.min(most - bits);
-        if nodes <= 1 << step { step } else { most }
+        (bits + NEAR_BITS).max(bits_of(nodes)).min(most)
     }
 }
 
@@ -107,6 +98,11 @@ fn size_for(nodes: u64, most: u32) -> u32
     } else {
         most
     }
+}
+
+/// The bits of the least table that suffices for so many nodes.
+fn bits_of(nodes: u64) -> u32 {
+    u64::BITS.saturating_sub(nodes.saturating_sub(1).leading_zeros())
 }
 
 /// The size of the tables that are tried after those of 2^bits slots, where nothing is guessed and

@@ -16,7 +16,7 @@ use crate::phases::{first_phase, second_phase};
 use crate::plans::{Sought, plan_for};
 use computed_cache::CachedPass;
 use cube_build::Demand;
-use lattice::{Kind, Mono, MonoLists, Monos};
+use lattice::{Mono, MonoLists, Monos};
 use node_store::Store;
 use pla_reader::Pla;
 use set_algebra::{TermsRefusal, lists_upto, walk_upto};
@@ -164,12 +164,11 @@ fn joint_basis_at_once(
     basis_in(alloc, &mut pass, p, joining, leads.as_slice(), limit)
 }
 
-/// What the basis asks of its tables. In type f all points are care points, so that it has no
-/// elements.
+/// What the basis asks of its tables.
 fn demand_of(p: &Pla) -> Demand<'_> {
     Demand {
         pla: p,
-        is_basis: p.kind != Kind::F,
+        is_basis: true,
         besides: 0,
     }
 }
