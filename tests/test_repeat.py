@@ -1,9 +1,9 @@
 """The program prints the same run after run, with any number of workers, and where threads are refused.
 
 The jobs are drawn from a counter by interp, and taken from deques by steal, whose runs are the same as interp's. What
-is compared are the text, the lines of progress between its lines, and the status. A run on a small file begins
-on a small table, which has two workers at most; so there are larger files too, made from a seed. How many threads
-start is counted, outside of the program.
+is compared are the text, the lines of progress between its lines, and the status. On a table of at most 2^16 slots a
+run has two workers at most; so there are files on larger tables too, made from a seed. How many threads start is
+counted, outside of the program.
 """
 
 import itertools
@@ -22,18 +22,18 @@ from tests.made_descriptions import random_cube, valued
 PROGRAMS = ("interp", "steal")
 WORKERS = (1, 2, 4, 8, 16)
 
-# Files of examples/, each with a mode, and how many threads start in a run with two workers and more.
-SMALL = {
-    ("full_adder", "anf"): 2,
-    ("seven_segments", "anf"): 2,
-    ("multiplier", "anf"): 2,
-    ("johnson", "basis"): 1,
-    ("one_hot", "basis"): 1,
-}
+# Files of examples/, each with a mode.
+EXAMPLE_RUNS = (
+    ("full_adder", "anf"),
+    ("seven_segments", "anf"),
+    ("multiplier", "anf"),
+    ("johnson", "basis"),
+    ("one_hot", "basis"),
+)
 
-# How often each small file is run with each number of workers, and each large one.
+# How often each file on small tables is run with each number of workers, and each other one.
 SMALL_TIMES = 40
-LARGE_TIMES = 5
+TIMES = 5
 
 # The number of the user nobody.
 NOBODY = 65534
@@ -42,25 +42,42 @@ NOBODY = 65534
 OUTPUTS = 16
 
 
-def large_files():
-    """Files that pass the small tables: what each is, the words and the text."""
-    draws = random.Random(1)
-    yield "an output for each worker", "anf", description(12, OUTPUTS, "fr", valued(draws, 64, 12, OUTPUTS))
-    yield "one output", "anf", description(16, 1, "fr", valued(draws, 300, 16, 1))
-    yield "two bases", "basis --nodes 16", description(12, 2, "fr", valued(draws, 180, 12, 2))
-    # These two begin on a small table, the first one with both its phases and the second with the last one, and fill
-    # it.
-    cubes = [(random_cube(draws, 24, 12), "1") for _ in range(40)]
-    yield "cubes that outgrow a small table", "anf", description(24, 1, "f", cubes)
-    yield "a basis that outgrows a small table", "basis", description(14, 1, "fr", valued(draws, 100, 14, 1))
-    for seed in (1, 2, 3):
-        yield "mode gen", f"gen --seed {seed}", ""
-
-
 def small_files():
-    """The same of the small ones."""
-    for name, mode in SMALL:
+    """Files on tables of 2^12 slots: what each is, the words and the text."""
+    for name, mode in EXAMPLE_RUNS:
         yield name, mode, (EXAMPLES / f"{name}.pla").read_text()
+
+
+def middle_files():
+    """Files on tables of 2^16 slots: how many threads start with two workers and more, and what each file is.
+
+    Those that outgrow a small table start one there.
+    """
+    draws = random.Random(1)
+    yield 0, ("one output", "anf", description(16, 1, "fr", valued(draws, 300, 16, 1)))
+    yield 1, ("many outputs", "anf", description(12, OUTPUTS, "fr", valued(draws, 64, 12, OUTPUTS)))
+    cubes = [(random_cube(draws, 24, 12), "1") for _ in range(20)]
+    yield 1, ("cubes that outgrow a small table", "anf", description(24, 1, "f", cubes))
+    basis = description(14, 1, "fr", valued(draws, 100, 14, 1))
+    yield 1, ("a basis that outgrows a small table", "basis", basis)
+    for seed in (1, 2, 3):
+        yield 1, ("mode gen", f"gen --seed {seed}", "")
+
+
+def large_files():
+    """The same, as small_files has it, of files on tables on which a run has as many workers as are asked for."""
+    draws = random.Random(1)
+    yield "an output for each worker", "anf", description(16, OUTPUTS, "fr", valued(draws, 120, 16, OUTPUTS))
+    yield "one output", "anf", description(20, 1, "fr", valued(draws, 2000, 20, 1))
+    yield "points that outgrow 2^16 slots", "anf", description(16, 1, "fr", valued(draws, 3000, 16, 1))
+    yield "two bases", "basis", description(12, 2, "fr", valued(draws, 180, 12, 2))
+
+
+def all_files():
+    """All of them, each with how often it is run."""
+    yield from ((file, SMALL_TIMES) for file in small_files())
+    yield from ((file, TIMES) for _, file in middle_files())
+    yield from ((file, TIMES) for file in large_files())
 
 
 def ends(path, line, text, workers, **how):
@@ -71,20 +88,14 @@ def ends(path, line, text, workers, **how):
 class Repeat(Test):
     """Each run prints what the first one with one worker does."""
 
-    def repeat(self, files, times):
-        for what, line, text in files:
+    def test_all(self):
+        for (what, line, text), times in all_files():
             wanted = ends(program("interp"), line, text, 1)
             for name, workers in itertools.product(PROGRAMS, WORKERS):
                 with self.case(f"{what}, {name} {line} --workers {workers}"):
                     self.assertEqual(wanted.status, 0)
                     others = sum(ends(program(name), line, text, workers) != wanted for _ in range(times))
                     self.assertEqual(others, 0, f"of {times} runs print other bytes")
-
-    def test_small(self):
-        self.repeat(small_files(), SMALL_TIMES)
-
-    def test_large(self):
-        self.repeat(large_files(), LARGE_TIMES)
 
 
 class Threads(Test):
@@ -96,26 +107,33 @@ class Threads(Test):
         self.assertEqual(ended.status, 0)
         return started
 
-    def test_small(self):
-        """On a small table a phase has two workers at most, and but for the last phase one."""
-        for what, line, text in small_files():
+    def expect(self, files):
+        """These files start so many threads with two workers and more, and none with one."""
+        for threads, (what, line, text) in files:
             for name, workers in itertools.product(PROGRAMS, WORKERS):
                 with self.case(f"{what}, {name} {line} --workers {workers}"):
-                    self.assertEqual(self.count(name, line, text, workers), SMALL[what, line] if workers > 1 else 0)
+                    self.assertEqual(self.count(name, line, text, workers), threads if workers > 1 else 0)
+
+    def test_small(self):
+        """On a small table the last list of jobs has two workers at most, also where it has one job, and others one."""
+        self.expect((1, file) for file in small_files())
+
+    def test_middle(self):
+        """On one of at most 2^16 slots too, but for one output, which has one worker."""
+        self.expect(middle_files())
 
     def test_large(self):
         """On the other ones the workers are as many as are asked for, and one of them is the main thread.
 
         How many more threads start depends on who draws a job, as several workers do one job where there are more of
-        them than jobs. In mode gen there are four jobs and then two, so that four threads start in any case; in mode
-        basis each of two phases starts them.
+        them than jobs. In mode basis each of two phases starts them.
         """
         for what, line, text in large_files():
             for name, workers in itertools.product(PROGRAMS, WORKERS):
                 with self.case(f"{what}, {name} {line} --workers {workers}"):
-                    least = {"anf": workers - 1, "basis": 2 * (workers - 1), "gen": min(workers - 1, 4)}
+                    least = {"anf": workers - 1, "basis": 2 * (workers - 1)}
                     started = self.count(name, line, text, workers)
-                    self.assertGreaterEqual(started, least[line.split()[0]])
+                    self.assertGreaterEqual(started, least[line])
                     self.assertEqual(started == 0, workers == 1)
 
     def test_a_job_each(self):
@@ -130,14 +148,15 @@ class Refused(Test):
     """Threads that the system refuses: the run prints what one worker does."""
 
     def test_each_thread(self):
-        """From each thread on all are refused, and each alone."""
-        for (what, line, text), name in itertools.product(large_files(), PROGRAMS):
+        """From each thread on all are refused, and each alone, of the first 15 in each run."""
+        small, large = ((1, file) for file in small_files()), ((15, file) for file in large_files())
+        for (threads, (what, line, text)), name in itertools.product([*small, *middle_files(), *large], PROGRAMS):
             words = [program(name), *line.split(), "--workers", 16]
             wanted = run([*words[:-1], 1], text)
             with self.case(f"{what}, {name} {line}"):
                 self.assertEqual(wanted.status, 0)
                 met = sum(self.refuse(words, text, wanted, first) for first in range(1, 16))
-                self.assertGreaterEqual(met, 4)
+                self.assertEqual(met, threads)
 
     def refuse(self, words, text, wanted, first):
         """Refuses a thread alone, and with all that come after it; answers whether there is such a thread."""
@@ -162,6 +181,6 @@ class Refused(Test):
                 path = pathlib.Path(folder) / name
                 shutil.copyfile(program(name), path)
                 path.chmod(0o755)
-                for what, line, text in [*small_files(), *large_files()]:
+                for (what, line, text), _ in all_files():
                     with self.case(f"{what}, {name} {line}"):
                         self.assertEqual(ends(path, line, text, 16, **alone), ends(path, line, text, 1))

@@ -1,5 +1,5 @@
 //! One job by several workers, each of which does the whole of it.
-ghost use Rattle.std.specs.Prelude.{◌≡◌, ◌≤◌, ◌<◌, ◌+◌, OnErr};
+ghost use Rattle.std.specs.Prelude.{◌≡◌, ◌≤◌, ◌<◌, ◌+◌};
 ghost use Rattle.std.specs.Thread.{IsSync};
 ghost use Rattle.unique_table.specs.Passes.{token_state, IsOf};
 ghost use Rattle.computed_cache.specs.Cached.{cached_state};

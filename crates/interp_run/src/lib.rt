@@ -16,6 +16,7 @@ mod solve;
 mod summary;
 mod tasks;
 mod top;
+mod workers;
 
 pub use crate::answer::{Answered, Notes, answer_of};
 pub use crate::ends::OwnEnd;

@@ -13,6 +13,7 @@ ghost use Rattle.interp_run.specs.Phases.{IsFirst, first_tasks, task};
 use crate::cover_jobs::find_cares;
 use crate::means::Interp;
 use crate::tasks::{Part, Task, Tasks, run_tasks};
+use crate::workers::Workers;
 use computed_cache::CachedPass;
 use fork_branches::{Pool, SolveRefusal};
 use lattice::{Memory, Mode};
@@ -58,11 +59,10 @@ fn list_first_tasks(alloc: Global, pla: &Pla, mode: Mode) -> Result<Vec<Task>, M
 pub(crate) fn run_first_phase<R: Threads + Sync, P: Pool>(
     interp: &mut Interp<'_, R, P>,
     store: &mut CachedPass,
-    workers: u32,
+    workers: Workers,
     pla: &Pla,
     mode: Mode,
 ) -> Result<First, SolveRefusal>
-    requires workers { (1 ≤ workers) × (workers ≤ 16) }
     requires room { P.done interp.old.pool.now < 2 ^ 29 }
     requires vars { (cached_state store.old).vars ≡ pla.now.inputs }
     requires consistent { IsConsistent pla.now.inputs pla.now.outputs pla.now.rows }
@@ -79,13 +79,13 @@ pub(crate) fn run_first_phase<R: Threads + Sync, P: Pool>(
     ensures full { IsErrOf result SolveRefusal.Full
         → IsFull (cached_state store.old) (cached_state store.new) }
 {
-    let cares = find_cares(interp, store, workers, pla)?;
+    let cares = find_cares(interp, store, workers.covers, pla)?;
     let list = list_first_tasks(interp.alloc, pla, mode)?;
     let tasks = Tasks {
         pla,
         cares: &cares,
         list: &list,
     };
-    let found = run_tasks(interp, store, workers, &tasks)?;
+    let found = run_tasks(interp, store, workers.first, &tasks)?;
     Ok(First { cares, found })
 }

@@ -28,10 +28,11 @@ use crate::means::Interp;
 use crate::phases::{First, run_first_phase};
 use crate::plan::{first_plan, run_plan};
 use crate::printed::list_shown;
+use crate::workers::Workers;
 use anf_printer::Shown;
 use cli_words::Job;
 use computed_cache::CachedPass;
-use cube_build::{Demand, SMALL_BITS};
+use cube_build::Demand;
 use fork_branches::Pool;
 use lattice::{MAX_VARS, Mode, MonoLists};
 use node_store::Store;
@@ -54,21 +55,6 @@ fn demand_of<'a>(pla: &'a Pla, job: &Job) -> Demand<'a> {
         pla,
         is_basis: job.mode == Mode::Basis,
         besides: 0,
-    }
-}
-
-// How many workers run a phase on tables of 2^bits slots. On a small table a phase takes less time
-// than a thread takes to start, so there the last phase has two at most, and a phase before it one.
-fn workers_on(job: &Job, bits: u32, is_last: bool) -> u32
-    requires { IsWithin job.now }
-    ensures { (1 ≤ result) × (result ≤ 16) }
-{
-    if SMALL_BITS < bits {
-        job.workers
-    } else if is_last {
-        job.workers.min(2)
-    } else {
-        1
     }
 }
 
@@ -105,7 +91,7 @@ fn find_first<R: Threads + Sync, P: Pool>(
     ensures least { P.done interp.old.pool.now ≤ P.done interp.new.pool.now }
     ensures most { P.done interp.new.pool.now ≤ P.done interp.old.pool.now + 2 ^ 24 }
 {
-    let workers = workers_on(job, bits, job.mode != Mode::Basis);
+    let workers = Workers::on(job, pla, bits);
     let first = run_first_phase(interp, store, workers, pla, job.mode)?;
     let leads = list_leads(interp.alloc, store, pla, job.mode, &first.found, job.terms)?;
     Ok((first, leads))
@@ -175,7 +161,7 @@ fn try_solution<R: Threads + Sync, P: Pool>(
     let elements = run_second_phase(
         interp,
         &mut pass,
-        workers_on(job, bits, true),
+        Workers::on(job, pla, bits).second,
         pla,
         job.mode,
         &first,

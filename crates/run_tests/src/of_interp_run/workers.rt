@@ -8,12 +8,22 @@ use std::process::Abort;
 use std::test::Fail;
 use std::thread::Threads;
 
-// The full adder with its rows 98 times over. So many rows do not fit the small tables, on which a
-// run has two workers at most.
-fn long_adder(alloc: Global) -> Result<String, AllocError> {
-    let mut text = String::from_str(alloc, ".i 3\n.o 2\n.ilb a b cin\n.ob s c\n")?;
-    for _ in 0..98 {
-        text.push_str("001 10\n010 10\n100 10\n111 11\n011 01\n101 01\n110 01\n")?;
+// Rows over 20 inputs, two for each input but the first: where it is 1, the eight outputs have the
+// value of the first input. So many pairs of them meet that a run guesses that it needs more than
+// 2^16 slots, on which it has all its workers.
+fn meeting_rows(alloc: Global) -> Result<String, AllocError> {
+    let mut text = String::from_str(alloc, ".i 20\n.o 8\n.type fr\n")?;
+    for place in 1..20 {
+        for first in ["0", "1"] {
+            text.push_str(first)?;
+            for other in 1..20 {
+                text.push_str(if other == place { "1" } else { "-" })?;
+            }
+            for _ in 0..8 {
+                text.push_str(first)?;
+            }
+            text.push_str("\n")?;
+        }
     }
     Ok(text)
 }
@@ -21,7 +31,7 @@ fn long_adder(alloc: Global) -> Result<String, AllocError> {
 #[test]
 fn any_number_of_workers(rt: HostRuntime) -> Result<(), Fail> {
     let alloc = rt.alloc();
-    let long = long_adder(alloc)?;
+    let meeting = meeting_rows(alloc)?;
     for line in [
         "interp anf --workers 1",
         "interp anf --workers 2",
@@ -29,16 +39,22 @@ fn any_number_of_workers(rt: HostRuntime) -> Result<(), Fail> {
         "interp anf --workers 16",
     ] {
         answers(&rt, alloc, line, ADDER, SUMS)?;
-        answers(&rt, alloc, line, long.as_str(), SUMS)?;
+        answers(
+            &rt,
+            alloc,
+            line,
+            meeting.as_str(),
+            "f1 = x1\nf2 = x1\nf3 = x1\nf4 = x1\nf5 = x1\nf6 = x1\nf7 = x1\nf8 = x1\n",
+        )?;
     }
     Ok(())
 }
 
 // With two workers both are at their starts at one time: each waits at the gate until it has seen
 // the other. A body that runs both on one thread, or that drops the workers or the gate, gives the
-// same text and fails here. The first two files have several jobs, whose workers meet before any of
-// them. The last one has one cover, which one worker finds, and one polynomial: there the two
-// workers that both find it are the first to meet.
+// same text and fails here. On the tables of these files the polynomials alone have two workers:
+// the first file has two polynomials, and the others one, which both workers find, with two covers
+// before it or with one.
 #[test]
 fn branches_meet(rt: HostRuntime) -> Result<(), Fail> {
     let parity = ".i 3\n.o 1\n001 1\n010 1\n100 1\n111 1\n";
