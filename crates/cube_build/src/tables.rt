@@ -71,8 +71,8 @@ impl Demand<'_> {
     }
 
     /// The size of the tables that are tried after those of 2^bits slots, where the last ones have
-    /// 2^most: those that suffice by the guess, or else a step more, or what the guess asks for where
-    /// that is more than a step.
+    /// 2^most: those that suffice by the guess, or else a step more, or what the guess asks for
+    /// where that is more than a step.
     pub fn next_size(&self, bits: u32, most: u32) -> u32
         requires { (bits < most) × (most ≤ MAX_BITS) }
         ensures { (bits < result) × (result ≤ most) }
