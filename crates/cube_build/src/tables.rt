@@ -2,7 +2,7 @@
 //! where nothing is guessed. A wrong guess costs time or memory, and changes no answer.
 ghost use Rattle.std.specs.Prelude.{◌≡◌, ◌⊎◌, ◌<◌, ◌≤◌};
 ghost use Rattle.lattice.specs.declared.limits.TheConstants.{MIN_BITS, MAX_BITS};
-ghost use Rattle.cube_build.specs.declared.tables.TheConstants.{FEW_BITS, SMALL_BITS};
+ghost use Rattle.cube_build.specs.declared.tables.TheConstants.{MIDDLE_BITS, SMALL_BITS};
 
 use crate::guess::guess_nodes;
 use pla_reader::Pla;
@@ -11,8 +11,9 @@ use pla_reader::Pla;
 /// the slower it is where it does not fit the processor's own memory.
 pub const SMALL_BITS: u32 = 12;
 
-/// Tables of 2^FEW_BITS slots are made in less than a millisecond.
-const FEW_BITS: u32 = 16;
+/// A table of 2^MIDDLE_BITS slots is made in less than a millisecond, and fits the memory of one
+/// processor. Filled in vain, it takes little time beside a run that needs a greater one.
+pub const MIDDLE_BITS: u32 = 16;
 
 /// What is tried in vain on tables of 2^MANY_BITS slots still takes little beside a run that needs
 /// more than 2^MOST_AT_ONCE.
@@ -21,15 +22,12 @@ const MANY_BITS: u32 = 18;
 /// Tables of at most so many slots are made at once where a run may need them.
 const MOST_AT_ONCE: u32 = 19;
 
-/// The tables after those that suffice by the guess have 2^NEAR_BITS times as many slots. Those
-/// before them had too few, so that twice as many are needed: the next ones have at most four times
-/// what is needed.
-const NEAR_BITS: u32 = 3;
-
-/// Where nothing is guessed, the next tables have 2^STEP_BITS times as many slots. What was tried
-/// on smaller ones takes little beside a run that needs the greater ones, and a run that needs few
-/// takes no great ones.
+/// Where nothing is guessed, the tables after small ones have 2^STEP_BITS times as many slots.
 const STEP_BITS: u32 = 4;
+
+/// Other tables that were full are followed by ones of 2^NEAR_BITS times as many slots. More are
+/// needed than they had, so twice as many: the next ones have at most four times what is needed.
+const NEAR_BITS: u32 = 3;
 
 /// What a run asks of its tables, from which their sizes are guessed.
 #[derive(Clone, Copy)]
@@ -89,10 +87,10 @@ impl Demand<'_> {
 /// The size of the tables that suffice for so many nodes, where the last ones have 2^most slots.
 fn size_for(nodes: u64, most: u32) -> u32
     ensures most { result ≤ most }
-    ensures least { (FEW_BITS ≤ result) ⊎ (result ≡ most) }
+    ensures least { (MIDDLE_BITS ≤ result) ⊎ (result ≡ most) }
 {
-    if nodes <= 1 << FEW_BITS {
-        most.min(FEW_BITS)
+    if nodes <= 1 << MIDDLE_BITS {
+        most.min(MIDDLE_BITS)
     } else if nodes <= 1 << MANY_BITS || most > MOST_AT_ONCE {
         most.min(MANY_BITS)
     } else {
@@ -111,5 +109,10 @@ pub fn next_bits(bits: u32, most: u32) -> u32
     requires { bits < most }
     ensures { (bits < result) × (result ≤ most) }
 {
-    bits + STEP_BITS.min(most - bits)
+    let step = if bits <= SMALL_BITS {
+        STEP_BITS
+    } else {
+        NEAR_BITS
+    };
+    bits + step.min(most - bits)
 }

@@ -3,14 +3,9 @@ ghost use Rattle.std.specs.Prelude.{◌≤◌};
 ghost use Rattle.cli_words.specs.CommandLine.{IsWithin};
 
 use cli_words::Job;
-use cube_build::SMALL_BITS;
+use cube_build::{MIDDLE_BITS, SMALL_BITS};
 use lattice::Mode;
 use pla_reader::Pla;
-
-/// A table of at most 2^MIDDLE_BITS slots fits the memory of one processor. What one worker found
-/// there takes another longer to fetch than to find, and what all of a run takes there is little
-/// beside the start of a few threads.
-const MIDDLE_BITS: u32 = 16;
 
 /// How many workers run each list of jobs: the covers of the outputs' sets, the tasks of phase 1,
 /// and those of phase 2.
@@ -25,7 +20,9 @@ pub(crate) struct Workers {
 
 impl Workers {
     /// The workers on tables of 2^bits slots: on great ones as many as the job asks for. On others
-    /// the last list that has jobs has two at most, and each list before it one.
+    /// the last list that has jobs has two at most, and each list before it one: what one worker
+    /// found on a table that fits the memory of its processor takes another one longer to fetch
+    /// than to find, and the whole run takes little beside the start of a few threads.
     pub(crate) fn on(job: &Job, pla: &Pla, bits: u32) -> Workers
         requires { IsWithin job.now }
     {

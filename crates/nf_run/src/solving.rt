@@ -12,18 +12,13 @@ use crate::answering::answer_queries;
 use crate::plans::{Sought, plan_for};
 use crate::queries::Query;
 use computed_cache::CachedPass;
-use cube_build::{Demand, next_bits};
+use cube_build::{Demand, MIDDLE_BITS, next_bits};
 use lattice::MonoLists;
 use node_store::Store;
 use pla_reader::Pla;
 use set_algebra::{TermsRefusal, lists_upto};
 use std::alloc::Global;
 use unique_table::Shared;
-
-/// Queries begin on tables of at most 2^MIDDLE_BITS slots, however many nodes are guessed: these
-/// are filled in vain in little time beside a run that needs greater ones, and the guess is often
-/// wrong for the points where a polynomial is 1.
-const MIDDLE_BITS: u32 = 16;
 
 /// The answers' terms, each from the greatest to the least, found in a store with the plan of the
 /// queries.
@@ -105,6 +100,8 @@ pub fn reduce(
         → (query_nodes (description p.now) queries.now ≤ 2 ^ bits)
         × (limit < answer_terms (description p.now) queries.now) }
 {
+    // However many nodes are guessed: for the points where a polynomial is 1
+    // the guess is often wrong.
     let mut tried = demand_of(p, queries).first_size(bits.min(MIDDLE_BITS));
     while tried < bits {
         match reduce_on(alloc, tried, p, queries, limit) {
