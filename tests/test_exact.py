@@ -35,16 +35,23 @@ def turned(rows, row, output):
     return [*rows[:row], (point, other), *rows[row + 1 :]]
 
 
+def alike(rows, outputs):
+    """The rows of one output for so many outputs."""
+    return [(point, outputs * value) for point, value in rows]
+
+
 def large_files():
     """Files on larger tables: the nodes that a whole run needs, what a description is made from, and the mode.
 
-    Two of them fill a table of 2^13 slots to the last one, and one needs a slot more.
+    Two of them fill a table of 2^17 slots to the last one, and one needs a slot more. With several outputs of the same
+    values each worker finds them all, so that the workers look for the last slots at the same time.
     """
-    many = valued(random.Random(1), 80, 12, 16)[:63]
-    yield 2**13, (12, 16, "fr", turned(many, 0, 12)), "anf"
-    yield 2**13 + 1, (12, 16, "fr", turned(many, 4, 10)), "anf"
-    yield 2**13, (16, 1, "fr", turned(valued(random.Random(6), 420, 16, 1)[:363], 12, 0)), "anf"
-    yield 10738, (10, 6, "fr", valued(random.Random(2), 80, 10, 6)), "basis"
+    more = turned(valued(random.Random(6), 6000, 16, 1)[:5800], 1559, 0)
+    exact = turned(more, 5525, 0)
+    yield 2**17, (16, 1, "fr", exact), "anf"
+    yield 2**17, (16, 16, "fr", alike(exact, 16)), "anf"
+    yield 2**17 + 1, (16, 16, "fr", alike(more, 16)), "anf"
+    yield 134283, (14, 1, "fr", valued(random.Random(2), 300, 14, 1)), "basis"
 
 
 class Exact(Test):
@@ -77,7 +84,7 @@ class Exact(Test):
             whole = run([program("interp"), mode], text)
             with self.case(f"{nodes} nodes"):
                 self.assertEqual((cost.last, whole.status), (nodes, 0))
-            for name, bits, workers in itertools.product(PROGRAMS, (13, 14), (2, 4, 8, 16)):
+            for name, bits, workers in itertools.product(PROGRAMS, (17, 18), (2, 4, 8, 16)):
                 with self.case(f"{nodes} nodes, {name} {mode} --nodes {bits} --workers {workers}"):
                     words = [program(name), mode, "--nodes", bits, "--workers", workers]
                     self.try_workers(due(cost, bits, MOST_TERMS, whole), words, text, workers)

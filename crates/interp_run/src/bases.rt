@@ -15,6 +15,7 @@ ghost use Rattle.interp_run.specs.Phases.{element_task, first_tasks, second_task
 use crate::means::Interp;
 use crate::phases::First;
 use crate::tasks::{Part, Task, Tasks, run_tasks};
+use crate::workers::Workers;
 use computed_cache::CachedPass;
 use fork_branches::{Pool, SolveRefusal};
 use lattice::{Memory, Mode, MonoLists, Monos};
@@ -117,13 +118,12 @@ fn list_second_tasks(alloc: Global, pla: &Pla, leads: &[Monos]) -> Result<Vec<Ta
 pub(crate) fn run_second_phase<R: Threads + Sync, P: Pool>(
     interp: &mut Interp<'_, R, P>,
     store: &mut CachedPass,
-    workers: u32,
+    workers: &Workers,
     pla: &Pla,
     mode: Mode,
     first: &First,
     leads: &[Monos],
 ) -> Result<Vec<Handle>, SolveRefusal>
-    requires workers { (1 ≤ workers) × (workers ≤ 16) }
     requires room { P.done interp.old.pool.now < 2 ^ 30 }
     requires vars { (cached_state store.old).vars ≡ pla.now.inputs }
     requires consistent { IsConsistent pla.now.inputs pla.now.outputs pla.now.rows }
@@ -153,5 +153,5 @@ pub(crate) fn run_second_phase<R: Threads + Sync, P: Pool>(
         cares: &first.cares,
         list: &list,
     };
-    run_tasks(interp, store, workers, &tasks)
+    run_tasks(interp, store, workers.for_elements(list.len()), &tasks)
 }

@@ -59,7 +59,7 @@ fn list_first_tasks(alloc: Global, pla: &Pla, mode: Mode) -> Result<Vec<Task>, M
 pub(crate) fn run_first_phase<R: Threads + Sync, P: Pool>(
     interp: &mut Interp<'_, R, P>,
     store: &mut CachedPass,
-    workers: Workers,
+    workers: &Workers,
     pla: &Pla,
     mode: Mode,
 ) -> Result<First, SolveRefusal>

@@ -91,7 +91,7 @@ fn find_first<R: Threads + Sync, P: Pool>(
     ensures least { P.done interp.old.pool.now ≤ P.done interp.new.pool.now }
     ensures most { P.done interp.new.pool.now ≤ P.done interp.old.pool.now + 2 ^ 24 }
 {
-    let workers = Workers::on(job, pla, bits);
+    let workers = &Workers::on(job, pla, bits);
     let first = run_first_phase(interp, store, workers, pla, job.mode)?;
     let leads = list_leads(interp.alloc, store, pla, job.mode, &first.found, job.terms)?;
     Ok((first, leads))
@@ -161,7 +161,7 @@ fn try_solution<R: Threads + Sync, P: Pool>(
     let elements = run_second_phase(
         interp,
         &mut pass,
-        Workers::on(job, pla, bits).second,
+        &Workers::on(job, pla, bits),
         pla,
         job.mode,
         &first,

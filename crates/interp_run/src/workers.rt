@@ -7,52 +7,62 @@ use cube_build::{MIDDLE_BITS, SMALL_BITS};
 use lattice::Mode;
 use pla_reader::Pla;
 
-/// How many workers run each list of jobs: the covers of the outputs' sets, the tasks of phase 1,
-/// and those of phase 2.
+/// On a table that is not great a worker has so many elements of bases at the least, since fewer
+/// take little longer than a thread takes to start.
+const ELEMENTS_EACH: usize = 8;
+
+/// How many workers run each list of jobs on one table: the covers of the outputs' sets, the tasks
+/// of phase 1, and those of phase 2, the elements of bases.
 #[derive(Clone, Copy)]
 pub(crate) struct Workers {
     pub covers: u32,
     pub first: u32,
-    pub second: u32,
+    second: u32,
+    is_great: bool,
     ghost some: { (1 ≤ covers) × (1 ≤ first) × (1 ≤ second) },
     ghost few: { (covers ≤ 16) × (first ≤ 16) × (second ≤ 16) },
 }
 
 impl Workers {
-    /// The workers on tables of 2^bits slots: on great ones as many as the job asks for. On others
-    /// the last list that has jobs has two at most, and each list before it one: what one worker
-    /// found on a table that fits the memory of its processor takes another one longer to fetch
-    /// than to find, and the whole run takes little beside the start of a few threads.
+    /// The workers on a table of 2^bits slots: on a great one as many as the job asks for. What a
+    /// worker found on a table that fits the memory of its processor takes another one longer to
+    /// fetch than to find, and the whole run takes little beside the start of a few threads. So on
+    /// the others each list has one, but for the polynomials where they are the last list, which
+    /// have two at most, and for elements on tables that are not small.
     pub(crate) fn on(job: &Job, pla: &Pla, bits: u32) -> Workers
         requires { IsWithin job.now }
     {
-        let (others, last) = if MIDDLE_BITS < bits {
-            (job.workers, job.workers)
-        } else {
-            (1, workers_of_last(job, pla, bits))
-        };
+        if MIDDLE_BITS < bits {
+            return Workers {
+                covers: job.workers,
+                first: job.workers,
+                second: job.workers,
+                is_great: true,
+            };
+        }
+        let is_small = bits <= SMALL_BITS;
+        // Two that share one polynomial cost up to a tenth of the run where it is not the shortest.
+        let most = if is_small { 2 } else { pla.outputs.min(2) };
         let first = match job.mode {
-            Mode::Basis => others,
-            Mode::Anf | Mode::Check | Mode::Gen => last,
+            Mode::Basis => 1,
+            Mode::Anf | Mode::Check | Mode::Gen => job.workers.min(most),
         };
         Workers {
-            covers: others,
+            covers: 1,
             first,
-            second: last,
+            second: if is_small { 1 } else { job.workers },
+            is_great: false,
         }
     }
-}
 
-// How many workers run the last list on tables of 2^bits slots that are not great. Only on small
-// ones may two of them share one job: on others the second one costs up to a tenth of the run.
-fn workers_of_last(job: &Job, pla: &Pla, bits: u32) -> u32
-    requires { IsWithin job.now }
-    ensures { (1 ≤ result) × (result ≤ 2) }
-{
-    let most = if bits <= SMALL_BITS {
-        2
-    } else {
-        pla.outputs.min(2)
-    };
-    job.workers.min(most)
+    /// The workers of phase 2, for so many elements.
+    pub(crate) fn for_elements(&self, count: usize) -> u32
+        ensures { (1 ≤ result) × (result ≤ 16) }
+    {
+        if self.is_great {
+            self.second
+        } else {
+            self.second.min((count / ELEMENTS_EACH).clamp(1, 16) as u32)
+        }
+    }
 }
