@@ -2,8 +2,8 @@
 
 The jobs are drawn from a counter by interp, and taken from deques by steal, whose runs are the same as interp's. What
 is compared are the text, the lines of progress between its lines, and the status. On a table of at most 2^16 slots a
-run has two workers at most; so there are files on larger tables too, made from a seed. How many threads start is
-counted, outside of the program.
+run has few workers or none but the main thread; so there are files on larger tables too, made from a seed. How many
+threads start is counted, outside of the program.
 """
 
 import itertools
@@ -16,20 +16,21 @@ import subprocess
 import tempfile
 import unittest
 
-from tests.harness import ALL, EXAMPLES, Fault, Test, description, faults, program, run
+from tests.harness import ALL, EXAMPLES, Fault, Test, answer, description, faults, program, run
 from tests.made_descriptions import random_cube, valued
 
 PROGRAMS = ("interp", "steal")
 WORKERS = (1, 2, 4, 8, 16)
 
-# Files of examples/, each with a mode.
-EXAMPLE_RUNS = (
-    ("full_adder", "anf"),
-    ("seven_segments", "anf"),
-    ("multiplier", "anf"),
-    ("johnson", "basis"),
-    ("one_hot", "basis"),
-)
+# Files of examples/ on tables of 2^12 slots, each with a mode, and how many threads start in a run with two workers and
+# more.
+SMALL = {
+    ("full_adder", "anf"): 1,
+    ("seven_segments", "anf"): 1,
+    ("multiplier", "anf"): 1,
+    ("johnson", "basis"): 0,
+    ("one_hot", "basis"): 0,
+}
 
 # How often each file on small tables is run with each number of workers, and each other one.
 SMALL_TIMES = 40
@@ -43,29 +44,31 @@ OUTPUTS = 16
 
 
 def small_files():
-    """Files on tables of 2^12 slots: what each is, the words and the text."""
-    for name, mode in EXAMPLE_RUNS:
-        yield name, mode, (EXAMPLES / f"{name}.pla").read_text()
+    """Files on small tables: how many threads start, and what each is, the words and the text."""
+    for (name, mode), threads in SMALL.items():
+        yield threads, (name, mode, (EXAMPLES / f"{name}.pla").read_text())
 
 
 def middle_files():
-    """Files on tables of 2^16 slots: how many threads start with two workers and more, and what each file is.
-
-    Those that outgrow a small table start one there.
-    """
+    """The same of files on tables of 2^16 slots, of those that outgrow a small table also what starts there."""
     draws = random.Random(1)
     yield 0, ("one output", "anf", description(16, 1, "fr", valued(draws, 300, 16, 1)))
     yield 1, ("many outputs", "anf", description(12, OUTPUTS, "fr", valued(draws, 64, 12, OUTPUTS)))
     cubes = [(random_cube(draws, 24, 12), "1") for _ in range(20)]
     yield 1, ("cubes that outgrow a small table", "anf", description(24, 1, "f", cubes))
-    basis = description(14, 1, "fr", valued(draws, 100, 14, 1))
-    yield 1, ("a basis that outgrows a small table", "basis", basis)
     for seed in (1, 2, 3):
         yield 1, ("mode gen", f"gen --seed {seed}", "")
 
 
+def bases():
+    """Files on tables of 2^16 slots in mode basis: how many elements there are, and what each is, as above."""
+    draws = random.Random(1)
+    yield 48, ("a basis that outgrows a small table", "basis", description(12, 1, "fr", valued(draws, 60, 12, 1)))
+    yield 268, ("four bases", "basis", description(12, 4, "fr", valued(draws, 90, 12, 4)))
+
+
 def large_files():
-    """The same, as small_files has it, of files on tables on which a run has as many workers as are asked for."""
+    """Files on tables on which a run has as many workers as are asked for: what each is, the words and the text."""
     draws = random.Random(1)
     yield "an output for each worker", "anf", description(16, OUTPUTS, "fr", valued(draws, 120, 16, OUTPUTS))
     yield "one output", "anf", description(20, 1, "fr", valued(draws, 2000, 20, 1))
@@ -75,9 +78,14 @@ def large_files():
 
 def all_files():
     """All of them, each with how often it is run."""
-    yield from ((file, SMALL_TIMES) for file in small_files())
-    yield from ((file, TIMES) for _, file in middle_files())
+    yield from ((file, SMALL_TIMES) for _, file in small_files())
+    yield from ((file, TIMES) for _, file in [*middle_files(), *bases()])
     yield from ((file, TIMES) for file in large_files())
+
+
+def most_for(elements, workers):
+    """How many workers of so many find so many elements on a table of 2^16 slots."""
+    return min(workers, elements // 8)
 
 
 def ends(path, line, text, workers, **how):
@@ -115,12 +123,21 @@ class Threads(Test):
                     self.assertEqual(self.count(name, line, text, workers), threads if workers > 1 else 0)
 
     def test_small(self):
-        """On a small table the last list of jobs has two workers at most, also where it has one job, and others one."""
-        self.expect((1, file) for file in small_files())
+        """On a small table polynomials have two workers at most, also where there is one of them, and all else one."""
+        self.expect(small_files())
 
     def test_middle(self):
-        """On one of at most 2^16 slots too, but for one output, which has one worker."""
+        """On one of at most 2^16 slots they have two too, but for a single one, which has one."""
         self.expect(middle_files())
+
+    def test_bases(self):
+        """There each eight elements of bases bring a worker, up to as many as are asked for."""
+        for elements, (what, line, text) in bases():
+            found = sum(it.startswith("0 = ") for it in answer([program("interp"), line], text))
+            self.assertEqual(found, elements)
+            for name, workers in itertools.product(PROGRAMS, WORKERS):
+                with self.case(f"{what}, {name} {line} --workers {workers}"):
+                    self.assertEqual(self.count(name, line, text, workers), most_for(elements, workers) - 1)
 
     def test_large(self):
         """On the other ones the workers are as many as are asked for, and one of them is the main thread.
@@ -149,8 +166,10 @@ class Refused(Test):
 
     def test_each_thread(self):
         """From each thread on all are refused, and each alone, of the first 15 in each run."""
-        small, large = ((1, file) for file in small_files()), ((15, file) for file in large_files())
-        for (threads, (what, line, text)), name in itertools.product([*small, *middle_files(), *large], PROGRAMS):
+        few = [*small_files(), *middle_files(), *((most_for(it, 16) - 1, file) for it, file in bases())]
+        for (threads, (what, line, text)), name in itertools.product(
+            [*few, *((15, file) for file in large_files())], PROGRAMS
+        ):
             words = [program(name), *line.split(), "--workers", 16]
             wanted = run([*words[:-1], 1], text)
             with self.case(f"{what}, {name} {line}"):
