@@ -278,11 +278,11 @@ class Faults(Test):
 
     def test_threads(self):
         """Where no thread comes, or one of the first does not, the text is the same; so a long stream ends too."""
-        for words, threads in ((["anf"], 1), (["basis", "--workers", "4"], 3)):
-            self.words = [program("batch"), *words]
+        for line, threads in (("anf", 1), ("anf --workers 4", 3), ("basis --workers 4", 1)):
+            self.words = [program("batch"), *line.split()]
             self.take(self.FILES * 500)
             for first, last in [(1, ALL), (1, 1), (2, 2), (3, 3)]:
-                with self.case(f"{' '.join(words)} without the threads from {first} to {last}"):
+                with self.case(f"{line} without the threads from {first} to {last}"):
                     ended, was_met = self.run_with(Fault("thread", 0, first, last, "fail"))
                     self.assertEqual(ended, self.whole)
                     self.assertTrue(was_met or first > threads)
