@@ -1,12 +1,14 @@
 """The programs interp and circuit where their standard streams are closed, full or endless, and with little memory."""
 
 import os
+import random
 import resource
 import subprocess
 import tempfile
 
 from bench.make_circuits import CIRCUITS
 from tests.harness import EXAMPLES, Ended, Test, description, installed, program, run
+from tests.made_descriptions import valued
 
 MOST_READ = 4_194_305
 POINTS = description(2, 1, "fr", ["11 1", "00 0"])
@@ -123,19 +125,21 @@ class Circuits(Test):
 class Memory(Test):
     """An address space without room for the table of nodes, and one with room for a table at a time."""
 
+    # Bases that need between 2^18 and 2^19 nodes: a table of 4 MiB is filled in vain.
+    TEXT = description(20, 1, "fr", valued(random.Random(1), 400, 20, 1))
+
     def basis(self, bits, limit):
         """A run with an address space of so many MiB. While a table is made it takes twice its size."""
         size = limit * 2**20
-        text = (EXAMPLES / "scattered.pla").read_bytes()
         how = {"preexec_fn": lambda: resource.setrlimit(resource.RLIMIT_AS, (size, size))} if limit else {}
-        return run([program("interp"), "basis", "--nodes", str(bits)], text, **how)
+        return run([program("interp"), "basis", "--nodes", str(bits)], self.TEXT, **how)
 
     def test_tables(self):
         with self.case("32 MiB for a table of 16 MiB"):
             self.assertEqual(self.basis(20, 32), NO_MEMORY)
-        whole = run([program("interp"), "basis"], (EXAMPLES / "scattered.pla").read_bytes())
+        whole = run([program("interp"), "basis"], self.TEXT)
         self.assertEqual(whole.status, 0)
-        with self.case("48 MiB for two tables of 16 MiB, one after the other"):
+        with self.case("48 MiB for tables of 4 and of 16 MiB, one after the other"):
             self.assertEqual(self.basis(20, 48), whole)
         with self.case("100 MiB for smaller tables than the greatest, of 128 MiB"):
             self.assertEqual(self.basis(23, 100), whole)
