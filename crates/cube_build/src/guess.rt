@@ -13,8 +13,25 @@ const VALUE_WORDS: usize = 128;
 /// The polynomial of an output needs so many nodes for each node of its cover.
 const NODES_OF_COVER: u64 = 4;
 
+/// Where points lie apart, all outputs together need so many nodes for each node of the cover of
+/// the points, and each output as many again.
+const NODES_APART: u64 = 2;
+
 /// So many elements of a basis need as many nodes as a polynomial, as they share most of theirs.
 const SHARING_ELEMENTS: u64 = 8;
+
+/// Points lie apart where there are 2^APART_BITS times as many in all.
+const APART_BITS: u32 = 6;
+
+/// A guess at the nodes of a run.
+#[derive(Clone, Copy)]
+pub(crate) struct Guess {
+    /// So many nodes are needed.
+    pub(crate) nodes: u64,
+    /// Whether it is hardly ever far too great. Rows that are points and lie apart share few nodes;
+    /// of others, as cubes and tables, what they say may be short.
+    pub(crate) is_sure: bool,
+}
 
 /// What the rows say of one output, in the mean over all.
 #[derive(Clone, Copy)]
@@ -120,6 +137,17 @@ fn guess_cover(pla: &Pla, named: u64) -> u64 {
         .min(1 << pla.inputs.min(32))
 }
 
+/// Whether each row fixes all inputs.
+fn are_points(pla: &Pla) -> bool {
+    let every = u64::MAX >> (64 - pla.inputs);
+    pla.rows.as_slice().iter().all(|row| row.care == every)
+}
+
+/// Whether the rows are points of which few are next to each other.
+fn lie_apart(pla: &Pla) -> bool {
+    pla.rows.len() as u64 <= 1 << pla.inputs.saturating_sub(APART_BITS) && are_points(pla)
+}
+
 /// Whether the rows are the points of a function of the last inputs: these have each of their
 /// values in just one row. Then the leads of a basis are the other inputs.
 fn is_graph(pla: &Pla) -> bool {
@@ -127,17 +155,16 @@ fn is_graph(pla: &Pla) -> bool {
     if count > 64 * VALUE_WORDS || count & count.saturating_sub(1) != 0 {
         return false;
     }
-    let every = u64::MAX >> (64 - pla.inputs);
     let mut met = [0u64; VALUE_WORDS];
     for row in pla.rows.as_slice() {
         let value = row.value as usize % count;
         let bit = 1u64 << (value % 64);
-        if row.care != every || met[value / 64] & bit != 0 {
+        if met[value / 64] & bit != 0 {
             return false;
         }
         met[value / 64] |= bit;
     }
-    true
+    are_points(pla)
 }
 
 /// A guess at the elements of a basis of which so many rows tell the care points: one for each
@@ -150,16 +177,30 @@ fn guess_elements(pla: &Pla, care_rows: u64) -> u64 {
     }
 }
 
-/// A guess at the nodes that are needed for the polynomials of all outputs, and for their bases
-/// too, if these are asked for.
-pub(crate) fn guess_nodes(pla: &Pla, is_basis: bool) -> u64 {
+/// A guess at the nodes of a run that finds the polynomials of all outputs, and their bases too, if
+/// these are asked for.
+pub(crate) fn guess_run(pla: &Pla, is_basis: bool) -> Guess {
     let named = count_named(pla);
-    let polynomial = guess_cover(pla, named.rows).saturating_mul(NODES_OF_COVER);
+    let cover = guess_cover(pla, named.rows);
     let outputs = u64::from(pla.outputs);
-    if !is_basis {
-        return polynomial.saturating_mul(outputs);
+    let are_apart = lie_apart(pla);
+    let polynomials = if are_apart {
+        NODES_APART * (outputs + 1)
+    } else {
+        NODES_OF_COVER * outputs
+    };
+    let shares = if is_basis {
+        let bases = if named.is_shared { 1 } else { outputs };
+        let elements = guess_elements(pla, named.care_rows);
+        elements.div_ceil(SHARING_ELEMENTS).saturating_mul(bases)
+    } else {
+        0
+    };
+    let covers = shares
+        .saturating_mul(NODES_OF_COVER)
+        .saturating_add(polynomials);
+    Guess {
+        nodes: cover.saturating_mul(covers),
+        is_sure: are_apart && !is_graph(pla),
     }
-    let elements = guess_elements(pla, named.care_rows).div_ceil(SHARING_ELEMENTS);
-    let bases = if named.is_shared { 1 } else { outputs };
-    polynomial.saturating_mul(outputs.saturating_add(elements.saturating_mul(bases)))
 }

@@ -2,14 +2,19 @@
 //! where nothing is guessed. A wrong guess costs time or memory, and changes no answer.
 ghost use Rattle.std.specs.Prelude.{◌≡◌, ◌⊎◌, ◌<◌, ◌≤◌};
 ghost use Rattle.lattice.specs.declared.limits.TheConstants.{MIN_BITS, MAX_BITS};
-ghost use Rattle.cube_build.specs.declared.tables.TheConstants.{MIDDLE_BITS, SMALL_BITS};
+ghost use Rattle.cube_build.specs.declared.tables.TheConstants.{MIDDLE_BITS, SMALL_BITS, TRIAL_BITS};
 
-use crate::guess::guess_nodes;
+use crate::guess::{Guess, guess_run};
 use pla_reader::Pla;
 
 /// A small table has 2^SMALL_BITS slots. The greater a table is, the longer it takes to make, and
 /// the slower it is where it does not fit the processor's own memory.
 pub const SMALL_BITS: u32 = 12;
+
+/// A table of 2^TRIAL_BITS slots is filled in two milliseconds, and a run for which it does not
+/// suffice may take one of 2^MANY_BITS: with this a process takes no more than four times the
+/// memory that it takes with the least one that suffices.
+const TRIAL_BITS: u32 = 14;
 
 /// A table of 2^MIDDLE_BITS slots is made in less than a millisecond, and fits the memory of one
 /// processor. Filled in vain, it takes little time beside a run that needs a greater one.
@@ -50,12 +55,17 @@ impl Demand<'_> {
     }
 
     /// A guess at the nodes of the run.
-    fn guess(&self) -> u64 {
-        guess_nodes(self.pla, self.is_basis).saturating_add(self.besides)
+    fn guess(&self) -> Guess {
+        let guess = guess_run(self.pla, self.is_basis);
+        Guess {
+            nodes: guess.nodes.saturating_add(self.besides),
+            ..guess
+        }
     }
 
     /// The size of the tables that a run begins with whose last ones have 2^most slots: small ones
-    /// where all rows fit them, and else those that suffice by a guess.
+    /// where all rows fit them, and else those that suffice by a guess, or, where the guess may be
+    /// far too great, smaller ones that show that so many are needed.
     pub fn first_size(&self, most: u32) -> u32
         requires { MIN_BITS ≤ most }
         ensures within { (MIN_BITS ≤ result) × (result ≤ most) }
@@ -64,23 +74,46 @@ impl Demand<'_> {
         if self.is_small() {
             most.min(SMALL_BITS)
         } else {
-            size_for(self.guess(), most)
+            first_guessed(self.guess(), most)
         }
     }
 
     /// The size of the tables that are tried after those of 2^bits slots, where the last ones have
-    /// 2^most: those that suffice by the guess, or else a step more, or what the guess asks for
-    /// where that is more than a step.
+    /// 2^most: those that the guess begins with, then those that suffice by it, and else a step
+    /// more, or what a sure guess asks for where that is more than a step.
     pub fn next_size(&self, bits: u32, most: u32) -> u32
         requires { (bits < most) × (most ≤ MAX_BITS) }
         ensures { (bits < result) × (result ≤ most) }
     {
-        let nodes = self.guess();
-        let guess = size_for(nodes, most);
-        if bits < guess {
-            return guess;
+        let guess = self.guess();
+        let first = first_guessed(guess, most);
+        let enough = size_for(guess.nodes, most);
+        if bits < first {
+            first
+        } else if bits < enough {
+            enough
+        } else if guess.is_sure {
+            (bits + NEAR_BITS).max(bits_of(guess.nodes)).min(most)
+        } else {
+            (bits + NEAR_BITS).min(most)
         }
-        (bits + NEAR_BITS).max(bits_of(nodes)).min(most)
+    }
+}
+
+/// The size of the tables that a guess begins with, where the last ones have 2^most slots: those
+/// that suffice by it, if it is sure, and else none that have more than four times the memory that
+/// the run may need.
+fn first_guessed(guess: Guess, most: u32) -> u32
+    ensures most { result ≤ most }
+    ensures least { (TRIAL_BITS ≤ result) ⊎ (result ≡ most) }
+{
+    let enough = size_for(guess.nodes, most);
+    if guess.is_sure || enough <= MIDDLE_BITS {
+        enough
+    } else if enough <= MANY_BITS {
+        TRIAL_BITS
+    } else {
+        MIDDLE_BITS
     }
 }
 

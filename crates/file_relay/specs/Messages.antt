@@ -1,5 +1,5 @@
 -- What messages say of the files of a stream.
-use Rattle.std.specs.Prelude.{◌≡◌, ℕ, ◌+◌, Bool, true, false, List, [], ◌∷◌, ◌++◌, if◌then◌else◌}
+use Rattle.std.specs.Prelude.{◌≡◌, ℕ, ◌+◌, Bool, true, false, List, [], ◌∷◌, if◌then◌else◌}
 use Rattle.file_stream.specs.Files.{IsPiece}
 use Rattle.file_relay.specs.declared.message.Message.{Message}
 use Rattle.file_relay.specs.declared.message.Message.TheVariants.{File, End}
@@ -15,10 +15,6 @@ HaveFiles number [] [] = Unit {0}
 HaveFiles number [] (file ∷ files) = ⊥
 HaveFiles number (m ∷ ms) [] = ⊥
 HaveFiles number (m ∷ ms) (file ∷ files) = HasFile number m file × HaveFiles (number + 1) ms files
-
--- the same, and then the end mark
-abbrev pub TellFiles : List Message → List (List ℕ) → Type 0
-TellFiles messages files = (ms : List Message) × (messages ≡ ms ++ End ∷ []) × HaveFiles 1 ms files
 
 -- ---- the end mark
 

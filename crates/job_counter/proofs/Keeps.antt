@@ -4,8 +4,8 @@ use Rattle.std.proofs.Common.{◌∙◌, subst, arith, length-set, length-append
 use Rattle.std.specs.List.{sum_by}
 use Rattle.std.proofs.Math.Nat.{mod-eq_of_lt}
 use Rattle.std.proofs.lemmas.List.{set-get_or}
-use Rattle.std.proofs.lemmas.List.Sums.{sum_by-cons, sum_by-set, sum_by_push, sum_by-le-sum_by, count_by-le-length}
-use mathlib.Core.Option.{some, some-ne-none, some-injective}
+use Rattle.std.proofs.lemmas.List.Sums.{sum_by-cons, sum_by_push, sum_by-le-sum_by, count_by-le-length}
+use mathlib.Core.Option.{some}
 use lib.ListN.{get_elem?}
 use Rattle.atomic_table.specs.Table.{State, Me, keeps, stepped, Allows, Splits, Joins}
 use Rattle.atomic_table.proofs.Lists.{at_set, at_snoc, set_else, set_again}
@@ -13,6 +13,7 @@ use Rattle.job_counter.specs.declared.counter.TheConstants.{ALL_PARTS}
 use Rattle.job_counter.specs.declared.view.Hand.{Hand}
 use Rattle.job_counter.specs.Numbers.{times, once_below}
 use Rattle.job_counter.specs.Rule.{Rule, hand, Drew, Counted, first_half, second_half, both_hands}
+use Rattle.job_counter.proofs.Sums.{total-set}
 use Rattle.job_counter.proofs.Times.{times-append, once_more}
 
 -- ---- sums
@@ -20,15 +21,6 @@ use Rattle.job_counter.proofs.Times.{times-append, once_more}
 -- each seat drew no more numbers than it has parts
 abbrev AllWithin : List Hand → Type 0
 AllWithin l = (id : ℕ) (v : Hand) → get_elem? l id ≡ some v → length v.drawn ≤ v.parts
-
-found : (l : List Hand) (i : ℕ) (v : Hand) → get_elem? l i ≡ some v → (i < length l) × (get_or l i v ≡ v)
-found [] i v e = absurd (some-ne-none v (sym e))
-found (x ∷ xs) zero v e = (omega arith, some-injective x v e)
-found (x ∷ xs) (suc i) v e = let r = found xs i v e in (omega (arith, r.0), r.1)
-
--- a sum after a seat changed
-total-set : (f : Hand → ℕ) (l : List Hand) (i : ℕ) (v w : Hand) → get_elem? l i ≡ some v → sum_by f (set l i w) + f v ≡ sum_by f l + f w
-total-set f l i v w e = let at = found l i v e in grind (arith, sum_by-set f l i w v at.0)
 
 within_set : (l : List Hand) (i : ℕ) (w : Hand) → AllWithin l → length w.drawn ≤ w.parts → AllWithin (set l i w)
 within_set l i w all new j v e = grind (arith, at_set l i j w v e)

@@ -1,3 +1,4 @@
+pub mod Sums
 pub mod Times
 mod Keeps
 mod Dealt

@@ -2,27 +2,19 @@
 use Rattle.std.proofs.Common.{◌≡◌, ℕ, zero, suc, ◌+◌, ◌<◌, ◌≤◌, List, [], ◌∷◌, ◌++◌, length, get_or, set, sym, refl, ap}
 use Rattle.std.proofs.Common.{◌∙◌, ◌≢◌, subst, ⊎_elim, arith}
 use Rattle.std.specs.List.{sum_by}
-use Rattle.std.proofs.lemmas.List.Sums.{get_or-le-sum_by, sum_by-cons, sum_by-set, sum_by_push}
-use mathlib.Core.Option.{some, some-ne-none, some-injective}
+use Rattle.std.proofs.lemmas.List.Sums.{get_or-le-sum_by, sum_by-cons, sum_by_push}
+use mathlib.Core.Option.{some, some-ne-none}
 use lib.ListN.{get_elem?}
 use Rattle.crossbeam_deque.proofs.Lists.{at_set, at_snoc, set_else}
 use Rattle.crossbeam_deque.specs.Tasks.{Pushes, Takes, Finds, Learns, Forks, Merges}
 use Rattle.job_counter.specs.Numbers.{times}
+use Rattle.job_counter.proofs.Sums.{found, total-set}
 use Rattle.job_counter.proofs.Times.{times-append}
 use Rattle.job_deques.specs.declared.view.TheConstants.{ALL_PARTS}
 use Rattle.job_deques.specs.declared.view.Hold.{Hold}
 use Rattle.job_deques.specs.Rule.{Kept, hold, IsWithin, Pushed, Took, TookAll, without_part, one_part, together}
 
 -- ---- sums
-
-found : (l : List Hold) (i : ℕ) (v : Hold) → get_elem? l i ≡ some v → (i < length l) × (get_or l i v ≡ v)
-found [] i v e = absurd (some-ne-none v (sym e))
-found (x ∷ xs) zero v e = (omega arith, some-injective x v e)
-found (x ∷ xs) (suc i) v e = let r = found xs i v e in (omega (arith, r.0), r.1)
-
--- a sum after a pass changed
-total-set : (f : Hold → ℕ) (l : List Hold) (i : ℕ) (v w : Hold) → get_elem? l i ≡ some v → sum_by f (set l i w) + f v ≡ sum_by f l + f w
-total-set f l i v w e = let at = found l i v e in grind (arith, sum_by-set f l i w v at.0)
 
 -- a pass has no more of anything than all have
 one_of_all : (f : Hold → ℕ) (l : List Hold) (i : ℕ) (v : Hold) → get_elem? l i ≡ some v → f v ≤ sum_by f l

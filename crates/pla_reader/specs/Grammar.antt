@@ -3,7 +3,7 @@
 use Rattle.std.specs.Prelude.{ℕ, ◌+◌, Bool, false, not, ◌&&◌, ◌||◌, ◌==◌, nat_lt, nat_le, List, [], ◌∷◌, length, take, drop, codes, Option}
 use Rattle.std.specs.Prelude.{Some, None, is_some, is_none, map, option_and_then, slice_get, slice_index, if◌then◌else◌}
 use Rattle.std.specs.List.{filter, find, list_all, list_any}
-use Rattle.std.specs.Option.{option_or, option_map, option_map_or, option_zip}
+use Rattle.std.specs.Option.{option_map, option_map_or, option_zip}
 use Rattle.std.specs.Char.{is_ascii_digit}
 use Rattle.std.specs.Str.{bytes_eq}
 use Rattle.std.specs.Str.Parse.{digits_value}

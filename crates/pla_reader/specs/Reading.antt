@@ -1,5 +1,5 @@
 -- What a text describes, or why it is refused.
-use Rattle.std.specs.Prelude.{◌≡◌, ℕ, ◌+◌, ◌*◌, ◌^◌, Bool, ◌&&◌, List, [], ◌∷◌, ◌++◌, length, map, take, drop, codes, sum_by, Option, Some}
+use Rattle.std.specs.Prelude.{◌≡◌, ℕ, ◌+◌, ◌*◌, ◌^◌, Bool, ◌&&◌, List, [], ◌∷◌, ◌++◌, length, map, take, drop, codes, sum_by, Option}
 use Rattle.std.specs.Prelude.{None, ok_or, unwrap_or, option_and_then, Result, Ok, Err, option_map, if◌then◌else◌}
 use Rattle.std.specs.List.{filter, enumerate_from}
 use Rattle.std.specs.Option.{option_map_or, option_or}

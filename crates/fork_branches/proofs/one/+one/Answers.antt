@@ -1,6 +1,6 @@
 use Rattle.std.proofs.Common.{◌∙◌, ap, rules}
 use Rattle.unique_table.specs.Passes.{token_state, twin_of}
-use Rattle.computed_cache.specs.Cached.{cached_sound, cached_state}
+use Rattle.computed_cache.specs.Cached.{cached_sound}
 use Rattle.fork_branches.specs.Work.{MayWork}
 use Rattle.fork_branches.proofs.Branches.{both_gives, takes_both}
 use Rattle.fork_branches.proofs.Works.{may_twin}
