@@ -8,7 +8,7 @@ import tempfile
 
 from bench.make_circuits import CIRCUITS
 from tests.harness import EXAMPLES, Ended, Test, description, installed, program, run
-from tests.made_descriptions import valued
+from tests.made_descriptions import random_cube, valued
 
 MOST_READ = 4_194_305
 POINTS = description(2, 1, "fr", ["11 1", "00 0"])
@@ -126,20 +126,33 @@ class Memory(Test):
     """An address space without room for the table of nodes, and one with room for a table at a time."""
 
     # Bases that need between 2^18 and 2^19 nodes: a table of 4 MiB is filled in vain.
-    TEXT = description(20, 1, "fr", valued(random.Random(1), 400, 20, 1))
+    BASES = description(20, 1, "fr", valued(random.Random(1), 400, 20, 1))
 
-    def basis(self, bits, limit):
+    # Cubes of three literals, so many that hardly a point is left: 2^14 slots suffice.
+    CUBES = description(20, 1, "f", [(random_cube(random.Random(seed), 20, 3), "1") for seed in range(300)])
+
+    def solve(self, mode, text, bits=19, limit=None):
         """A run with an address space of so many MiB. While a table is made it takes twice its size."""
-        size = limit * 2**20
-        how = {"preexec_fn": lambda: resource.setrlimit(resource.RLIMIT_AS, (size, size))} if limit else {}
-        return run([program("interp"), "basis", "--nodes", str(bits)], self.TEXT, **how)
+        how = {}
+        if limit is not None:
+            size = limit * 2**20
+            how = {"preexec_fn": lambda: resource.setrlimit(resource.RLIMIT_AS, (size, size))}
+        return run([program("interp"), mode, "--nodes", bits], text, **how)
 
     def test_tables(self):
         with self.case("32 MiB for a table of 16 MiB"):
-            self.assertEqual(self.basis(20, 32), NO_MEMORY)
-        whole = run([program("interp"), "basis"], self.TEXT)
+            self.assertEqual(self.solve("basis", self.BASES, 20, 32), NO_MEMORY)
+        whole = self.solve("basis", self.BASES)
         self.assertEqual(whole.status, 0)
         with self.case("48 MiB for tables of 4 and of 16 MiB, one after the other"):
-            self.assertEqual(self.basis(20, 48), whole)
+            self.assertEqual(self.solve("basis", self.BASES, 20, 48), whole)
         with self.case("100 MiB for smaller tables than the greatest, of 128 MiB"):
-            self.assertEqual(self.basis(23, 100), whole)
+            self.assertEqual(self.solve("basis", self.BASES, 23, 100), whole)
+
+    def test_little_in_many_words(self):
+        """Cubes that need few nodes take no more room by the default limit than by a small one, whatever is guessed."""
+        whole = self.solve("anf", self.CUBES)
+        self.assertEqual(whole.status, 0)
+        least = next(limit for limit in range(4, 64) if self.solve("anf", self.CUBES, 16, limit) == whole)
+        with self.case(f"{least} MiB, with which a table of 1 MiB can be made"):
+            self.assertEqual(self.solve("anf", self.CUBES, limit=least), whole)
