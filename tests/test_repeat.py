@@ -70,7 +70,7 @@ def bases():
 def large_files():
     """Files on tables on which a run has as many workers as are asked for: what each is, the words and the text."""
     draws = random.Random(1)
-    yield "an output for each worker", "anf", description(16, OUTPUTS, "fr", valued(draws, 120, 16, OUTPUTS))
+    yield "an output for each worker", "anf", description(16, OUTPUTS, "fr", valued(draws, 300, 16, OUTPUTS))
     yield "one output", "anf", description(20, 1, "fr", valued(draws, 2000, 20, 1))
     yield "points that outgrow 2^16 slots", "anf", description(16, 1, "fr", valued(draws, 3000, 16, 1))
     yield "two bases", "basis", description(12, 2, "fr", valued(draws, 180, 12, 2))
