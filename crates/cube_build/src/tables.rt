@@ -2,7 +2,8 @@
 //! where nothing is guessed. A wrong guess costs time or memory, and changes no answer.
 ghost use Rattle.std.specs.Prelude.{◌≡◌, ◌⊎◌, ◌<◌, ◌≤◌};
 ghost use Rattle.lattice.specs.declared.limits.TheConstants.{MIN_BITS, MAX_BITS};
-ghost use Rattle.cube_build.specs.declared.tables.TheConstants.{MIDDLE_BITS, SMALL_BITS, TRIAL_BITS};
+ghost use Rattle.cube_build.specs.declared.tables.TheConstants.{MIDDLE_BITS, SMALL_BITS};
+ghost use Rattle.cube_build.specs.declared.tables.TheConstants.{TRIAL_BITS};
 
 use crate::guess::{Guess, guess_run};
 use pla_reader::Pla;
