@@ -1,7 +1,7 @@
 """The program prints the same run after run, with any number of workers, and where threads are refused.
 
 The jobs are drawn from a counter by interp, and taken from deques by steal, whose runs are the same as interp's. What
-is compared are the text, the lines of progress between its lines, and the status. On a table of at most 2^16 slots a
+is compared are the text, the lines of progress between its lines, and the status. On a table of at most 2^17 slots a
 run has few workers or none but the main thread; so there are files on larger tables too, made from a seed. How many
 threads start is counted, outside of the program.
 """
@@ -50,7 +50,7 @@ def small_files():
 
 
 def middle_files():
-    """The same of files on tables of 2^16 slots, of those that outgrow a small table also what starts there."""
+    """The same of files on tables of 2^16 or 2^17 slots, of those that outgrow a small table also what starts there."""
     draws = random.Random(1)
     yield 0, ("one output", "anf", description(16, 1, "fr", valued(draws, 300, 16, 1)))
     yield 1, ("many outputs", "anf", description(12, OUTPUTS, "fr", valued(draws, 64, 12, OUTPUTS)))
@@ -58,6 +58,10 @@ def middle_files():
     yield 1, ("cubes that outgrow a small table", "anf", description(24, 1, "f", cubes))
     for seed in (1, 2, 3):
         yield 1, ("mode gen", f"gen --seed {seed}", "")
+    cubes = [(random_cube(draws, 13, 2), "11") for _ in range(300)]
+    yield 1, ("cubes that leave few points", "anf", description(13, 2, "f", cubes))
+    cubes = [(random_cube(draws, 14, 7), "".join(draws.choice("01") for _ in range(4))) for _ in range(90)]
+    yield 1, ("cubes of four outputs", "anf", description(14, 4, "f", cubes))
 
 
 def bases():
@@ -127,7 +131,7 @@ class Threads(Test):
         self.expect(small_files())
 
     def test_middle(self):
-        """On one of at most 2^16 slots they have two too, but for a single one, which has one."""
+        """On one of at most 2^17 slots they have two too, but for a single one, which has one."""
         self.expect(middle_files())
 
     def test_bases(self):

@@ -12,4 +12,4 @@ pub use crate::care::{care_points, care_sets, care_sets_from, ones, zeros};
 pub use crate::covers::{PointSet, cover, sets_of};
 pub use crate::cubes::cube;
 pub use crate::rows::row_cubes;
-pub use crate::tables::{Demand, MIDDLE_BITS, SMALL_BITS, next_bits};
+pub use crate::tables::{Demand, LIGHT_BITS, MIDDLE_BITS, SMALL_BITS, next_bits};

@@ -3,7 +3,7 @@
 ghost use Rattle.std.specs.Prelude.{◌≡◌, ◌⊎◌, ◌<◌, ◌≤◌};
 ghost use Rattle.lattice.specs.declared.limits.TheConstants.{MIN_BITS, MAX_BITS};
 ghost use Rattle.cube_build.specs.declared.tables.TheConstants.{MIDDLE_BITS, SMALL_BITS};
-ghost use Rattle.cube_build.specs.declared.tables.TheConstants.{TRIAL_BITS};
+ghost use Rattle.cube_build.specs.declared.tables.TheConstants.{TRIAL_BITS, LIGHT_BITS};
 
 use crate::guess::{Guess, guess_run};
 use pla_reader::Pla;
@@ -20,6 +20,10 @@ const TRIAL_BITS: u32 = 14;
 /// A table of 2^MIDDLE_BITS slots is made in less than a millisecond, and fits the memory of one
 /// processor. Filled in vain, it takes little time beside a run that needs a greater one.
 pub const MIDDLE_BITS: u32 = 16;
+
+/// A process with a table of 2^LIGHT_BITS slots takes less than three times the memory of one with
+/// the least table. So a run may begin with it, however few it needs.
+pub const LIGHT_BITS: u32 = 17;
 
 /// What is tried in vain on tables of 2^MANY_BITS slots still takes little beside a run that needs
 /// more than 2^MOST_AT_ONCE.
@@ -47,12 +51,24 @@ pub struct Demand<'a> {
 }
 
 impl Demand<'_> {
-    /// Whether all rows fit a small table with what is needed beside them: each may add a node for
-    /// each input to the cover of each output.
-    fn is_small(&self) -> bool {
+    /// The most nodes that the covers may have, and what is needed beside them: each row may add a
+    /// node for each input to the cover of each output.
+    fn count_most(&self) -> u64 {
         let pla = self.pla;
         let nodes = pla.rows.len() as u64 * (pla.inputs * pla.outputs) as u64;
-        nodes.saturating_add(self.besides) < 1 << SMALL_BITS
+        nodes.saturating_add(self.besides)
+    }
+
+    /// Whether all rows fit a small table with what is needed beside them.
+    fn is_small(&self) -> bool {
+        self.count_most() < 1 << SMALL_BITS
+    }
+
+    /// Whether the rows are few, but not small, and no bases are found: they fit an eighth of a
+    /// light table with what is needed beside them.
+    fn is_brief(&self) -> bool {
+        let most = self.count_most();
+        !self.is_basis && 1 << SMALL_BITS <= most && most <= 1 << (LIGHT_BITS - 3)
     }
 
     /// A guess at the nodes of the run.
@@ -66,7 +82,7 @@ impl Demand<'_> {
 
     /// The size of the tables that a run begins with whose last ones have 2^most slots: small ones
     /// where all rows fit them, and else those that suffice by a guess, or, where the guess may be
-    /// far too great, smaller ones that show that so many are needed.
+    /// far too great, light ones, or smaller ones that show that so many are needed.
     pub fn first_size(&self, most: u32) -> u32
         requires { MIN_BITS ≤ most }
         ensures within { (MIN_BITS ≤ result) × (result ≤ most) }
@@ -75,46 +91,50 @@ impl Demand<'_> {
         if self.is_small() {
             most.min(SMALL_BITS)
         } else {
-            first_guessed(self.guess(), most)
+            self.first_guessed(self.guess(), most)
+        }
+    }
+
+    /// The size of the tables that a guess begins with, where the last ones have 2^most slots: what
+    /// suffices by it, if it is sure, and else none that have more than four times the memory that
+    /// the run may need.
+    fn first_guessed(&self, guess: Guess, most: u32) -> u32
+        ensures most { result ≤ most }
+        ensures least { (TRIAL_BITS ≤ result) ⊎ (result ≡ most) }
+    {
+        let enough = size_for(guess.nodes, most);
+        if guess.is_sure {
+            enough
+        } else if self.is_brief() && is_light(guess.nodes) {
+            most.min(LIGHT_BITS)
+        } else if enough <= MIDDLE_BITS {
+            enough
+        } else if enough <= MANY_BITS {
+            TRIAL_BITS
+        } else {
+            MIDDLE_BITS
         }
     }
 
     /// The size of the tables that are tried after those of 2^bits slots, where the last ones have
-    /// 2^most: those that the guess begins with, then those that suffice by it, and else a step
-    /// more, or what a sure guess asks for where that is more than a step.
+    /// 2^most: those that the guess begins with, and else a step more, or what suffices by the
+    /// guess where that is more than a step.
     pub fn next_size(&self, bits: u32, most: u32) -> u32
         requires { (bits < most) × (most ≤ MAX_BITS) }
         ensures { (bits < result) × (result ≤ most) }
     {
         let guess = self.guess();
-        let first = first_guessed(guess, most);
-        let enough = size_for(guess.nodes, most);
+        let first = self.first_guessed(guess, most);
+        let enough = if guess.is_sure {
+            bits_of(guess.nodes)
+        } else {
+            size_for(guess.nodes, most)
+        };
         if bits < first {
             first
-        } else if bits < enough {
-            enough
-        } else if guess.is_sure {
-            (bits + NEAR_BITS).max(bits_of(guess.nodes)).min(most)
         } else {
-            (bits + NEAR_BITS).min(most)
+            (bits + NEAR_BITS).max(enough).min(most)
         }
-    }
-}
-
-/// The size of the tables that a guess begins with, where the last ones have 2^most slots: those
-/// that suffice by it, if it is sure, and else none that have more than four times the memory that
-/// the run may need.
-fn first_guessed(guess: Guess, most: u32) -> u32
-    ensures most { result ≤ most }
-    ensures least { (TRIAL_BITS ≤ result) ⊎ (result ≡ most) }
-{
-    let enough = size_for(guess.nodes, most);
-    if guess.is_sure || enough <= MIDDLE_BITS {
-        enough
-    } else if enough <= MANY_BITS {
-        TRIAL_BITS
-    } else {
-        MIDDLE_BITS
     }
 }
 
@@ -130,6 +150,12 @@ fn size_for(nodes: u64, most: u32) -> u32
     } else {
         most
     }
+}
+
+/// Whether so many nodes fit a light table, and take more than half of a middle one. A guess from
+/// few rows is too small as easily as too great.
+fn is_light(nodes: u64) -> bool {
+    1 << (MIDDLE_BITS - 1) < nodes && nodes <= 1 << LIGHT_BITS
 }
 
 /// The bits of the least table that suffices for so many nodes.
