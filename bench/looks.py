@@ -4,10 +4,11 @@
     looks.py [--program PATH] [FILE..]
 
 It makes the files (make_files.py), builds the plain program (plain.rs) by rustc, runs both programs on each file under
-callgrind, a tool of valgrind, and prints a table: the bits of a slot, how often the plain program looks for a kept
-result, the instructions of both whole runs in millions, those of the operations on diagrams alone by the number of
-looks, and how many times as many of these interp takes. Both programs have a table of the least of a few sizes that
-suffices for the plain one. Where rustc or valgrind is missing, nothing is measured.
+callgrind, a tool of valgrind, and prints a table: the bits of the tables' slots, how often each program looks for a
+kept result, the instructions of both whole runs in millions, those of the operations on diagrams alone by the number of
+its looks, and how many times as many of these interp takes. The last table of both programs has the least of a few
+sizes that suffices for the plain one. What interp looks for is counted by the plain program, on tables as interp tries
+them. Where rustc or valgrind is missing, nothing is measured.
 """
 
 import argparse
@@ -25,14 +26,16 @@ HERE = pathlib.Path(__file__).resolve().parent
 SOURCE = HERE / "plain.rs"
 TOOLS = ("rustc", "valgrind", "callgrind_annotate")
 
-# The files that are measured where none is named.
-NAMES = [
-    "points_20", "points_24", "multiplier_6", "redundant_28", "cubes_14", "majority_13", "points_14_basis",
-    "points_24_basis",
-]  # fmt: skip
+# The files that are measured where none is named, each with the sizes of the tables that interp fills in vain, in bits
+# of a slot.
+FILLED = {
+    "points_20": [], "points_24": [], "multiplier_6": [14], "redundant_28": [14], "cubes_14": [14], "majority_13": [],
+    "points_14_basis": [], "points_24_basis": [],
+}  # fmt: skip
 
 HEADS = [
-    "file", "mode", "bits", "looks", "interp, whole run", "plain, whole run", "interp, a look", "plain, a look", "ratio",
+    "file", "mode", "bits", "interp, looks", "plain, looks", "interp, whole run", "plain, whole run", "interp, a look",
+    "plain, a look", "ratio",
 ]  # fmt: skip
 
 # The sizes of table that are tried, in bits of a slot, and the status of the plain program where its table is full.
@@ -41,6 +44,9 @@ FULL = 3
 
 # A line of callgrind_annotate: the instructions of a function, and its name behind that of its file.
 LINE = re.compile(r"^ *([\d,]+)(?: \([ \d.]+%\))?  (?:[^\s:]*:)?(\S.*)$", re.M)
+# Lines of a profile: a function's number, with its name where it comes first; and how often one was called.
+NUMBER = re.compile(r"^c?fn=\((\d+)\) (.+)$", re.M)
+CALLS = re.compile(r"^cfn=\((\d+)\).*\ncalls=(\d+)", re.M)
 TOTAL = "PROGRAM TOTALS"
 # What works on diagrams in interp: the functions of these crates, and those of interp_run that some of them are inlined
 # in. Left out are how a table is made and how terms are counted and listed, as they are of the plain program.
@@ -49,7 +55,8 @@ CRATES = [
     "std_monomials", "cube_build", "fork_branches",
 ]  # fmt: skip
 INLINED = "interp_run::(solve::find_first|cover_jobs|tasks)"
-LEFT_OUT = "unique_table::pass::Shared::make|set_algebra::(counted|terms)::"
+TABLE_MADE = "unique_table::pass::Shared::make"
+LEFT_OUT = f"{TABLE_MADE}|set_algebra::(counted|terms)::"
 OPERATIONS = re.compile(f"(?!{LEFT_OUT})(({'|'.join(CRATES)})::|{INLINED})")
 # What works on diagrams in the plain program, with all that is called there.
 PHASES = re.compile(r"(\w+::)?(cares_of|polynomials_of|leads_of|elements_of)(?: \[|$)")
@@ -80,17 +87,26 @@ def counted(program, mode, file):
     return None
 
 
-def functions(words, file, options=()):
-    """(instructions, name) of each function that a run on a file calls, and of the whole run. A program may be a script
-    that another program takes the place of, in the same process; what else the script starts is no part of the run."""
+def profiled(words, file, options=()):
+    """(instructions, name) of each function that a run on a file calls, and of the whole run, and how many tables
+    interp makes. A program may be a script that another one takes the place of, in the same process; what else the
+    script starts is no part of the run."""
     with tempfile.TemporaryDirectory() as folder, open(file, "rb") as text:
         profiles = f"--callgrind-out-file={folder}/%p"
         valgrind = ["valgrind", "--tool=callgrind", "--trace-children=yes", profiles, *words]
         child = subprocess.Popen(valgrind, stdin=text, stdout=subprocess.DEVNULL, stderr=subprocess.DEVNULL)
         child.wait()
-        annotate = ["callgrind_annotate", "--threshold=100", "--auto=no", *options, f"{folder}/{child.pid}"]
+        profile = pathlib.Path(folder) / str(child.pid)
+        annotate = ["callgrind_annotate", "--threshold=100", "--auto=no", *options, profile]
         printed = subprocess.run(annotate, capture_output=True, text=True, check=True).stdout
-    return [(int(count.replace(",", "")), name) for count, name in LINE.findall(printed)]
+        tables = calls(profile.read_text(), TABLE_MADE)
+    return [(int(count.replace(",", "")), name) for count, name in LINE.findall(printed)], tables
+
+
+def calls(profile, name):
+    """How often the functions are called whose names begin so."""
+    numbers = {number for number, called in NUMBER.findall(profile) if called.startswith(name)}
+    return sum(int(count) for number, count in CALLS.findall(profile) if number in numbers)
 
 
 def sums(found, pattern):
@@ -100,7 +116,7 @@ def sums(found, pattern):
 
 
 def measured(name, folder, program, plain):
-    """Prints the line of a file, and answers whether both programs print the same where both have an answer."""
+    """Prints the line of a file, and answers the status of the measurement."""
     mode, make = make_files.FILES[name]
     path = folder / f"{name}.pla"
     path.write_text(make())
@@ -116,23 +132,30 @@ def measured(name, folder, program, plain):
     end = ended(words, path)
     if end.returncode:
         return no_answer(name, "interp")
-    counts = sums(functions(words, path), OPERATIONS)
-    plain_counts = sums(functions([plain[0], mode, bits], path, ["--inclusive=yes"]), PHASES)
-    print(f"| `{name}` | {mode} | {bits} | {cells(int(plain_end.stderr), counts, plain_counts)} |", flush=True)
-    return end.stdout == plain_end.stdout
+    filled = FILLED.get(name, [])
+    found, tables = profiled(words, path)
+    if tables != len(filled) + 1:
+        return run.tell([name], f"interp makes {tables} tables, and {len(filled)} are said to be filled in vain")
+    plain_looks = int(plain_end.stderr)
+    looks = plain_looks + sum(int(ended([plain[1], mode, str(table)], path).stderr) for table in filled)
+    plain_found, _ = profiled([plain[0], mode, bits], path, ["--inclusive=yes"])
+    counts = [(looks, *sums(found, OPERATIONS)), (plain_looks, *sums(plain_found, PHASES))]
+    print(f"| `{name}` | {mode} | {', '.join([*map(str, filled), bits])} | {cells(counts)} |", flush=True)
+    return run.tell([name] if end.stdout != plain_end.stdout else [], "what is printed differs")
 
 
 def no_answer(name, program):
-    """Says which program has no answer for a file, so that there is nothing that differs."""
+    """Says which program has no answer for a file, so that there is nothing to compare."""
     print(f"{name}: {program} has no answer", file=sys.stderr)
-    return True
+    return 0
 
 
-def cells(looks, counts, plain_counts):
-    """What a line has of the looks and of the instructions of both programs."""
-    whole = [f"{total / 1e6:.1f}" for total, _ in (counts, plain_counts)]
-    parts = [f"{spent / looks:.1f}" for _, spent in (counts, plain_counts)]
-    return " | ".join([f"{looks:,}", *whole, *parts, f"{counts[1] / plain_counts[1]:.2f}"])
+def cells(counts):
+    """What a line has of the looks of both programs, of their whole runs and of what they take for their looks."""
+    parts = [spent / looks for looks, _, spent in counts]
+    looks = [f"{looks:,}" for looks, _, _ in counts]
+    whole = [f"{total / 1e6:.1f}" for _, total, _ in counts]
+    return " | ".join([*looks, *whole, *(f"{part:.1f}" for part in parts), f"{parts[0] / parts[1]:.2f}"])
 
 
 def main():
@@ -148,9 +171,8 @@ def main():
         folder = pathlib.Path(folder)
         plain = build(folder)
         print(f"| {' | '.join(HEADS)} |\n|{'---|' * len(HEADS)}")
-        names = options.files or NAMES
-        differ = [name for name in names if not measured(name, folder, options.program, plain)]
-    return run.tell(differ, "what is printed differs")
+        names = options.files or FILLED
+        return max([measured(name, folder, options.program, plain) for name in names])
 
 
 if __name__ == "__main__":

@@ -9,7 +9,7 @@
 //! The table has 2^BITS slots, and the process ends with status 3 where they do not suffice. It has
 //! no limit on terms. It reads files as `make_files.py` writes them and tests nothing in them, but
 //! that no point is listed with both values, where it ends with status 1. Built with `--cfg count`,
-//! it prints on standard error how often it looked for a kept result.
+//! it prints on standard error, and nothing else, how often it looked for a kept result.
 
 use std::io::{Read, Write};
 use std::process::exit;
@@ -89,8 +89,12 @@ struct Place {
 
 #[cold]
 #[inline(never)]
-fn end_as_full() -> ! {
-    eprintln!("plain: no slot is left");
+fn end_as_full(looks: u64) -> ! {
+    if cfg!(count) {
+        eprintln!("{looks}");
+    } else {
+        eprintln!("plain: no slot is left");
+    }
     exit(FULL)
 }
 
@@ -179,7 +183,7 @@ impl Tables {
     fn count_node(&mut self) {
         self.used += 1;
         if self.used > self.mask {
-            end_as_full()
+            end_as_full(self.looks)
         }
     }
 
