@@ -131,7 +131,8 @@ class Threads(Test):
         self.expect(small_files())
 
     def test_middle(self):
-        """On one of at most 2^17 slots they have two too, but for a single one, which has one."""
+        """On one of at most 2^16 slots they have two too, but for a single one, which has one. One of 2^17 on which a run
+        begins is the same, where greater ones may follow."""
         self.expect(middle_files())
 
     def test_bases(self):

@@ -3,7 +3,7 @@ ghost use Rattle.std.specs.Prelude.{◌≤◌};
 ghost use Rattle.cli_words.specs.CommandLine.{IsWithin};
 
 use cli_words::Job;
-use cube_build::{LIGHT_BITS, SMALL_BITS};
+use cube_build::{LIGHT_BITS, MIDDLE_BITS, SMALL_BITS};
 use lattice::Mode;
 use pla_reader::Pla;
 
@@ -28,12 +28,17 @@ impl Workers {
     /// worker found on a table that fits the memory of its processor takes another one longer to
     /// fetch than to find, and the whole run takes little beside the start of a few threads. So on
     /// the others each list has one, but for the polynomials where they are the last list, which
-    /// have two at most, and for elements on tables that are not small. A light table may have all
-    /// that a run needs many times over: so it is none of the great ones.
+    /// have two at most, and for elements on tables that are not small. A light table is great if
+    /// it is the last one of the run, which else begins there however few nodes it needs.
     pub(crate) fn on(job: &Job, pla: &Pla, bits: u32) -> Workers
         requires { IsWithin job.now }
     {
-        if LIGHT_BITS < bits {
+        let great_bits = if job.nodes == LIGHT_BITS {
+            MIDDLE_BITS
+        } else {
+            LIGHT_BITS
+        };
+        if great_bits < bits {
             return Workers {
                 covers: job.workers,
                 first: job.workers,
