@@ -58,8 +58,8 @@ def middle_files():
     yield 1, ("cubes that outgrow a small table", "anf", description(24, 1, "f", cubes))
     for seed in (1, 2, 3):
         yield 1, ("mode gen", f"gen --seed {seed}", "")
-    cubes = [(random_cube(draws, 13, 2), "11") for _ in range(300)]
-    yield 1, ("cubes that leave few points", "anf", description(13, 2, "f", cubes))
+    cubes = [(random_cube(draws, 13, 2), "1111") for _ in range(150)]
+    yield 1, ("cubes that leave few points", "anf", description(13, 4, "f", cubes))
     cubes = [(random_cube(draws, 14, 7), "".join(draws.choice("01") for _ in range(4))) for _ in range(90)]
     yield 1, ("cubes of four outputs", "anf", description(14, 4, "f", cubes))
 
