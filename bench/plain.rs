@@ -9,7 +9,7 @@
 //! The table has 2^BITS slots, and the process ends with status 3 where they do not suffice. It has
 //! no limit on terms. It reads files as `make_files.py` writes them and tests nothing in them, but
 //! that no point is listed with both values, where it ends with status 1. Built with `--cfg count`,
-//! it prints on standard error, and nothing else, how often it looked for a kept result.
+//! it prints on standard error how often it looked for a kept result, also where its table is full.
 
 use std::io::{Read, Write};
 use std::process::exit;
