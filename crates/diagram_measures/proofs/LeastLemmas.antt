@@ -1,5 +1,5 @@
 -- The way down to the least member of a family: what is left below, and what the weights above it make of it.
-use Rattle.std.proofs.Common.{◌≡◌, ◌≢◌, ◌∙◌, ℕ, suc, ◌+◌, ◌-◌, ◌*◌, ◌%◌, ◌^◌, ◌<◌, ◌≤◌, Option, None, Some, option_map}
+use Rattle.std.proofs.Common.{◌≡◌, ◌≢◌, ◌∙◌, ℕ, suc, ◌+◌, ◌-◌, ◌*◌, ◌%◌, ◌^◌, ◌≤◌, Option, None, Some, option_map}
 use Rattle.std.proofs.Common.{[], ◌∷◌, ap, arith, refl, sym}
 use Rattle.std.proofs.Math.Pow.{pow_mono}
 use Rattle.lattice.specs.Words.{Family, join, level}

@@ -1,5 +1,5 @@
 -- Laws of what is measured, and of the least member.
-use Rattle.std.specs.Prelude.{◌≡◌, ◌≢◌, ℕ, ◌≤◌, true, count_ones, Option, None, Some, List, [], ◌↔◌, length}
+use Rattle.std.specs.Prelude.{◌≡◌, ◌≢◌, ℕ, ◌≤◌, true, count_ones, None, Some, List, [], ◌↔◌, length}
 use Rattle.std.specs.List.{All}
 use Rattle.lattice.specs.Family.{Family, Has, IsFamily, has, is_distinct}
 use Rattle.lattice.specs.Cofactors.{sub}

@@ -4,7 +4,7 @@ use Rattle.lattice.specs.Words.{Family, IsFamily, product_list, product_of, sum_
 use Rattle.node_store.specs.Stores.{State, family, IsSound, IsPlanned, Gives, Builds, needs_of}
 use Rattle.node_store.specs.declared.store.Handle.{Handle}
 use Rattle.node_store.specs.declared.store.Full.{Full}
-use Rattle.node_store.proofs.StoreLaws.{Grows-family, Grows-knows, known_after, one_family, Reads-refl}
+use Rattle.node_store.proofs.StoreLaws.{Grows-family, known_after, one_family, Reads-refl}
 use Rattle.set_algebra.proofs.Calls.{Calls, IsAtHand, after_built, built_planned, calls_start, call_failed, handle_end}
 use Rattle.bool_poly.proofs.OnesLemmas.{product_found}
 use Rattle.lattice.specs.declared.op.Op.TheVariants.{Product}

@@ -1,5 +1,5 @@
 -- The watchers that are left after several notes.
-use Rattle.std.proofs.Common.{◌≡◌, ◌<◌, ◌+◌, ◌-◌, ◌++◌, ◌∷◌, [], List, ℕ, append_assoc, append-nil, arith, length}
+use Rattle.std.proofs.Common.{◌≡◌, ◌<◌, ◌-◌, ◌++◌, ◌∷◌, [], List, ℕ, append_assoc, append-nil, arith, length}
 use Rattle.std.proofs.Common.{length-append, refl, subst, sym}
 use Rattle.std.specs.Prelude.{filter, nat_le}
 use Rattle.std.specs.List.{All}

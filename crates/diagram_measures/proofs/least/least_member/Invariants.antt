@@ -1,4 +1,3 @@
-use Rattle.std.proofs.Common.{◌≡◌}
 use Rattle.lattice.specs.Words.{level}
 use Rattle.node_store.specs.Stores.{family}
 use Rattle.diagram_measures.proofs.LeastLemmas.{Goes}

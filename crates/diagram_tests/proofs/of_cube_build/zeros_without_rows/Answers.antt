@@ -1,7 +1,5 @@
 use Rattle.lattice.specs.Words.{care_list}
 use Rattle.lattice.proofs.Diagrams.{covers_left}
-use Rattle.pla_reader.specs.Reading.{description}
-use Rattle.cube_build.specs.CarePoints.{points_list}
 use Rattle.diagram_tests.proofs.of_cube_build.zeros_without_rows.Goals as goal
 
 pub zeros-requires-clause-planned : goal.zeros-requires-clause-planned

@@ -1,4 +1,4 @@
-use Rattle.std.proofs.Common.{◌≡◌, ◌≢◌, ◌-◌, ◌≤◌, ℕ, arith}
+use Rattle.std.proofs.Common.{◌≢◌, ◌-◌, ◌≤◌, ℕ, arith}
 use Rattle.lattice.specs.Words.{power}
 use Rattle.lattice.proofs.Diagrams.{IsFamily-power, power-zero, power-some}
 use Rattle.lattice.proofs.Polynomials.{IsFamily_wider}

@@ -1,4 +1,4 @@
-use Rattle.std.proofs.Common.{◌≡◌, ◌-◌, ap}
+use Rattle.std.proofs.Common.{◌-◌, ap}
 use Rattle.node_store.proofs.StoreLaws.{MayHoldAny-later, Grows-trans}
 use Rattle.thread_tests.proofs.TestedStores.{over_later, constant_over, any_grown, over_grown}
 use Rattle.thread_tests.proofs.of_unique_table.+numbered.Goals as goal

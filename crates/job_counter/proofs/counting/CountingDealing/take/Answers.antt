@@ -1,7 +1,7 @@
 use Rattle.std.proofs.Common.{◌≡◌, ◌≤◌, ◌∙◌, ap, sym, arith, length}
 use Rattle.std.proofs.lemmas.List.Elements.{Contains-push}
 use Rattle.std.specs.List.{Contains}
-use Rattle.job_counter.specs.Drawing.{drawing, more_drawn, zeros}
+use Rattle.job_counter.specs.Drawing.{drawing, more_drawn}
 use Rattle.job_counter.specs.declared.counter.TheConstants.{ALL_PARTS}
 use Rattle.job_counter.proofs.Dealt.{drawn_below, taken_once, taken_all, zeros-injective}
 use Rattle.job_counter.proofs.counting.CountingDealing.take.Goals as goal

@@ -9,7 +9,7 @@ use Rattle.node_store.proofs.StoreLaws.{Builds-known, Builds-grown}
 use Rattle.node_store.proofs.PlainLemmas.{same_node, found_at, there, not_there, sound, over, push_grows, push_new, push_table}
 use Rattle.node_store.proofs.PlainLemmas.{refused_grows, refused_gives, refused_table, results_later}
 use Rattle.node_store.proofs.plain.PlainStoreStore.intern.Goals as goal
-use Rattle.node_store.proofs.plain.PlainStoreStore.intern.Goals.{In-Some, In_default, Then-slot-self, After-insert}
+use Rattle.node_store.proofs.plain.PlainStoreStore.intern.Goals.{After-insert}
 
 -- the node was found
 
