@@ -64,11 +64,11 @@ impl Demand<'_> {
         self.count_most() < 1 << SMALL_BITS
     }
 
-    /// Whether the rows are few, but not small, and no bases are found: they fit an eighth of a
-    /// light table with what is needed beside them.
-    fn is_brief(&self) -> bool {
+    /// Whether the rows are few, but not small: they fit an eighth of a light table with what is
+    /// needed beside them.
+    fn has_few_rows(&self) -> bool {
         let most = self.count_most();
-        !self.is_basis && 1 << SMALL_BITS <= most && most <= 1 << (LIGHT_BITS - 3)
+        1 << SMALL_BITS <= most && most <= 1 << (LIGHT_BITS - 3)
     }
 
     /// A guess at the nodes of the run.
@@ -105,7 +105,7 @@ impl Demand<'_> {
         let enough = size_for(guess.nodes, most);
         if guess.is_sure {
             enough
-        } else if self.is_brief() && is_light(guess.nodes) {
+        } else if !self.is_basis && self.has_few_rows() && is_light(guess.nodes) {
             most.min(LIGHT_BITS)
         } else if enough <= MIDDLE_BITS {
             enough
