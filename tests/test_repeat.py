@@ -1,9 +1,9 @@
 """The program prints the same run after run, with any number of workers, and where threads are refused.
 
 The jobs are drawn from a counter by interp, and taken from deques by steal, whose runs are the same as interp's. What
-is compared are the text, the lines of progress between its lines, and the status. On a table of at most 2^17 slots a
-run has few workers or none but the main thread; so there are files on larger tables too, made from a seed. How many
-threads start is counted, outside of the program.
+is compared are the text, the lines of progress between its lines, and the status. On a table of at most 2^16 slots, and
+on one of 2^17 that is not the last one, a run has few workers or none but the main thread; so there are files on larger
+tables too, made from a seed. How many threads start is counted, outside of the program.
 """
 
 import itertools

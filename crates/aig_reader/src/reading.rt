@@ -162,7 +162,8 @@ fn circuit_at(alloc: Global, bytes: &[u8]) -> Result<Aig, Stop>
 
 /// Reads the circuit that the bytes say, in the binary or the ASCII form.
 ///
-/// `Bad` has the first fault from the left, and how many bytes stand before it. In the ASCII form
+/// `Bad` has the first fault from the left, and how many bytes stand before it. In the binary form
+/// the number of variables is looked at once the sizes of the header are read. In the ASCII form
 /// the lines are gone through twice, and that a literal's variable is defined is seen the second
 /// time. Then, before the symbols are read, the gates are placed in the order of their lines, and
 /// before each one those that it stands on: the first that cannot be placed is refused.

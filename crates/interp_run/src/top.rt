@@ -181,9 +181,10 @@ impl<R: Threads + Sync, P: Pool> Program for Interp<'_, R, P> {
 }
 
 /// Does all that the program does, and answers its status. The job's number of workers solve the
-/// outputs, and on a table of at most 2^12 slots, also one that the words ask for, two of them at
-/// most; their branches enter the gate at their starts. The watchers are told of each output as
-/// soon as its text was written whole; those whose patience ends are dropped.
+/// outputs; on a table of at most 2^16 slots, and on one of 2^17 that is not the last one, one
+/// finds the covers and two at most the polynomials. Their branches enter the gate at their starts.
+/// The watchers are told of each output as soon as its text was written whole; those whose patience
+/// ends are dropped.
 pub fn run<R: Threads + Sync, S: Source, K: Sink, E: Sink, P: Pool>(
     rt: &R,
     alloc: Global,

@@ -8,12 +8,13 @@ use std::process::Abort;
 use std::test::Fail;
 use std::thread::Threads;
 
-// Rows over 20 inputs, two for each input but the first: where it is 1, the eight outputs have the
-// value of the first input. So many pairs of them meet that a run guesses that it needs more than
-// 2^16 slots, on which it has all its workers.
+// Rows over 20 inputs, two for each of 13 inputs behind the first: where it is 1, the eight outputs
+// have the value of the first input. So many pairs of them meet that a run guesses that it needs
+// more than 2^16 slots, and begins on a table of 2^17. Where this is the last one, the run has all
+// its workers there.
 fn meeting_rows(alloc: Global) -> Result<String, AllocError> {
     let mut text = String::from_str(alloc, ".i 20\n.o 8\n.type fr\n")?;
-    for place in 1..20 {
+    for place in 1..14 {
         for first in ["0", "1"] {
             text.push_str(first)?;
             for other in 1..20 {
@@ -33,10 +34,10 @@ fn any_number_of_workers(rt: HostRuntime) -> Result<(), Fail> {
     let alloc = rt.alloc();
     let meeting = meeting_rows(alloc)?;
     for line in [
-        "interp anf --workers 1",
-        "interp anf --workers 2",
-        "interp anf --workers 8",
-        "interp anf --workers 16",
+        "interp anf --nodes 17 --workers 1",
+        "interp anf --nodes 17 --workers 2",
+        "interp anf --nodes 17 --workers 8",
+        "interp anf --nodes 17 --workers 16",
     ] {
         answers(&rt, alloc, line, ADDER, SUMS)?;
         answers(
