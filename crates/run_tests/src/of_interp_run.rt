@@ -11,7 +11,7 @@ use fork_branches::Drawn;
 use interp_run::run;
 use lattice::Words;
 use outside::{MemSink, MemSource, Rendezvous};
-use std::alloc::Global;
+use std::alloc::{AllocError, Global};
 use std::process::Abort;
 use std::test::Fail;
 use std::thread::Threads;
@@ -26,6 +26,31 @@ pub(crate) const PAIR: &str = ".i 2\n.o 2\n.type fr\n11 1-\n00 00\n10 -1\n";
 
 // The answer of the full adder.
 pub(crate) const SUMS: &str = "s = a + b + cin\nc = a*b + a*cin + b*cin\n";
+
+// The answer of the rows that meet.
+pub(crate) const FIRST_INPUTS: &str =
+    "f1 = x1\nf2 = x1\nf3 = x1\nf4 = x1\nf5 = x1\nf6 = x1\nf7 = x1\nf8 = x1\n";
+
+// Rows over 20 inputs, two for each of 13 inputs behind the first: where it is 1, the eight outputs
+// have the value of the first input. So many pairs of them meet that a run guesses that it needs
+// more than 2^16 slots, and begins on a table of 2^17. Where this is the last one, the run has all
+// its workers there.
+pub(crate) fn meeting_rows(alloc: Global) -> Result<String, AllocError> {
+    let mut text = String::from_str(alloc, ".i 20\n.o 8\n.type fr\n")?;
+    for place in 1..14 {
+        for first in ["0", "1"] {
+            text.push_str(first)?;
+            for other in 1..20 {
+                text.push_str(if other == place { "1" } else { "-" })?;
+            }
+            for _ in 0..8 {
+                text.push_str(first)?;
+            }
+            text.push_str("\n")?;
+        }
+    }
+    Ok(text)
+}
 
 pub(crate) fn words_of(alloc: Global, line: &str) -> Result<Words, Fail> {
     let mut words = Words::new(alloc);

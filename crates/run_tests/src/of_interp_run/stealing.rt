@@ -1,4 +1,4 @@
-use super::{ADDER, SUMS, words_of};
+use super::{ADDER, FIRST_INPUTS, SUMS, meeting_rows, words_of};
 use interp_run::run;
 use outside::{MemSink, MemSource, Rendezvous};
 use std::test::Fail;
@@ -9,8 +9,14 @@ use steal_pool::Stealing;
 fn stolen_jobs(rt: HostRuntime) -> Result<(), Fail> {
     let alloc = rt.alloc();
     let generated = "points 256\nf1 8\nf2 7\n";
+    let meeting = meeting_rows(alloc)?;
     for (line, text, answer) in [
         ("steal anf --workers 8", ADDER, SUMS),
+        (
+            "steal anf --nodes 17 --workers 8",
+            meeting.as_str(),
+            FIRST_INPUTS,
+        ),
         ("steal gen --seed 0 --workers 1", "", generated),
         ("steal gen --seed 0 --workers 8", "", generated),
     ] {

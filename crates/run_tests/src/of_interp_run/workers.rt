@@ -1,33 +1,14 @@
-use crate::of_interp_run::{ADDER, NEVER, PAIR, SUMS, answers, check_at, words_of};
+use crate::of_interp_run::{
+    ADDER, FIRST_INPUTS, NEVER, PAIR, SUMS, answers, check_at, meeting_rows, words_of,
+};
 use fork_branches::{Deal, Drawn, Pool, Solved};
 use interp_run::run;
 use node_store::Handle;
 use outside::{MemSink, MemSource, Rendezvous};
-use std::alloc::{AllocError, Global};
+use std::alloc::Global;
 use std::process::Abort;
 use std::test::Fail;
 use std::thread::Threads;
-
-// Rows over 20 inputs, two for each of 13 inputs behind the first: where it is 1, the eight outputs
-// have the value of the first input. So many pairs of them meet that a run guesses that it needs
-// more than 2^16 slots, and begins on a table of 2^17. Where this is the last one, the run has all
-// its workers there.
-fn meeting_rows(alloc: Global) -> Result<String, AllocError> {
-    let mut text = String::from_str(alloc, ".i 20\n.o 8\n.type fr\n")?;
-    for place in 1..14 {
-        for first in ["0", "1"] {
-            text.push_str(first)?;
-            for other in 1..20 {
-                text.push_str(if other == place { "1" } else { "-" })?;
-            }
-            for _ in 0..8 {
-                text.push_str(first)?;
-            }
-            text.push_str("\n")?;
-        }
-    }
-    Ok(text)
-}
 
 #[test]
 fn any_number_of_workers(rt: HostRuntime) -> Result<(), Fail> {
@@ -40,13 +21,7 @@ fn any_number_of_workers(rt: HostRuntime) -> Result<(), Fail> {
         "interp anf --nodes 17 --workers 16",
     ] {
         answers(&rt, alloc, line, ADDER, SUMS)?;
-        answers(
-            &rt,
-            alloc,
-            line,
-            meeting.as_str(),
-            "f1 = x1\nf2 = x1\nf3 = x1\nf4 = x1\nf5 = x1\nf6 = x1\nf7 = x1\nf8 = x1\n",
-        )?;
+        answers(&rt, alloc, line, meeting.as_str(), FIRST_INPUTS)?;
     }
     Ok(())
 }
