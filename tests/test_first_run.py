@@ -23,11 +23,13 @@ USAGE = {
     "interp": "interp: usage: interp MODE [--workers N] [--nodes B] [--terms T] [--seed S] [--order NAMES]\n",
     "nfq": "nfq: usage: nfq reduce|union|meet\n",
     "circuit": "circuit: usage: circuit anf|basis|count|equal [--nodes B] [--terms T] [--order NAMES] [--care NAME] [--invert NAMES]\n",
+    "batch": "batch: usage: batch anf|basis [--workers N] [--nodes B] [--terms T] [--order NAMES]\n",
 }
 ADVICE = {
     "interp": "interp reads standard input: interp anf < file.pla\n",
     "nfq": "nfq reads standard input: nfq reduce < file.pla\n",
     "circuit": "circuit reads standard input: circuit anf < file.aag\n",
+    "batch": "batch reads standard input: batch anf < file.pla\n",
 }
 # What steal says is what interp does.
 for said in (USAGE, ADVICE):
@@ -50,6 +52,7 @@ REFUSED = [
     ("nfq", ["reduce", "file.pla"]),
     ("circuit", ["--help"]),
     ("circuit", ["check"]),
+    ("batch", ["check"]),
     ("steal", ["--help"]),
     ("steal", ["anf", "file.pla"]),
 ]
@@ -64,7 +67,7 @@ TAKEN = [
     ("circuit", ["count", "--care", "f"]),
     ("steal", ["--nodes", "5", "basis"]),
 ]
-CRATES = {"interp": "interp_main", "nfq": "nf_query", "circuit": "circuit_main", "steal": "steal_main"}
+CRATES = {"interp": "interp_main", "nfq": "nf_query", "circuit": "circuit_main", "batch": "batch_main", "steal": "steal_main"}
 
 # It plays the command rt in the current folder, a crate: `rt lib` makes its library, and `rt run` its program, which
 # prints its words, where it is not there or other sources were. That takes a while, and in the middle of it half of the
@@ -191,9 +194,10 @@ class FirstRun(Test):
 
     def test_each_mode_is_known(self):
         of_interp = re.search(r"(?m)^\| MODE \| (.*?) \|", (TOP / "README.md").read_text())[1]
-        for name, modes in (("interp", of_interp), ("nfq", USAGE["nfq"].split()[-1])):
+        for name in USAGE:
+            modes = of_interp if name in ("interp", "steal") else USAGE[name].split()[3]
             with self.case(name):
-                known = re.search(rf"tools/run_proved\" {name} \w+ '([a-z ]+)'", (TOP / name).read_text())[1]
+                known = re.search(r"tools/run_proved\" \w+ \w+ '([a-z ]+)'", (TOP / name).read_text())[1]
                 self.assertEqual(known.split(), re.findall(r"\w+", modes))
 
     def test_other_words_reach_the_program(self):
@@ -290,6 +294,23 @@ class FirstRun(Test):
         self.assertEqual((pieces[0], pieces[-1]), ("", ""))
         self.assertTrue(all(it.startswith("interp: ") and len(it) < 80 for it in pieces[1:-1]), pieces)
         self.assertLess(10, len(pieces))
+
+    def test_batch_tells_a_terminal_how_many_files_there_are(self):
+        """The text and the status are those of the program; where the last of the text cannot be written it is 9."""
+        checkout = self.checkout(seconds=0)
+        checkout.run("batch", "anf")
+        blocks = "".join(f"file {number} 0\nf1 = x2\n" for number in range(1, 1001))
+        for status, out, wanted in ((0, None, 0), (7, None, 7), (0, "/dev/full", 9)):
+            with self.case((status, out)), open(out or os.devnull, "wb") as sink:
+                text = f"#!{sys.executable} -IS\nimport sys\nprint({blocks!r}, end='')\nsys.exit({status})\n"
+                checkout.program("batch").write_text(text)
+                master, slave = pty.openpty()
+                ended = checkout.run("batch", "anf", stderr=slave, **({"stdout": sink} if out else {}))
+                os.close(slave)
+                said = os.read(master, 1 << 16).decode()
+                os.close(master)
+                self.assertEqual((ended.status, ended.out), (wanted, "" if out else blocks))
+                self.assertIn("batch: write fault\r\n" if out else "batch: 1000 files\r\n", said)
 
     def test_two_at_once(self):
         for names in (("interp", "interp"), ("interp", "nfq")):

@@ -365,6 +365,18 @@ class Remedies(Solving):
         masks = solving.masks_of(expected, ranks)
         self.assertEqual(solving.masks_of(ended.stdout.partition(" = ")[2].strip(), ranks), sorted(masks, reverse=True))
 
+    def test_another_order_than_the_asked_one(self):
+        """The terms of several outputs are sorted back to the order that is asked for."""
+        rows = []
+        for chosen in range(4):
+            data = "".join("1" if place == chosen else "-" for place in range(4))
+            rows += [f"{chosen:02b}{data} 10", f"{chosen:02b}{data[::-1]} 01"]
+        text = "\n".join([".i 6", ".o 2", ".type f", *rows, ".e", ""])
+        order = "x6,x5,x4,x3,x2,x1"
+        whole = self.run_words([program("interp"), "anf", "--order", order], input=text.encode()).stdout.decode()
+        ended = self.solve(text, "--jobs", "1", "--nodes", "7", "--order", order)
+        self.expect(ended, 0, whole, "another order: reversed")
+
     def test_parts(self):
         """A parity of 16 inputs has 32,768 rows, and no two of them can be made one."""
         rows = "".join(f"{k:016b} 1\n" for k in range(1 << 16) if bin(k).count("1") % 2)

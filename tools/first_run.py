@@ -303,8 +303,13 @@ def main(words):
         say("the program is not built yet, and the command rt is missing, which proves and builds it:")
         say("rt is in the folder bin of the toolchain's kit (README.md, First run); add that folder to PATH")
         return FAILED
-    os.makedirs(f"{TOP}/out", exist_ok=True)
-    with open(f"{TOP}/out/first_run.lock", "w") as lock:
+    try:
+        os.makedirs(f"{TOP}/out", exist_ok=True)
+        lock = open(f"{TOP}/out/first_run.lock", "w")
+    except OSError as why:
+        say(f"the program could not be proved and built: {why}")
+        return FAILED
+    with lock:
         try:
             fcntl.flock(lock, fcntl.LOCK_EX | fcntl.LOCK_NB)
         except BlockingIOError:

@@ -1,5 +1,6 @@
 """Finding and running the proved programs, interp and nfq."""
 
+import functools
 import os
 import pathlib
 import re
@@ -100,11 +101,11 @@ def find(name):
     return found
 
 
+@functools.cache
 def build(name, script):
-    """Has the script of a program prove and build it where this was not done yet. It says on standard error how far it
-    is, which takes minutes."""
-    crate = re.search(rf'/run_proved" {name} (\w+) ', script.read_text())
-    if crate is None or (script.parent / "crates" / crate[1] / "out" / crate[1]).is_file():
+    """Has the script of a program prove and build it, once, where this was not done yet or its sources are newer. It says
+    on standard error how far it is, which takes minutes."""
+    if not re.search(rf'/run_proved" {name} \w+ ', script.read_text()):
         return
     word, data = TRIALS[name]
     if subprocess.run([script, word], input=data, stdout=subprocess.DEVNULL, check=False).returncode:

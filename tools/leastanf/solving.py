@@ -329,6 +329,7 @@ class _Solving:
             return self.read_plain(run), []
         if run.status not in (TooManyNodes.status, TooManyTerms.status, OutOfMemory.status, programs.TIMED_OUT):
             raise self.told_failure(run)
+        self.refuse_contradictions(outputs)
         self.deadline = time.monotonic() + self.settings.seconds
         if len(outputs) > 1:
             grouped = self.solve_group_by_another_order(outputs) if run.status == TooManyNodes.status else None
@@ -515,7 +516,8 @@ class _Solving:
     def read_outputs(self, run, outputs, order):
         """The outputs of a run on a problem by an order of some inputs."""
         bits = self.bits_of(order)
-        same = list(bits) == [self.names[place] for place in order]
+        in_order = list(bits.values()) == sorted(bits.values(), reverse=True)
+        same = in_order and list(bits) == [self.names[place] for place in order]
         write = Monomials([self.names[place] for place in self.order])
         found = []
         for place, lines in zip(outputs, answer_lines(run, descriptions.numbered_names("f", len(outputs)))):

@@ -78,12 +78,13 @@ def parse(text, description, names):
         if left in lefts and not is_polynomial and claims[place].has_list:
             raise TranscriptError(line, "the output has a list of elements already")
         current = place
-        polynomials = [_parse(line, piece, names) for piece in pieces(right)]
+        parts = [right] if is_whole(part) else pieces(right)
+        polynomials = [_parse(line, piece, names) for piece in parts]
         if is_polynomial:
             _set_polynomial(claims[place], line, polynomials)
         else:
-            parts = [entry for entry in zip(pieces(right), polynomials) if left == "0" or not _NONE.fullmatch(entry[0])]
-            _add_elements(claims[place], line, parts)
+            elements = [entry for entry in zip(parts, polynomials) if left == "0" or not _NONE.fullmatch(entry[0])]
+            _add_elements(claims[place], line, elements, factors)
     return claims
 
 
@@ -101,10 +102,10 @@ def _set_polynomial(claim, line, polynomials):
     claim.polynomial, claim.line = polynomials[0], line
 
 
-def _add_elements(claim, line, elements):
+def _add_elements(claim, line, elements, factors):
     claim.has_list = True
     for text, element in elements:
-        if re.fullmatch(r"\s*[0-9]+\s*", text) and text.strip() not in ("0", "1"):
+        if re.fullmatch(r"\s*[0-9]+\s*", text) and text.strip() not in factors:
             raise TranscriptError(line, "a number alone: write powers on the line, as toString does in Macaulay2")
         if element or not _POWER.search(text):
             claim.elements.append(element)

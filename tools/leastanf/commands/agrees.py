@@ -94,7 +94,7 @@ def main(line):
     options = read_words(line)
     if options is None:
         return 0
-    description = descriptions.read(options.file)
+    description = words.description(NAME, options.file)
     try:
         order = words.order(description, options.order)
         description = words.chosen(description, options.outputs)

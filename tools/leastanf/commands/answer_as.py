@@ -73,7 +73,9 @@ def read_answer(description, options):
     aliases = dict(zip(description.input_names, description.shown_input_names))
     if options.ideal:
         return answers.parse_ideal(words.standard_input(), inputs, aliases, ordered=True)
-    aliases.update(zip(description.output_names, outputs))
+    # (an output may have the name by which the program prints an input)
+    named = zip(description.output_names, outputs)
+    aliases.update((printed, shown) for printed, shown in named if printed != shown)
     outputs = words.chosen(description, options.outputs).shown_output_names
     return answers.parse(words.standard_input(), inputs, outputs, aliases, ordered=True, whole=not options.queries)
 
@@ -86,7 +88,7 @@ def main(line):
     options = read_words(line)
     if options is None:
         return 0
-    description = descriptions.read(options.file)
+    description = words.description(NAME, options.file)
     try:
         answer = read_answer(description, options)
         sys.stdout.writelines(f"{text}\n" for text in FORMATS[options.format].write(answer))

@@ -154,7 +154,7 @@ def main(line):
     options = read_words(line)
     if options is None:
         return 0
-    description = descriptions.read(options.file)
+    description = words.description(NAME, options.file)
     try:
         order = words.order(description, options.order) or list(range(description.inputs))
         if options.mode == "reduce":

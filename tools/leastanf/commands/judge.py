@@ -79,7 +79,7 @@ def main(line):
     options = read_words(line)
     if options is None:
         return 0
-    description = descriptions.read(options.file)
+    description = words.description(NAME, options.file)
     try:
         order, flips = words.order(description, options.order), words.flips(description, options.polarity)
         claims, with_bases = read_claims(description, options, queries.Names(description, order, flips))

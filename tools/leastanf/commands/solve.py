@@ -144,9 +144,13 @@ def read_words(line):
     if options.language is not None and options.language not in FORMATS:
         parser.error(f"--as takes one of {', '.join(FORMATS)}")
     if options.folder is not None:
-        targets = [target(path, options) for path in options.files]
+        targets = [target(path, options).resolve() for path in options.files]
+        if options.text:
+            parser.error("--text goes without -o")
         if len(set(targets)) < len(targets):
             parser.error("two of the files would have their answer in one file")
+        if set(targets) & {pathlib.Path(path).resolve() for path in options.files}:
+            parser.error("an answer would be written over one of the files")
     return options
 
 
@@ -158,7 +162,7 @@ def target(path, options):
 
 def solve_file(path, options, progress):
     """Solves a file, and gives the status."""
-    description = descriptions.read(path)
+    description = words.description(NAME, path)
     tell_of_file(description)
     part = words.chosen(description, options.outputs)
     settings = solving.Settings(
@@ -211,9 +215,7 @@ def smaller(description):
 
 
 def tell_of_file(description):
-    """Says which forms were brought into shape, and what may be meant otherwise."""
-    for form, line in description.forms.items():
-        say(NAME, f"{description.path}{'' if line is None else f':{line}'}: {FORMS[form]}")
+    """Says what may be meant otherwise."""
     for text in description.warnings:
         say(NAME, text)
     points = all("-" not in row.inputs and "2" not in row.inputs for row in description.rows)
@@ -271,11 +273,13 @@ def repeating(path, part, options, choice):
     run = " ".join(map(shlex.quote, words))
     by_text = [NAME, "--text"]
     if choice.flips:
-        by_text += ["--polarity", ",".join(part.shown_input_names[place] for place in choice.flips)]
+        by_text.append(f"--polarity={','.join(part.shown_input_names[place] for place in choice.flips)}")
     if options.outputs is not None or len(choice.outputs) < part.outputs:
-        by_text += ["--outputs", ",".join(part.shown_output_names[place] for place in choice.outputs)]
+        by_text.append(f"--outputs={','.join(part.shown_output_names[place] for place in choice.outputs)}")
     if len(by_text) == 2 and not part.forms:
-        return f"{run} < {shlex.quote(path)}"
+        return run if path == "-" else f"{run} < {shlex.quote(path)}"
+    if path.startswith("-") and path != "-":
+        by_text.append("--")
     return f"{' '.join(map(shlex.quote, [*by_text, path]))} | {run}"
 
 

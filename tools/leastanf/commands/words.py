@@ -79,6 +79,14 @@ class Parser(argparse.ArgumentParser):
         raise SystemExit(WORDS)
 
 
+def description(name, path):
+    """The description in a file, for a command of this name, which tells the forms that were brought into shape."""
+    found = descriptions.read(path)
+    for form, line in found.forms.items():
+        say(name, f"{found.path}{'' if line is None else f':{line}'}: {descriptions.FORMS[form]}")
+    return found
+
+
 def standard_input():
     """The text on standard input."""
     return descriptions.read_bytes("-").decode("utf-8", "replace")

@@ -95,6 +95,8 @@ def python(answer):
     for _, polynomial in named:
         steps.add(polynomial)
     nodes, roots = steps.write()
+    keys = naming.distinct([name for name, _ in named], lambda name: True, str)
+    yield from naming.comments("#", [name for name, _ in named], keys)
     yield f"INPUTS = {list(answer.inputs)!r}"
     yield ""
     yield ""
@@ -103,8 +105,8 @@ def python(answer):
     for name, text in nodes:
         yield f"    {name} = {text}"
     yield "    return {"
-    for (name, _), text in zip(named, roots):
-        yield f"        {name!r}: {text},"
+    for key, text in zip(keys, roots):
+        yield f"        {key!r}: {text},"
     yield "    }"
 
 
