@@ -284,6 +284,17 @@ class AnswerAs(Test):
                 self.assertEqual(ended.status, 0, ended)
                 self.assertIn('"polynomial": [["a-b", "c/d"]]', ended.out)
 
+    def test_outputs_named_as_inputs_are_printed(self):
+        """A factor is an input, though an output has the name by which the program prints it."""
+        file = self.here / "f.pla"
+        rows = [("11", "10"), ("-1", "01")]
+        file.write_text(description(2, 2, "f", rows, names=["a-b", "c"], results=["x2", "f"]))
+        printed = run([program("interp"), "anf"], file.read_bytes()).out
+        self.assertEqual(printed, "x2 = x1*x2\nf = x2\n")
+        ended = self.answer_as(["json", file], printed)
+        self.assertEqual(ended.status, 0, ended)
+        self.assertIn('"polynomial": [["a-b", "c"]]', ended.out)
+
     def test_statuses(self):
         file = EXAMPLES / "full_adder.pla"
         (self.here / "bad.pla").write_text(".i 2\n")

@@ -43,6 +43,7 @@ REFUSED = [
     ("interp", ["solve"]),
     ("interp", ["file.pla"]),
     ("interp", ["anf", "file.pla"]),
+    ("interp", ["anf", "values.pla"]),
     ("interp", ["file.pla", "anf"]),
     ("interp", ["--nodes", "anf"]),
     ("interp", ["anf", "anf"]),
@@ -215,6 +216,26 @@ class FirstRun(Test):
         self.assertIn("interp: the program is not built yet, and the command rt is missing", ended.err)
         self.assertIn("the toolchain's kit", ended.err)
         self.assertEqual(checkout.run("interp", "--help").status, 2)
+
+    def test_a_folder_that_cannot_be_made(self):
+        checkout = self.checkout()
+        (checkout.top / "out").touch()
+        ended = checkout.run("interp", "anf")
+        self.assertEqual((ended.status, ended.out), (70, ""))
+        self.assertRegex(ended.err, r"\Ainterp: the program could not be proved and built: .*File exists: .*/out'\n\Z")
+
+    def test_a_terminal_is_told_that_it_is_read(self):
+        """How the input is ended is told where it comes from a terminal, and not in mode gen, which reads nothing."""
+        checkout = self.checkout(seconds=0)
+        told = "interp: reading the file from the terminal; end it with the end of the input (Ctrl-D)\n"
+        master, slave = pty.openpty()
+        self.addCleanup(os.close, master)
+        self.addCleanup(os.close, slave)
+        checkout.run("interp", "anf")
+        for words, said in ((["anf"], told), (["--order", "gen", "check"], told), (["gen"], ""), (["--", "gen"], "")):
+            with self.case(words):
+                ended = checkout.run("interp", *words, stdin=slave)
+                self.assertEqual((ended.status, ended.out, ended.err), (0, f"built: {' '.join(words)}\n", said))
 
     def test_the_program_ends_by_a_closed_pipe(self):
         checkout = self.checkout(seconds=0)
@@ -401,6 +422,23 @@ class FirstRun(Test):
             one.communicate()
             self.assertEqual(self.made_by(checkout, lambda: None), (True, ["lattice"]))
             self.assertIn("// third", (checkout.top / "crates/lattice/out/rlib/stamp").read_text())
+
+    def test_solve_shows_how_a_program_is_built(self):
+        """Where sources are newer than the program it is told how far this is, once."""
+        checkout = self.checkout(seconds=0)
+        checkout.env.pop("INTERP", None)
+        file = checkout.folder / "f.pla"
+        file.write_text(".i 2\n.o 1\n.type f\n11 1\n")
+        checkout.run("interp", "anf")
+        # (where the sources have the same text as before it is kept as it is)
+        checkout.program("interp").write_text("#!/bin/sh\ncat > /dev/null\necho 'f1 = x1*x2'\n")
+        for said in (r"interp: proving and building the program first(.*\n)+.*now interp_main\n", ""):
+            if said:
+                os.utime(checkout.program("interp"), (0, 0))
+            with self.case(said):
+                ended = run([checkout.top / "tools/solve", file], env=checkout.env)
+                self.assertEqual((ended.status, ended.out), (0, "f1 = x1*x2\n"), ended.err)
+                self.assertRegex(ended.err, rf"\A{said}\Z")
 
 
 if __name__ == "__main__":

@@ -531,6 +531,20 @@ class Transcripts(Test):
                 claim = self.claims(f"f = b + {name}\n0 = b*{name}\n0 = {name}\n", file)[0]
                 self.assertEqual((claim.polynomial, claim.elements), ({2, 1}, [{3}, {1}]))
 
+    def test_names_in_brackets_and_of_digits(self):
+        """What solve prints is read by its names, whatever stands for a list or a number elsewhere."""
+        cases = [
+            (["{a}", "a"], "s = 1\n0 = {a}\n", {0}, [{2}]),
+            (["[0]"], "s = [0]\n", {1}, []),
+            (["2", "3"], "s = 2*3\n0 = 2\n0 = 3 + 1\n", {3}, [{2}, {1, 0}]),
+        ]
+        file = self.here / "f.pla"
+        for names, text, polynomial, elements in cases:
+            file.write_text(description(len(names), 1, "f", [("1" * len(names), "1")], names=names, results=["s"]))
+            with self.case(names):
+                claim = self.claims(text, file)[0]
+                self.assertEqual((claim.polynomial, claim.elements), (polynomial, elements))
+
     def judged(self, text):
         ended = run([*JUDGE, self.file], text)
         self.assertEqual((ended.status, ended.out), (0, "graph: yes\n"), ended)

@@ -183,7 +183,7 @@ class Messages(Solving):
     def test_words(self):
         words = """--nodes 3|--nodes 24|--terms x|--workers 17|--seconds 0|--foo|--node 5|--order|--as pascal
 --nodes 99|--nodes 9 --nodes 9|--order b,a --order=a,b|--text --order b,a|--text --as json|--text --polarity auto
---terms 1_0|--terms \u0661|-o a ../f.pla"""
+--terms 1_0|--terms \u0661|-o a ../f.pla|--text -o a"""
         for options in words.replace("\n", "|").split("|"):
             with self.case(options):
                 ended = self.solve(XOR, *options.split())
@@ -201,6 +201,14 @@ class Messages(Solving):
             rows = "".join(f"{point:014b} 1\n" for point in range(8193))
             ended = self.solve(f".i 14\n.o 2\n.type fr\n{rows}".replace(" 1\n", " 11\n") + "0" * 14 + " 10\n")
             self.expect(ended, 4, "", "output f2 is 1 by line 4 (00000000000000) and 0 by line 8197 (00000000000000)")
+        with self.case("4, where the run on the file has no answer"):
+            text = ".i 2\n.o 1\n.type fr\n0- 1\n00 0\n10 0\n"
+            real = shlex.quote(self.environment["INTERP"])
+            for first in ("sleep 20", "echo 'interp: out of memory' >&2; exit 7"):
+                (self.here / "begun").unlink(missing_ok=True)
+                script = f"[ -e begun ] && exec {real} \"$@\"; touch begun; {first}"
+                ended = self.solve(text, "--seconds", "1", program=script)
+                self.expect(ended, 4, "", "is 1 by line 4 (0-) and 0 by line 5 (00)")
         with self.case(5):
             text = scattered(14, 60)
             self.expect(self.solve(text, "--nodes", "4"), 5, "", "more than 16 nodes are needed", "--order auto")
@@ -481,8 +489,8 @@ class Remedies(Solving):
 class OnRequest(Solving):
     """Orders and polarities that change the answer."""
 
-    def repeated(self, ended):
-        """What the lines print that repeat the run by the program alone."""
+    def repeated(self, ended, text=""):
+        """What the lines print that repeat the run by the program alone, where a text is the standard input."""
         lines = re.findall(r"the same[^:]* by the program alone: (.*)", ended.stderr)
         self.assertTrue(lines, ended.stderr)
         names = self.here / "bin"
@@ -491,7 +499,7 @@ class OnRequest(Solving):
             if not (names / name).exists():
                 (names / name).symlink_to(target)
         environment = {**self.environment, "PATH": f"{names}:{os.environ['PATH']}"}
-        how = {"cwd": self.here, "env": environment, "capture_output": True, "text": True, "check": True}
+        how = {"cwd": self.here, "env": environment, "capture_output": True, "text": True, "check": True, "input": text}
         return "".join(subprocess.run(["bash", "-c", line], **how).stdout for line in lines)
 
     def test_order(self):
@@ -577,6 +585,18 @@ class OnRequest(Solving):
                 self.assertIn("--order", ended.stderr)
                 self.assertEqual(self.repeated(ended), ended.stdout.replace(name, "x" if "-" in name else name))
 
+    def test_lines_of_other_names(self):
+        """The lines run where the file is standard input, and where it or a name in it begins like an option."""
+        text = SMALL.replace("a b c", "-a b c").replace(".ob f", ".ob -f")
+        for path in ("-", "-f.pla", "f.pla"):
+            (self.here / path).write_text(text)
+            for more in (["--order=auto"], ["--polarity=-a"], ["--polarity=-a", "--outputs=-f"]):
+                with self.case((path, more)):
+                    ended = self.run_words([*SOLVE, *more, "--", path], input=text, text=True)
+                    self.assertEqual(ended.returncode, 0, ended.stderr)
+                    plain = ended.stdout.replace("~", "").replace("-a", "x1").replace("b", "x2").replace("c", "x3")
+                    self.assertEqual(self.repeated(ended, text), plain.replace("-f", "f1"))
+
     def test_both(self):
         ended = self.solve((TOP / "examples/seven_segments.pla").read_text(), "--order", "each", "--polarity", "each")
         self.assertEqual(ended.returncode, 0, ended.stderr)
@@ -660,6 +680,15 @@ class Files(Solving):
         self.assertEqual((self.here / "answers/g.anf").read_text(), f"f = {self.small()}\n")
         ended = self.solve(XOR, "-o", "f.pla/answers")
         self.assertEqual(ended.returncode, 9)
+
+    def test_no_file_is_written_over(self):
+        """No answer takes the place of a file that is read, by whatever path it has."""
+        (self.here / "g.anf").write_text(XOR)
+        (self.here / "link").symlink_to(".")
+        for folder in (".", "link", str(self.here)):
+            with self.case(folder):
+                self.expect(self.solve(XOR, "g.anf", "-o", folder), 2, "", "would be written over one of the files")
+                self.assertEqual((self.here / "g.anf").read_text(), XOR)
 
     def small(self):
         run = subprocess.run([program("interp"), "anf"], input=SMALL.encode(), capture_output=True, check=True)

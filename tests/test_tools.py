@@ -293,6 +293,21 @@ class Words(Folder):
                 self.expect_message(self.call(name, []), name, 2, "--help has the form")
 
 
+class Forms(Folder):
+    """Forms of files that the programs refuse."""
+
+    def test_told(self):
+        """Each command that reads a description tells which form it brought into shape, and where."""
+        text = file_of("solve").replace("\n0000 1\n", "\n0000\n1\n")
+        line = text[: text.index("\n0000\n1\n")].count("\n") + 2
+        (self.here / "f.pla").write_text(text)
+        for name in sorted(set(NAMED) - {"describe"}):
+            with self.case(name):
+                ended = self.call(name, [word.format("f.pla") for word in NAMED[name]], READING[name][1])
+                wanted = f"{name}: f.pla:{line}: {descriptions.FORMS['row over lines']}\n"
+                self.assertEqual((ended.status, ended.err), (0, wanted))
+
+
 class Oldest(Folder):
     """The oldest Python that the tools take, where it is installed."""
 
