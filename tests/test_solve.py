@@ -201,10 +201,10 @@ class Messages(Solving):
             rows = "".join(f"{point:014b} 1\n" for point in range(8193))
             ended = self.solve(f".i 14\n.o 2\n.type fr\n{rows}".replace(" 1\n", " 11\n") + "0" * 14 + " 10\n")
             self.expect(ended, 4, "", "output f2 is 1 by line 4 (00000000000000) and 0 by line 8197 (00000000000000)")
-        with self.case("4, where the run on the file has no answer"):
-            text = ".i 2\n.o 1\n.type fr\n0- 1\n00 0\n10 0\n"
-            real = shlex.quote(self.environment["INTERP"])
-            for first in ("sleep 20", "echo 'interp: out of memory' >&2; exit 7"):
+        text = ".i 2\n.o 1\n.type fr\n0- 1\n00 0\n10 0\n"
+        real = shlex.quote(self.environment["INTERP"])
+        for first in ("sleep 20", "echo 'interp: out of memory' >&2; exit 7"):
+            with self.case(f"4, where the run on the file has no answer: {first}"):
                 (self.here / "begun").unlink(missing_ok=True)
                 script = f"[ -e begun ] && exec {real} \"$@\"; touch begun; {first}"
                 ended = self.solve(text, "--seconds", "1", program=script)
