@@ -589,8 +589,9 @@ class OnRequest(Solving):
         """The lines run where the file is standard input, and where it or a name in it begins like an option."""
         text = SMALL.replace("a b c", "-a b c").replace(".ob f", ".ob -f")
         for path in ("-", "-f.pla", "f.pla"):
-            (self.here / path).write_text(text)
-            for more in (["--order=auto"], ["--polarity=-a"], ["--polarity=-a", "--outputs=-f"]):
+            if path != "-":
+                (self.here / path).write_text(text)
+            for more in (["--order=auto"], ["--polarity=b"], ["--polarity=-a"], ["--outputs=-f", "--polarity=b"]):
                 with self.case((path, more)):
                     ended = self.run_words([*SOLVE, *more, "--", path], input=text, text=True)
                     self.assertEqual(ended.returncode, 0, ended.stderr)
