@@ -23,7 +23,6 @@ from collections import defaultdict
 import run
 from random_files import random_files
 
-HERE = pathlib.Path(__file__).resolve().parent
 # Times of what the other program takes, and how many more runs there are where these are passed.
 MOST = 1.05
 MORE_RUNS = 12
@@ -61,8 +60,8 @@ def is_slower(least):
 
 def main():
     parser = argparse.ArgumentParser()
-    parser.add_argument("other")
-    parser.add_argument("--program", default=str(HERE.parent / "interp"))
+    parser.add_argument("other", type=run.program)
+    run.add_program(parser, "--program", "interp")
     parser.add_argument("--files", type=int, default=200)
     parser.add_argument("--seed", type=int, default=1)
     parser.add_argument("--runs", type=int, default=3)

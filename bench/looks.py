@@ -22,8 +22,7 @@ import tempfile
 import make_files
 import run
 
-HERE = pathlib.Path(__file__).resolve().parent
-SOURCE = HERE / "plain.rs"
+SOURCE = pathlib.Path(__file__).resolve().parent / "plain.rs"
 TOOLS = ("rustc", "valgrind", "callgrind_annotate")
 
 # The files that are measured where none is named, each with the sizes of the tables that interp fills in vain, in bits
@@ -120,8 +119,8 @@ def measured(name, folder, program, plain):
     mode, make = make_files.FILES[name]
     path = folder / f"{name}.pla"
     path.write_text(make())
-    # interp runs first, and not under valgrind: a script may have to build it, and a file with too many terms ends it,
-    # where the plain program would take all memory.
+    # interp runs first, and not under valgrind: a file with too many terms ends it, where the plain program would take all
+    # memory.
     if ended([program, mode, "--nodes", str(SIZES[-1])], path).returncode:
         return no_answer(name, "interp")
     size = counted(plain[1], mode, path)
@@ -160,8 +159,8 @@ def cells(counts):
 
 def main():
     parser = argparse.ArgumentParser()
-    parser.add_argument("--program", default=str(HERE.parent / "interp"))
-    parser.add_argument("files", nargs="*")
+    run.add_program(parser, "--program", "interp")
+    run.add_names(parser, make_files.FILES)
     options = parser.parse_args()
     missing = [name for name in TOOLS if not shutil.which(name)]
     if missing:
@@ -171,7 +170,7 @@ def main():
         folder = pathlib.Path(folder)
         plain = build(folder)
         print(f"| {' | '.join(HEADS)} |\n|{'---|' * len(HEADS)}")
-        names = options.files or FILLED
+        names = options.names or FILLED
         return max([measured(name, folder, options.program, plain) for name in names])
 
 

@@ -8,14 +8,12 @@ each way in milliseconds, of runs in turn, and fails where the answers differ.
 """
 
 import argparse
-import pathlib
 import subprocess
 import sys
 import time
 
 import make_files
-
-HERE = pathlib.Path(__file__).resolve().parent
+import run
 
 
 def small_file(number):
@@ -41,8 +39,8 @@ def main():
     parser = argparse.ArgumentParser()
     parser.add_argument("--files", type=int, default=2000)
     parser.add_argument("--runs", type=int, default=3)
-    parser.add_argument("--program", default=str(HERE.parent / "interp"))
-    parser.add_argument("--batch", default=str(HERE.parent / "batch"))
+    run.add_program(parser, "--program", "interp")
+    run.add_program(parser, "--batch", "batch")
     options = parser.parse_args()
     texts = [small_file(number) for number in range(options.files)]
     times, answers = {}, {}

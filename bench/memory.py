@@ -12,6 +12,7 @@ Memory is measured by GNU time, Debian's package of this name.
 
 import argparse
 import pathlib
+import re
 import shutil
 import subprocess
 import sys
@@ -21,7 +22,6 @@ from collections import defaultdict
 import run
 from random_files import random_files
 
-HERE = pathlib.Path(__file__).resolve().parent
 TIMES = 4
 # A process takes as much on fewer slots as on so many.
 LEAST_BITS = 12
@@ -29,13 +29,24 @@ LEAST_BITS = 12
 MOST_BITS = 21
 LIMITS = range(16, 24)
 EXHAUSTED = 5
+# What GNU time says of a run that has no status.
+NO_STATUS = re.compile(r"^(?:time: cannot run .*|Command terminated by signal .*)$", re.M)
+
+
+class NoStatus(Exception):
+    """A run could not begin, or a signal ended it: what is said of it."""
 
 
 def used(program, mode, bits, file):
     """The status of a run with this limit of slots, and the kilobytes that it took."""
     words = ["time", "-f", "%M %x", program, mode, "--nodes", str(bits)]
     with open(file, "rb") as text:
-        ended = subprocess.run(words, stdin=text, stdout=subprocess.DEVNULL, stderr=subprocess.PIPE, check=False)
+        ended = subprocess.run(
+            words, stdin=text, stdout=subprocess.DEVNULL, stderr=subprocess.PIPE, check=False, text=True
+        )
+    fault = NO_STATUS.search(ended.stderr)
+    if fault:
+        raise NoStatus(fault[0])
     memory, status = ended.stderr.split()[-2:]
     return int(status), int(memory)
 
@@ -55,7 +66,7 @@ def compared(program, mode, file):
 
 def main():
     parser = argparse.ArgumentParser()
-    parser.add_argument("--program", default=str(HERE.parent / "interp"))
+    run.add_program(parser, "--program", "interp")
     parser.add_argument("--files", type=int, default=200)
     parser.add_argument("--seed", type=int, default=1)
     options = parser.parse_args()
@@ -66,7 +77,10 @@ def main():
     with tempfile.TemporaryDirectory() as folder:
         file = pathlib.Path(folder) / "file.pla"
         for number, (kind, mode) in enumerate(random_files(options.files, options.seed, file)):
-            most = compared(options.program, mode, file)
+            try:
+                most = compared(options.program, mode, file)
+            except NoStatus as fault:
+                sys.exit(f"file {number}, {kind}, {mode}: {fault}")
             if most is not None:
                 found[kind].append(most)
             if most is not None and most[0] > TIMES:

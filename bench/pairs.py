@@ -9,6 +9,7 @@ included, with the status where circuit has no answer.
 """
 
 import pathlib
+import shutil
 import subprocess
 import sys
 import tempfile
@@ -33,16 +34,18 @@ def abc(script, folder):
 
 def main():
     parser = run.arguments("circuit")
-    parser.add_argument("names", nargs="*")
+    run.add_names(parser, make_circuits.CIRCUITS)
     options = parser.parse_args()
+    if not shutil.which(ABC):
+        sys.exit(f"{ABC} is not installed: nothing is measured")
     print("| first | second | gates | circuit equal | cec |\n|---|---|---|---|---|")
     with tempfile.TemporaryDirectory() as folder:
-        differ = [it for it in options.names or FIRSTS if not measured(it, pathlib.Path(folder), options)]
-    return run.tell(differ, "what is said differs")
+        return max([measured(name, pathlib.Path(folder), options) for name in options.names or FIRSTS])
 
 
 def measured(name, folder, options):
-    """Prints the line of a pair, and answers whether circuit says that it is one function, as ABC does, or nothing."""
+    """Prints the line of a pair, and answers the status of the measurement: circuit says that it is one function, as ABC
+    does, or nothing."""
     first, second, both = (folder / it for it in ("first.aig", "second.aig", "both.aig"))
     circuit = make_circuits.CIRCUITS[name]()
     first.write_bytes(circuit.binary())
@@ -56,9 +59,10 @@ def measured(name, folder, options):
     columns = [("circuit", [options.program, "equal"]), ("cec", [ABC, "-q", check])]
     times, results = run.measure(columns, both, options.runs)
     gates = " + ".join(it.read_bytes().split(b"\n")[0].split()[5].decode() for it in (first, second))
-    cells = [run.cell(times[0], results[0][2]), run.cell(times[1], 0)]
+    cells = [run.cell(spent, result[2]) for spent, result in zip(times, results)]
     print(f"| `{name}` | {SECONDS.get(name, 'by ABC')} | {gates} | {' | '.join(cells)} |", flush=True)
-    return is_equal and results[0][2] in (0, 5)
+    differs = not is_equal or results[0][2] not in (0, 5, run.LATE)
+    return max(run.tell_killed(name, results), run.tell([name] if differs else [], "what is said differs"))
 
 
 if __name__ == "__main__":

@@ -17,8 +17,6 @@ import tempfile
 import make_files
 import run
 
-HERE = pathlib.Path(__file__).resolve().parent
-
 INPUTS = 24
 OUTPUTS = 32
 POINTS = 4096
@@ -50,8 +48,8 @@ def main():
     parser = argparse.ArgumentParser()
     parser.add_argument("--runs", type=int, default=5)
     parser.add_argument("--workers", default="2,4,8,16")
-    parser.add_argument("--program", default=str(HERE.parent / "interp"))
-    parser.add_argument("--steal", default=str(HERE.parent / "steal"))
+    run.add_program(parser, "--program", "interp")
+    run.add_program(parser, "--steal", "steal")
     options = parser.parse_args()
     programs = {"interp": options.program, "steal": options.steal}
     columns = [
@@ -59,18 +57,15 @@ def main():
         for workers in options.workers.split(",")
         for name, path in programs.items()
     ]
-    same = True
+    worst = 0
     print(f"| great outputs | mode | {' | '.join(name for name, _ in columns)} | MB | bytes |")
     print(f"|{'---|' * (len(columns) + 4)}")
     with tempfile.TemporaryDirectory() as folder:
         for name, places in PLACES.items():
             path = pathlib.Path(folder) / "uneven.pla"
             path.write_text(uneven(places))
-            same &= run.row(name, "anf", *run.measure(columns, path, options.runs))
-    if not same:
-        print("what is printed differs", file=sys.stderr)
-        return 1
-    return 0
+            worst = max(worst, run.row(name, "anf", *run.measure(columns, path, options.runs)))
+    return worst
 
 
 if __name__ == "__main__":
