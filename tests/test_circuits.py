@@ -318,7 +318,9 @@ class Circuits(Test):
             for name, value in values.items():
                 expected.setdefault(name, []).append(value)
         lines = self.answered()
-        self.assertEqual(sorted({re.sub(r"\[\d+\]", "", name) for name, _ in lines}), sorted(expected))
+        outputs = re.search(r"^\.ob (.*)$", self.file.read_text(), re.MULTILINE)[1].split()
+        self.assertEqual([name for name, _ in lines], outputs)
+        self.assertEqual(sorted({re.sub(r"\[\d+\]", "", name) for name in outputs}), sorted(expected))
         for name, text in lines:
             base, _, place = name.rstrip("]").partition("[")
             column = polynomial_value(text, columns, everywhere)

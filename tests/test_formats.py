@@ -35,6 +35,38 @@ HARDEST = ["a.b<1>", "gens", "R", "F"]
 WORDS = ["list", "std", "module", "in"]
 # Names that no language takes: the last one ends with a backslash.
 SIGNS = ["a#b", "$", "out'", "x\\"]
+# The reserved words of SystemVerilog, IEEE 1800-2017, by the standard that has them first.
+VERILOG = (
+    # IEEE 1364-1995
+    "always and assign begin buf bufif0 bufif1 case casex casez cmos deassign default defparam disable edge "
+    "else end endcase endfunction endmodule endprimitive endspecify endtable endtask event for force forever "
+    "fork function highz0 highz1 if ifnone initial inout input integer join large macromodule medium module "
+    "nand negedge nmos nor not notif0 notif1 or output parameter pmos posedge primitive pull0 pull1 pulldown "
+    "pullup rcmos real realtime reg release repeat rnmos rpmos rtran rtranif0 rtranif1 scalared small specify "
+    "specparam strong0 strong1 supply0 supply1 table task time tran tranif0 tranif1 tri tri0 tri1 triand trior "
+    "trireg vectored wait wand weak0 weak1 while wire wor xnor xor "
+    # IEEE 1364-2001
+    "automatic cell config design endconfig endgenerate generate genvar incdir include instance liblist "
+    "library localparam noshowcancelled pulsestyle_ondetect pulsestyle_onevent showcancelled signed unsigned "
+    "use "
+    # IEEE 1364-2005
+    "uwire "
+    # IEEE 1800-2005
+    "alias always_comb always_ff always_latch assert assume before bind bins binsof bit break byte chandle "
+    "class clocking const constraint context continue cover covergroup coverpoint cross dist do endclass "
+    "endclocking endgroup endinterface endpackage endprogram endproperty endsequence enum expect export "
+    "extends extern final first_match foreach forkjoin iff ignore_bins illegal_bins import inside int "
+    "interface intersect join_any join_none local logic longint matches modport new null package packed "
+    "priority program property protected pure rand randc randcase randsequence ref return sequence shortint "
+    "shortreal solve static string struct super tagged this throughout timeprecision timeunit type typedef "
+    "union unique var virtual void wait_order wildcard with within "
+    # IEEE 1800-2009
+    "accept_on checker endchecker eventually global implies let nexttime reject_on restrict s_always "
+    "s_eventually s_nexttime s_until s_until_with strong sync_accept_on sync_reject_on unique0 until "
+    "until_with untyped weak "
+    # IEEE 1800-2012
+    "implements interconnect nettype soft"
+).split()
 
 
 def value(polynomial, point):
@@ -598,14 +630,26 @@ class Names(Test):
         self.assertEqual({word for word in kept if len(word) > 1}, set())
 
     def test_words_of_verilog(self):
-        """Each name of an input that yosys does not read as it stands is escaped."""
+        """An input that has a reserved word for its name is escaped, and one of another name is not."""
+        self.assertEqual(len(set(VERILOG)), 248)
+        for word in VERILOG:
+            with self.case(word):
+                self.assertIn(f"input \\{word} , x;", verilog_of(word))
+                self.assertIn(f"input {word}_, x;", verilog_of(f"{word}_"))
+
+    def test_words_of_verilog_in_yosys(self):
         yosys = installed("yosys")
         with tempfile.TemporaryDirectory() as folder:
             file = pathlib.Path(folder) / "f.v"
-            for word in sorted(naming.VERILOG)[::9]:
+            for word in VERILOG[::9]:
                 with self.case(word):
-                    file.write_text(Answer([word, "x"], [Output("s", Polynomial([(word, "x")]))]).text("verilog"))
+                    file.write_text(verilog_of(word))
                     self.assertEqual(run([yosys, "-q", "-p", f"read_verilog {file}"]).status, 0)
+
+
+def verilog_of(name):
+    """An answer over an input of this name and another one, in Verilog."""
+    return Answer([name, "x"], [Output("s", Polynomial([(name, "x")]))]).text("verilog")
 
 
 class Deep(Test):

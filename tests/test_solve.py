@@ -633,6 +633,20 @@ class Looking(Test):
                 for text, right in (("x1", True), ("x1 + x2", False), ("x1*x2 + x1", False), ("1", False)):
                     self.assertEqual(points.fault(description, 0, text, [], description.input_names) is None, right)
 
+    def test_every_point(self):
+        """Of up to 4,096 care points all are looked at: a polynomial that is wrong at one of them alone is found."""
+        draws = random.Random(6)
+        for kind, rows in (("f", "1{0} 1\n"), ("fd", "1{0} 1\n"), ("fr", "1{0} 1\n0{0} 0\n")):
+            text = f".i 12\n.o 1\n.type {kind}\n{rows.format('-' * 11)}"
+            description = descriptions.parse(text.encode(), "f")
+            names = description.input_names
+            for wrong in [0, 4095, *draws.sample(range(1, 4095), 40)]:
+                with self.case((kind, wrong)):
+                    masks = {1 << 11} ^ {mask for mask in range(1 << 12) if mask & wrong == wrong}
+                    text = Monomials(names).text(sorted(masks, reverse=True))
+                    told = points.fault(description, 0, text, [], names)
+                    self.assertEqual(told, f"the polynomial has the wrong value at {wrong:012b}")
+
     def compare(self, description, inputs):
         """Every polynomial that has the value of a care point is right, and no other one."""
         names = description.input_names
