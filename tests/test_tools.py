@@ -188,6 +188,7 @@ STATUS_LINES = {
         14: ([HALF_ADDER, "--relations", "1", "--seconds", "1"], "", "exec sleep 20"),
         15: ([HALF_ADDER], "graph = 1\n", "echo 'nfq: more than 4 nodes are needed' >&2; exit 5"),
         69: ([HALF_ADDER], "graph = 1\n", None),
+        70: ([HALF_ADDER, "--relations", "1"], "", "kill -9 $$"),
     },
     "ask": {
         0: ([HALF_ADDER, "sum"], ""),
@@ -197,9 +198,11 @@ STATUS_LINES = {
         4: ([CONTRADICTION, "x1"], ""),
         5: ([HALF_ADDER, "sum"], "", "echo 'nfq: more than 4 nodes are needed' >&2; exit 5"),
         6: ([HALF_ADDER, "sum"], "", "echo 'nfq: more than 1000000 terms' >&2; exit 6"),
+        7: ([HALF_ADDER, "sum"], "", "echo 'nfq: out of memory' >&2; exit 7"),
         8: (["none", "sum"], ""),
         12: ([HALF_ADDER, "--order", "a", "sum"], ""),
         69: ([HALF_ADDER, "sum"], "", None),
+        70: ([HALF_ADDER, "sum"], "", "kill -9 $$"),
     },
     "answer_as": {
         0: (["json", HALF_ADDER], ANSWER),
@@ -221,11 +224,15 @@ class Statuses(Folder):
     """Each status that the help of a command has, by an example. Those of solve are in tests/test_solve.py."""
 
     def test_examples(self):
+        """What is said of each names no option but those of the command."""
         for name, lines in STATUS_LINES.items():
+            document = self.call(name, ["--help"]).out
             for status, (words, text, *program_text) in lines.items():
                 with self.case(f"{name} {status}"):
                     ended = self.call_with(name, words, text, *program_text)
                     self.assertEqual(ended.status, status, ended)
+                    for option in set(re.findall("--[a-z]+", ended.out + ended.err)) - {"--help"}:
+                        self.assertIn(f"  {option} ", document)
                     if status in (0, 1, 15):
                         self.assertEqual((ended.out != "", ended.err), (True, ""), ended)
                     else:

@@ -19,6 +19,7 @@ REMEDIES = {
     solving.TooManyNodes.status: "name another order of the inputs by --order, with those that choose first, or ask for "
     "shorter polynomials",
     solving.TooManyTerms.status: "name another order of the inputs by --order, or ask for shorter polynomials",
+    solving.OutOfMemory.status: "ask where more memory is free, or for shorter polynomials",
 }
 # A query of fewer terms is not cut where it needs too many nodes.
 LEAST_CUT = 100

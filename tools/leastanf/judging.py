@@ -94,9 +94,9 @@ class Judge:
         except solving.TooManyTerms as error:
             if len(polynomial) <= MOST_TERMS:
                 return Verdict(False, f"the least polynomial has more than {MOST_TERMS} terms")
-            return Verdict(None, str(error))
+            return Verdict(None, error.message)
         except solving.Unsolved as error:
-            return Verdict(None, str(error))
+            return Verdict(None, error.message)
         return self.by_least(polynomial, least)
 
     def by_least(self, polynomial, least):
@@ -147,9 +147,9 @@ class Judge:
         except solving.TooManyTerms as error:
             if polynomial is not None and len(polynomial) + sum(map(len, elements)) <= MOST_TERMS:
                 return Verdict(False, f"the right answer has more than {MOST_TERMS} terms")
-            return Verdict(None, str(error))
+            return Verdict(None, error.message)
         except solving.Unsolved as error:
-            return Verdict(None, str(error))
+            return Verdict(None, error.message)
         if polynomial is not None and polynomial != least:
             return self.by_least(polynomial, least)
         right = set(map(frozenset, basis))

@@ -28,7 +28,7 @@ It prints a line for each polynomial, `NAME: yes` or `NAME: no, ..`, with the re
 not; 2 the words are not of this form; 3 the description or a polynomial is refused; 4 rows contradict each other; 5 to
 7 nfq has no answer for relations, or there are too many monomials; 8 a file cannot be read; 9 a write failed; 12 an
 option does not name inputs or outputs; 14 the time for relations was up; 15 it is not known of some polynomial, and the
-others agree; 69 nfq is missing.
+others agree; 69 nfq is missing; 70 nfq failed at relations.
 """
 
 from .. import descriptions, judging, queries, relations, solving, transcripts

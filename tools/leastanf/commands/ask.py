@@ -32,8 +32,8 @@ examples:
 
 Statuses: 0 all was answered; 1 with --holds a relation does not follow; 2 the words are not of this form; 3 the
 description or a query is refused; 4 rows contradict each other; 5 nfq needs more nodes than its table has; 6 there are
-more than 1000000 terms; 8 a file cannot be read; 9 a write failed; 12 an option does not name inputs or outputs; 69 nfq
-is missing.
+more than 1000000 terms; 7 nfq is out of memory; 8 a file cannot be read; 9 a write failed; 12 an option does not name
+inputs or outputs; 69 nfq is missing; 70 nfq failed.
 """
 
 from .. import descriptions, ideals, judging, queries, solving
