@@ -180,7 +180,7 @@ def module_header(lines, number):
     return header[len("module _") : -len("where")].strip(), last
 
 
-def lemmas_of(top, crate, path):
+def lemmas_of(crate, path):
     """The lemmas of a file, with the parameters of their modules that they use in front of their statements."""
     lines = read_lines(path)
     fields, stack, found, header_end = fields_of_records(lines), [], [], -1
@@ -465,11 +465,11 @@ def declared_in(text):
     return {match.group(3) for line in text.splitlines() for match in [SIGNATURE.match(line) or TYPE.match(line)] if match}
 
 
-def forms_of(top, crates, crate, path, abbreviations):
+def forms_of(crates, crate, path, abbreviations):
     """(form, lemma) for each lemma of a file whose statement says something of its variables or is an equation."""
     text = "\n".join(read_lines(path))
     origins = origins_of(crates, crate, text, declared_in(text))
-    for lemma in lemmas_of(top, crate, path):
+    for lemma in lemmas_of(crate, path):
         form, dependent = Statement(lemma.statement, origins, abbreviations).form()
         if lemma.plain and dependent and not lemma.statement.startswith("goal."):
             yield form, lemma
@@ -481,7 +481,7 @@ def check_statements(top):
     abbreviations = abbreviations_of(top, crates)
     for crate in sorted(crates):
         for path in [*proofs_of(top, crate), *files_of(top, crate, "specs", ".antt")]:
-            for form, lemma in forms_of(top, crates, crate, path, abbreviations):
+            for form, lemma in forms_of(crates, crate, path, abbreviations):
                 by_form[form].append(lemma)
     for lemmas in by_form.values():
         if len({lemma.crate for lemma in lemmas}) > 1:
@@ -596,7 +596,7 @@ def check_uses(top):
             lines = read_lines(path)
             words = [set(TOKEN.findall(line)) for line in lines]
             module = module_of(top, crate, path)
-            for lemma in lemmas_of(top, crate, path):
+            for lemma in lemmas_of(crate, path):
                 used = is_asked_for(lemma) or is_used_here(lines, words, lemma) or is_imported(lemma, module, doors, names)
                 if not used:
                     yield f"{os.path.relpath(path, top)}:{lemma.line}: nothing uses {lemma.name}"

@@ -119,8 +119,8 @@ def measured(name, folder, program, plain):
     mode, make = make_files.FILES[name]
     path = folder / f"{name}.pla"
     path.write_text(make())
-    # interp runs first, and not under valgrind: a file with too many terms ends it, where the plain program would take all
-    # memory.
+    # interp runs first, and not under valgrind: a file with too many terms ends it, where the plain program would take
+    # all memory.
     if ended([program, mode, "--nodes", str(SIZES[-1])], path).returncode:
         return no_answer(name, "interp")
     size = counted(plain[1], mode, path)

@@ -6,6 +6,11 @@ import pathlib
 import sys
 from typing import NamedTuple
 
+# (the tests import this file as one of a package)
+sys.path.insert(0, str(pathlib.Path(__file__).resolve().parent))
+
+from make_files import PRESENT, rijndael
+
 FALSE, TRUE = 0, 1
 
 
@@ -327,18 +332,6 @@ def table(inputs, outputs, function):
     return circuit
 
 
-def aes_box(x):
-    inverse = next((y for y in range(256) if field_product(x, y, 8, 0x11B) == 1), 0)
-    found = 0x63
-    for turn in range(5):
-        found ^= (inverse << turn | inverse >> (8 - turn)) & 0xFF
-    return found
-
-
-def present_box(x):
-    return 0xC56B90AD3EF84712 >> (60 - 4 * x) & 15
-
-
 def comparator(width):
     """Whether the first of two numbers is greater."""
     circuit = Circuit(side_by_side(width))
@@ -366,8 +359,8 @@ CIRCUITS = {
     "galois_16": lambda: galois(16, 0x2B),
     "galois_31": lambda: galois(31, 0x9),
     "keccak_chi": lambda: keccak_chi(12),
-    "aes_box": lambda: table(8, 8, aes_box),
-    "present_box": lambda: table(4, 4, present_box),
+    "aes_box": lambda: table(8, 8, rijndael),
+    "present_box": lambda: table(4, 4, PRESENT.__getitem__),
     "comparator_16": lambda: comparator(16),
 }
 

@@ -27,8 +27,8 @@ import brial
 import make_files
 
 HERE = pathlib.Path(__file__).resolve().parent
-# Seconds after which a run is ended, and what such a run has in place of a status. Where another signal ended a run, its
-# status is the negative number of this signal.
+# Seconds after which a run is ended, and what such a run has in place of a status. Where another signal ended a run,
+# its status is the negative number of this signal.
 LIMIT = 30
 LATE = -1000
 # What a script has that runs a program: the crate, its first mode, and a file that it takes.
@@ -154,7 +154,8 @@ def tell_killed(name, results):
 
 def tell_different(name, results):
     """Says where programs that have an answer for this file printed others, and answers the status."""
-    return tell([name] if len({result[4] for result in results if result[2] == 0}) > 1 else [], "what is printed differs")
+    sums = {result[4] for result in results if result[2] == 0}
+    return tell([name] if len(sums) > 1 else [], "what is printed differs")
 
 
 def main():

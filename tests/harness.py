@@ -48,14 +48,13 @@ def program(name):
     if not script.is_file():
         raise unittest.SkipTest(f"there is no program {name}")
     crate, mode = re.search(r"/tools/run_proved\" \w+ (\w+) '(\w+)", script.read_text()).groups()
-    path = TOP / "crates" / crate / "out" / crate
-    if not path.is_file() and not shutil.which("rt"):
-        raise unittest.SkipTest(f"{name} is not built, and there is no toolchain to build it")
     # With nothing to read each program ends at once, as a description is missing.
     built = subprocess.run([script, mode], stdin=subprocess.DEVNULL, capture_output=True, text=True, check=False)
+    if built.returncode == NOT_BUILT and not shutil.which("rt"):
+        raise unittest.SkipTest(f"{name} is not built of its sources, and there is no toolchain to build it")
     if built.returncode == NOT_BUILT:
         raise RuntimeError(f"{name} could not be built: {built.stderr}")
-    return str(path)
+    return str(TOP / "crates" / crate / "out" / crate)
 
 
 def installed(name):

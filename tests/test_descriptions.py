@@ -218,11 +218,12 @@ class Worked(Test):
                 self.assertEqual(list(descriptions.parse(text.encode(), "file").forms), [form])
                 self.assertIn(run_program(text.encode())[0], (3, 10))
 
-    def test_taken_bytes(self):
-        """A description ends with its last line."""
-        for text, rest in ((".i 1\n.o 1\n.e\nf1 = 0\n", "f1 = 0\n"), (".i 1\n.o 1\n", ""), (".i 1\n.o 1\n.e", "")):
-            with self.case(text):
-                self.assertEqual(text[descriptions.parse(text.encode(), "file").taken :], rest)
+    def test_what_stands_behind(self):
+        """A description ends with its last line: nothing behind it is read."""
+        for end in (".e", ".end"):
+            with self.case(end):
+                found = descriptions.parse(f".i 1\n.o 1\n1 1\n{end}\n0 1\n.i 1\nf1 = 0\n".encode(), "file")
+                self.assertEqual([row.inputs for row in found.rows], ["1"])
 
 
 class Against(Test):

@@ -237,6 +237,22 @@ class FirstRun(Test):
                 ended = checkout.run("interp", *words, stdin=slave)
                 self.assertEqual((ended.status, ended.out, ended.err), (0, f"built: {' '.join(words)}\n", said))
 
+    def test_tests_are_skipped_where_there_is_no_toolchain(self):
+        """Those of a program that is missing or older than its sources."""
+        checkout = self.checkout(seconds=0)
+        checkout.env.pop("INTERP", None)
+        checkout.run("interp", "anf")
+        checkout.rt.unlink()
+        words = [sys.executable, "-c", "from tests.harness import program; print(program('interp'))"]
+        with self.case("built"):
+            self.assertEqual(run(words, cwd=checkout.top, env=checkout.env).out, f"{checkout.program('interp')}\n")
+        os.utime(checkout.program("interp"), (0, 0))
+        for what in ("stale", "missing"):
+            with self.case(what):
+                ended = run(words, cwd=checkout.top, env=checkout.env)
+                self.assertRegex(ended.err, r"unittest.case.SkipTest: interp is not built of its sources, .*\n\Z")
+            checkout.program("interp").unlink(missing_ok=True)
+
     def test_the_program_ends_by_a_closed_pipe(self):
         checkout = self.checkout(seconds=0)
         for built in ("now", "before"):

@@ -21,7 +21,7 @@ from tests.plain_descriptions import meets, names, read
 
 sys.path.insert(0, str(TOP / "tools"))
 
-from leastanf import answers, descriptions, formats, tables
+from leastanf import descriptions, formats, tables
 from leastanf.answers import Answer, Output
 from leastanf.formats import circuits, naming, rings
 from leastanf.polynomials import Monomials, Polynomial

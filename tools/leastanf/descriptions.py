@@ -103,7 +103,6 @@ class Description:
     rows                a list of Row; input symbols are of 0 1 - 2, output symbols of 0 1 - ~ 2 4
     forms               of each form that was brought into shape (a key of FORMS) the number of its first line
     warnings            lines on what may be meant otherwise
-    taken               how many bytes the description takes: those behind are an answer or queries
     """
 
     def __init__(self, path, inputs=None, outputs=None, kind="fd"):
@@ -113,7 +112,6 @@ class Description:
         self.rows = []
         self.forms = {}
         self.warnings = []
-        self.taken = 0
 
     @property
     def input_names(self):
@@ -257,7 +255,6 @@ class _Reader:
             self.number += 1
             self.line(data[start:stop].decode("latin-1"))
             start = stop + 1
-        description.taken = min(start, len(data))
         self.finish()
         return description
 

@@ -15,7 +15,7 @@ A basis of up to 14 inputs is judged by mode check of interp. Of more inputs, or
 the reduced basis is found by interp and compared, as a set: it is the one right answer too.
 """
 
-from . import ideals, polarity, programs, remedies, solving
+from . import ideals, polarity, programs, solving
 from .polynomials import Monomials
 from .descriptions import MOST_BYTES
 
@@ -45,22 +45,11 @@ class Judge:
     the places `flips`. Polynomials are sets of whole numbers, as in `queries`."""
 
     def __init__(self, description, order=None, flips=()):
-        self.original = description
         self.description = polarity.flipped(description, flips)
         self.order = list(order or range(description.inputs))
         self.flips = sum(1 << (description.inputs - 1 - place) for place in set(flips))
         names = polarity.marked(description.shown_input_names, flips)
         self.monomials = Monomials([names[place] for place in self.order])
-
-    def refuse_contradictions(self):
-        """Ends with a Contradiction where no polynomial takes every given value of an output."""
-        clash = remedies.first_clash(self.original, range(self.original.outputs))
-        if clash:
-            output, one, zero = clash
-            name = self.original.shown_output_names[output]
-            raise solving.Contradiction(
-                f"output {name} is 1 by line {one.line} ({one.inputs}) and 0 by line {zero.line} ({zero.inputs})"
-            )
 
     def agrees(self, output, polynomial):
         """Whether a polynomial takes every given value of an output, by nfq, or an Unsolved."""

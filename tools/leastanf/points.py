@@ -18,14 +18,14 @@ class Sample:
         self.size, self.columns, self.ones = size, columns, ones
 
 
-def sample(description, output, most=MOST_POINTS, seed=0):
-    """Care points of an output of a description: all of them where these are at most so many, else a random choice."""
+def sample(description, output):
+    """Care points of an output of a description: all of them up to MOST_POINTS, else a random choice."""
     rows = [row for row in description.rows if description.set_of(row.outputs[output])]
-    chooser = random.Random(f"{seed} {output}")
+    chooser = random.Random(output)
     if description.kind in ("f", "fd"):
-        columns, size = _any_points(description.inputs, rows, most, chooser)
+        columns, size = _any_points(description.inputs, rows, chooser)
     else:
-        columns, size = _points_of_rows(description.inputs, rows, most, chooser)
+        columns, size = _points_of_rows(description.inputs, rows, chooser)
     met = {"on": 0, "off": 0, "free": 0}
     for row in rows:
         met[description.set_of(row.outputs[output])] |= points_of(row.inputs, columns, size)
@@ -79,9 +79,9 @@ def named_columns(found, names):
     return named
 
 
-def fault(description, output, polynomial, elements, names, seed=0):
+def fault(description, output, polynomial, elements, names):
     """What is wrong with the text of an output's polynomial or of an element of its basis at care points, or None."""
-    found = sample(description, output, seed=seed)
+    found = sample(description, output)
     named = named_columns(found, names)
     try:
         wrong = value(polynomial, named) ^ found.ones
@@ -115,24 +115,24 @@ def _kept(size, columns, ones, care):
     return Sample(len(places), [pick(column) for column in columns], pick(ones))
 
 
-def _any_points(inputs, rows, most, chooser):
+def _any_points(inputs, rows, chooser):
     """All points, or points in rows, points beside these, and points anywhere."""
-    if 1 << inputs <= most:
+    if 1 << inputs <= MOST_POINTS:
         return _all_points(inputs), 1 << inputs
-    cubes = _shuffled(rows, most // 2, chooser)
-    cubes *= most // 2 // max(len(cubes), 1)
-    near = [_one_changed(symbols, chooser) for symbols in cubes[: most // 4]]
-    return _filled(inputs, cubes + near, most, chooser), most
+    cubes = _shuffled(rows, MOST_POINTS // 2, chooser)
+    cubes *= MOST_POINTS // 2 // max(len(cubes), 1)
+    near = [_one_changed(symbols, chooser) for symbols in cubes[: MOST_POINTS // 4]]
+    return _filled(inputs, cubes + near, MOST_POINTS, chooser), MOST_POINTS
 
 
-def _points_of_rows(inputs, rows, most, chooser):
+def _points_of_rows(inputs, rows, chooser):
     """All points of the rows, or one or more in each of them, as far as these are not too many."""
     total = 0
     for row in rows:
         total += 1 << (row.inputs.count("-") + row.inputs.count("2"))
-        if total > most:
-            cubes = _shuffled(rows, most, chooser)
-            cubes *= most // len(cubes)
+        if total > MOST_POINTS:
+            cubes = _shuffled(rows, MOST_POINTS, chooser)
+            cubes *= MOST_POINTS // len(cubes)
             return _filled(inputs, cubes, len(cubes), chooser), len(cubes)
     points = [symbols for row in rows for symbols in _expanded(row.inputs)]
     return _filled(inputs, points, len(points), chooser), len(points)

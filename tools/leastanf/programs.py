@@ -103,8 +103,8 @@ def find(name):
 
 @functools.cache
 def build(name, script):
-    """Has the script of a program prove and build it, once, where this was not done yet or its sources are newer. It says
-    on standard error how far it is, which takes minutes."""
+    """Has the script of a program prove and build it, once, where this was not done yet or its sources are newer. It
+    says on standard error how far it is, which takes minutes."""
     if not re.search(rf'/run_proved" {name} \w+ ', script.read_text()):
         return
     word, data = TRIALS[name]

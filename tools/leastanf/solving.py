@@ -269,6 +269,18 @@ def failure(run, what="", remedies_by_status=None):
     return kind(f"{what}{message}", (remedies_by_status or {}).get(run.status))
 
 
+def refuse_contradictions(description, outputs=None):
+    """Ends with a Contradiction where rows contradict each other, so that no polynomial takes every given value: rows of
+    these outputs, or of all."""
+    clash = remedies.first_clash(description, range(description.outputs) if outputs is None else outputs)
+    if clash:
+        output, one, zero = clash
+        raise Contradiction(
+            f"output {description.shown_output_names[output]} is 1 by line {one.line} ({one.inputs}) and 0 by line "
+            f"{zero.line} ({zero.inputs})"
+        )
+
+
 def fits(description):
     """Whether the program takes a description as it is."""
     return not {"inputs", "outputs", "rows", "bytes"} & set(description.forms)
@@ -329,7 +341,7 @@ class _Solving:
             return self.read_plain(run), []
         if run.status not in (TooManyNodes.status, TooManyTerms.status, OutOfMemory.status, programs.TIMED_OUT):
             raise self.told_failure(run)
-        self.refuse_contradictions(outputs)
+        refuse_contradictions(self.original, outputs)
         self.deadline = time.monotonic() + self.settings.seconds
         if len(outputs) > 1:
             grouped = self.solve_group_by_another_order(outputs) if run.status == TooManyNodes.status else None
@@ -340,7 +352,7 @@ class _Solving:
 
     def solve_blocks(self, outputs):
         """The outputs of a large file, as many together as the program takes."""
-        self.refuse_contradictions(outputs)
+        refuse_contradictions(self.original, outputs)
         size = descriptions.MOST_OUTPUTS
         blocks = [outputs[start : start + size] for start in range(0, len(outputs), size)]
         found, apart = [], []
@@ -413,17 +425,8 @@ class _Solving:
 
     def told_failure(self, run):
         if run.status == Contradiction.status:
-            self.refuse_contradictions(range(self.description.outputs))
+            refuse_contradictions(self.original)
         return failure(run)
-
-    def refuse_contradictions(self, outputs):
-        clash = remedies.first_clash(self.original, outputs)
-        if clash:
-            output, one, zero = clash
-            raise Contradiction(
-                f"output {self.output_names[output]} is 1 by line {one.line} ({one.inputs}) and 0 by line {zero.line} "
-                f"({zero.inputs})"
-            )
 
     def read_plain(self, run):
         """The outputs of a run on the file, with the names of the answer."""

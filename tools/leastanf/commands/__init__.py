@@ -11,7 +11,8 @@ from ..descriptions import DescriptionError, shown_path
 from ..programs import ProgramMissing
 from ..solving import OutOfMemory, WrongAnswer
 
-# The statuses that the commands have and the programs have not: no program, and 128 and the number of a signal.
+# The statuses of words that are not of the form, of an answer that cannot be written, of no program, and of a reader
+# that went away: 128 and the number of the signal.
 WORDS, WRITE_FAULT, MISSING = 2, 9, 69
 CLOSED = 128 + signal.SIGPIPE
 # The signals that ask for the end of a run: of a user, of another program, and of a terminal that is closed.

@@ -31,7 +31,7 @@ option does not name inputs or outputs; 14 the time for relations was up; 15 it 
 others agree; 69 nfq is missing; 70 nfq failed at relations.
 """
 
-from .. import descriptions, judging, queries, relations, solving, transcripts
+from .. import judging, queries, relations, solving, transcripts
 from . import command, say, words
 from .progress import Progress
 from .verdicts import print_verdicts
@@ -98,14 +98,13 @@ def main(line):
     try:
         order = words.order(description, options.order)
         description = words.chosen(description, options.outputs)
-        judge = judging.Judge(description, order)
-        judge.refuse_contradictions()
+        solving.refuse_contradictions(description)
         if options.relations is not None:
             print_relations(description, order, options)
             return 0
         claims = transcripts.parse(words.standard_input(), description, queries.Names(description, order))
         refuse_elements(claims)
-        return print_verdicts(agreeing(judge, description, claims))
+        return print_verdicts(agreeing(judging.Judge(description, order), description, claims))
     except (transcripts.TranscriptError, solving.Unsolved) as error:
         say(NAME, str(error))
         return error.status

@@ -36,7 +36,7 @@ what is no output.
 import gc
 import sys
 
-from .. import answers, descriptions, solving
+from .. import answers, solving
 from ..formats import FORMATS, FormatError
 from . import command, say, words
 

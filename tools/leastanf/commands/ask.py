@@ -36,7 +36,7 @@ more than 1000000 terms; 7 nfq is out of memory; 8 a file cannot be read; 9 a wr
 inputs or outputs; 69 nfq is missing; 70 nfq failed.
 """
 
-from .. import descriptions, ideals, judging, queries, solving
+from .. import ideals, queries, solving
 from ..polynomials import Monomials
 from . import command, say, words
 
@@ -124,7 +124,7 @@ def answer_queries(description, order, options):
     if not asked:
         say(NAME, "no query is given")
         return queries.QueryError.status
-    judging.Judge(description, order).refuse_contradictions()
+    solving.refuse_contradictions(description)
     forms = normal_forms(description, order, asked)
     write = Monomials([description.shown_input_names[place] for place in order])
     for query, form in zip(asked, forms):
@@ -141,7 +141,7 @@ def print_basis(description, order, options):
             f"{options.mode} is of two outputs, and there are {description.outputs}",
             f"choose two by --outputs; they are {','.join(description.shown_output_names)}",
         )
-    judging.Judge(description, order).refuse_contradictions()
+    solving.refuse_contradictions(description)
     basis = ideals.joint_basis(description, options.mode, order)
     for element in basis:
         print(f"0 = {element}")

@@ -31,7 +31,7 @@ other; 8 a file cannot be read; 9 a write failed; 12 an option does not name inp
 and nothing was found wrong; 69 a program is missing.
 """
 
-from .. import descriptions, judging, queries, solving, transcripts
+from .. import judging, queries, solving, transcripts
 from . import command, say, words
 from .verdicts import print_verdicts
 
@@ -83,8 +83,8 @@ def main(line):
     try:
         order, flips = words.order(description, options.order), words.flips(description, options.polarity)
         claims, with_bases = read_claims(description, options, queries.Names(description, order, flips))
+        solving.refuse_contradictions(description)
         judge = judging.Judge(description, order, flips)
-        judge.refuse_contradictions()
         named = list(zip(description.shown_output_names, claims))
         return print_verdicts(judged_outputs(judge, named, with_bases))
     except (transcripts.TranscriptError, solving.Unsolved) as error:

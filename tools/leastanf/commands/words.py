@@ -53,10 +53,9 @@ class Parser(argparse.ArgumentParser):
         for name, word in zip(named, given):
             setattr(options, name, word)
 
-    def add_number(self, option, least, most, name=None):
+    def add_number(self, option, least, most):
         """Takes an option of a number in digits, at most once."""
-        name = name or option.lstrip("-")
-        self.add_argument(option, dest=name, action=Once, type=lambda text: self.number(option, least, most, text))
+        self.add_argument(option, action=Once, type=lambda text: self.number(option, least, most, text))
 
     def number(self, option, least, most, text):
         digits = text[1:] if text.startswith("+") else text
