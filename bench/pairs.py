@@ -44,8 +44,8 @@ def main():
 
 
 def measured(name, folder, options):
-    """Prints the line of a pair, and answers the status of the measurement: circuit is to say that it is one function, as
-    ABC does, or nothing."""
+    """Prints the line of a pair, and answers the status of the measurement: circuit is to say that it is one function,
+    as ABC does, or nothing."""
     first, second, both = (folder / it for it in ("first.aig", "second.aig", "both.aig"))
     circuit = make_circuits.CIRCUITS[name]()
     first.write_bytes(circuit.binary())

@@ -270,8 +270,8 @@ def failure(run, what="", remedies_by_status=None):
 
 
 def refuse_contradictions(description, outputs=None):
-    """Ends with a Contradiction where rows contradict each other, so that no polynomial takes every given value: rows of
-    these outputs, or of all."""
+    """Ends with a Contradiction where rows of these outputs, or of all, contradict each other, so that no polynomial
+    takes every given value."""
     clash = remedies.first_clash(description, range(description.outputs) if outputs is None else outputs)
     if clash:
         output, one, zero = clash

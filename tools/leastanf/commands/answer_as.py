@@ -2,7 +2,8 @@
 
 usage: answer_as FORMAT FILE.pla [--order NAMES] [--ideal] < ANSWER
 
-FILE.pla is the description that was solved: it has the names. ANSWER is what interp, nfq or solve printed of it.
+FILE.pla is the description that was solved: it has the names. Forms of it that the programs refuse are told, as solve
+tells them. ANSWER is what interp, nfq or solve printed of it.
 
 formats:
 {formats}

@@ -7,7 +7,7 @@ elements, each as 0 = POLYNOMIAL. What is judged are the polynomials, and the el
 in any form that `ask --help` has, and elements in any order. The scripts that answer_as writes for Singular and
 Macaulay2 are taken, and what these programs print: lines as G[3]=.., lists as ideal(..) and {..}, which toString of
 Macaulay2 makes, polynomials with commas between them, and the names of inputs there. Elements as x^2 + x, which are 0
-in a Boolean ring, are left out.
+in a Boolean ring, are left out. Forms of the file that the programs refuse are told, as solve tells them.
 
 A polynomial is judged at any size, by nfq, or where its table is too small by interp, whose table may be larger. A
 basis is judged by interp: in mode check where the file has at most 14 inputs, and else by the reduced basis that it

@@ -32,8 +32,8 @@ options:
                          auto and --polarity auto may take; without it there is no limit, 300 s, and 60 s
   --jobs J               runs side by side: as many as there are processors by default
   --as FORMAT            the answer in another language, as answer_as writes it
-  --text                 print the description that the program is run on, and no answer
-  -o FOLDER              write each answer to a file of the folder
+  --text                 print the description that the program is run on, and no answer; it goes without -o
+  -o FOLDER              write each answer to a file of the folder, but over none of the files that are read
 
 examples:
   tools/solve examples/full_adder.pla
