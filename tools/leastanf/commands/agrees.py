@@ -6,8 +6,8 @@ usage: agrees FILE.pla [OPTIONS] < POLYNOMIALS
 POLYNOMIALS has a line NAME = POLYNOMIAL for some outputs, in any form that `ask --help` has. A polynomial agrees where
 it is 0 at each point whose value is 0, and 1 at each whose value is 1; it need not be the least one that does. This is
 asked of nfq, at any number of inputs: a polynomial is 0 at points exactly where its normal form by their ideal is 0.
-Where one does not agree, a point is told at which it has the other value. Forms of the file that the programs refuse are
-told, as solve tells them.
+Where one does not agree, a point is told at which it has the other value. Forms of the file that the programs refuse
+are told, as solve tells them.
 
 With --relations no polynomials are read: for each output the polynomials of at most so high a degree that are 0 at each
 of its care points are printed, a basis of them as a vector space in reduced echelon form, by ascending degree and
