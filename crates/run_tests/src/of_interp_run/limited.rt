@@ -138,10 +138,11 @@ fn ascending_points(alloc: Global, inputs: u32, ones: &str) -> Result<String, Fa
 }
 
 // The same on tables of 2^13 slots and more, where two workers find the polynomials, and three the
-// 28 elements. Behind seven ones phase 1 has 8,183 nodes in mode anf: of the numbers over nine inputs 511 but 0 stand alone, and
-// as many with all those below them, and there are seven nodes more for each of 512 cubes and of
-// 511 covers. Behind eight ones it has 9,206. In mode basis it has 8,189 behind seven ones, and
-// phase 2 has 8,202, as another program counts; the counts of terms are 32 and 60.
+// 28 elements. Behind seven ones phase 1 has 8,183 nodes in mode anf: of the numbers over nine
+// inputs 511 but 0 stand alone, and as many with all those below them, and there are seven nodes
+// more for each of 512 cubes and of 511 covers. Behind eight ones it has 9,206. In mode basis it
+// has 8,189 behind seven ones, and phase 2 has 8,202, as another program counts; the counts of
+// terms are 32 and 60.
 #[test]
 fn limits_with_more_workers(rt: HostRuntime) -> Result<(), Fail> {
     let alloc = rt.alloc();
