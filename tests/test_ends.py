@@ -66,6 +66,7 @@ class Ends(Test):
         lines = []
         for output in range(1, 21):
             lines += [f"f{output} = x1\n"] + [f"output {output}: 1 terms, 0 basis\n"] * (output <= 16)
-        with self.case("20 outputs"):
-            ended = run([program("interp"), "anf"], text, stderr=subprocess.STDOUT)
-            self.assertEqual(ended, Ended(0, "".join(lines), ""))
+        for name in ("interp", "steal"):
+            with self.case(f"20 outputs, {name}"):
+                ended = run([program(name), "anf"], text, stderr=subprocess.STDOUT)
+                self.assertEqual(ended, Ended(0, "".join(lines), ""))
