@@ -41,17 +41,19 @@ def alike(rows, outputs):
 
 
 def large_files():
-    """Files on larger tables: the nodes that a whole run needs, what a description is made from, and the mode.
+    """Files on larger tables: the nodes that a whole run needs, what a description is made from, the mode, and by which
+    limits, in bits, it has all workers.
 
     Two of them fill a table of 2^17 slots to the last one, and one needs a slot more. With several outputs of the same
-    values each worker finds them all, so that the workers look for the last slots at the same time.
+    values each worker finds them all, so that the workers look for the last slots at the same time. The first one finds
+    its answer with 2^17 slots also where there may be more, and there it has one worker.
     """
     more = turned(valued(random.Random(6), 6000, 16, 1)[:5800], 1559, 0)
     exact = turned(more, 5525, 0)
-    yield 2**17, (16, 1, "fr", exact), "anf"
-    yield 2**17, (16, 16, "fr", alike(exact, 16)), "anf"
-    yield 2**17 + 1, (16, 16, "fr", alike(more, 16)), "anf"
-    yield 134283, (14, 1, "fr", valued(random.Random(2), 300, 14, 1)), "basis"
+    yield 2**17, (16, 1, "fr", exact), "anf", (17,)
+    yield 2**17, (16, 16, "fr", alike(exact, 16)), "anf", (17, 18)
+    yield 2**17 + 1, (16, 16, "fr", alike(more, 16)), "anf", (17, 18)
+    yield 134283, (14, 1, "fr", valued(random.Random(2), 300, 14, 1)), "basis", (17, 18)
 
 
 class Exact(Test):
@@ -79,7 +81,7 @@ class Exact(Test):
                     self.try_example((EXAMPLES / f"{name}.pla").read_text(), mode)
 
     def test_large_files(self):
-        for nodes, file, mode in large_files():
+        for nodes, file, mode, limits in large_files():
             text, cost = description(*file), cost_of(*file, mode)
             whole = run([program("interp"), mode], text)
             with self.case(f"{nodes} nodes"):
@@ -87,15 +89,16 @@ class Exact(Test):
             for name, bits, workers in itertools.product(PROGRAMS, (17, 18), (2, 4, 8, 16)):
                 with self.case(f"{nodes} nodes, {name} {mode} --nodes {bits} --workers {workers}"):
                     words = [program(name), mode, "--nodes", bits, "--workers", workers]
-                    self.try_workers(due(cost, bits, MOST_TERMS, whole), words, text, workers)
+                    least = workers - 1 if bits in limits else 0
+                    self.try_workers(due(cost, bits, MOST_TERMS, whole), words, text, least)
 
-    def try_workers(self, wanted, words, text, workers):
-        """Again and again, with all workers at one time."""
+    def try_workers(self, wanted, words, text, least):
+        """Again and again, with so many threads at the least."""
         for _ in range(LARGE_TIMES):
             ended, started = faults().count(words, text, Fault("thread", 0, 1, ALL, "pass"))
             self.assertEqual((ended.status, ended.err), (wanted.status, wanted.err))
             self.assertTrue(ended == wanted, "other bytes are printed")
-            self.assertGreaterEqual(started, workers - 1)
+            self.assertGreaterEqual(started, least)
 
     def try_limits(self, cost, whole, mode, text, draws):
         """With each table up to the one that is great enough, and some limits of terms."""

@@ -6,6 +6,7 @@ import resource
 import subprocess
 import tempfile
 
+from bench import make_files
 from bench.make_circuits import CIRCUITS
 from tests.harness import EXAMPLES, Ended, Test, description, installed, program, run
 from tests.made_descriptions import random_cube, valued
@@ -125,8 +126,11 @@ class Circuits(Test):
 class Memory(Test):
     """An address space without room for the table of nodes, and one with room for a table at a time."""
 
-    # Bases that need between 2^18 and 2^19 nodes: a table of 4 MiB is filled in vain.
+    # Bases that need between 2^18 and 2^19 nodes, as is guessed.
     BASES = description(20, 1, "fr", valued(random.Random(1), 400, 20, 1))
+
+    # Cubes that need between 2^19 and 2^20 nodes: tables of 256 KiB and of 4 MiB are filled in vain.
+    MANY_CUBES = make_files.cubes(300, 16, 4, 6, 7)
 
     # Cubes of three literals, so many that hardly a point is left: 2^14 slots suffice.
     CUBES = description(20, 1, "f", [(random_cube(random.Random(seed), 20, 3), "1") for seed in range(300)])
@@ -141,18 +145,20 @@ class Memory(Test):
 
     def test_tables(self):
         with self.case("32 MiB for a table of 16 MiB"):
-            self.assertEqual(self.solve("basis", self.BASES, 20, 32), NO_MEMORY)
-        whole = self.solve("basis", self.BASES)
+            self.assertEqual(self.solve("anf", self.MANY_CUBES, 20, 32), NO_MEMORY)
+        whole = self.solve("anf", self.MANY_CUBES, 20)
         self.assertEqual(whole.status, 0)
         with self.case("48 MiB for tables of 4 and of 16 MiB, one after the other"):
-            self.assertEqual(self.solve("basis", self.BASES, 20, 48), whole)
-        with self.case("100 MiB for smaller tables than the greatest, of 128 MiB"):
-            self.assertEqual(self.solve("basis", self.BASES, 23, 100), whole)
+            self.assertEqual(self.solve("anf", self.MANY_CUBES, 20, 48), whole)
+        whole = self.solve("basis", self.BASES)
+        self.assertEqual(whole.status, 0)
+        with self.case("32 MiB for a smaller table than the greatest, of 128 MiB"):
+            self.assertEqual(self.solve("basis", self.BASES, 23, 32), whole)
 
     def test_little_in_many_words(self):
-        """Cubes that need few nodes take no more room by the default limit than by a small one, whatever is guessed."""
+        """Cubes that need few nodes take little more room by the default limit than by a small one."""
         whole = self.solve("anf", self.CUBES)
         self.assertEqual(whole.status, 0)
-        least = next(limit for limit in range(4, 64) if self.solve("anf", self.CUBES, 16, limit) == whole)
-        with self.case(f"{least} MiB, with which a table of 1 MiB can be made"):
-            self.assertEqual(self.solve("anf", self.CUBES, limit=least), whole)
+        least = next(limit for limit in range(4, 64) if self.solve("anf", self.CUBES, 15, limit) == whole)
+        with self.case(f"a MiB more than {least}, with which a table of 512 KiB can be made"):
+            self.assertEqual(self.solve("anf", self.CUBES, limit=least + 1), whole)

@@ -50,7 +50,7 @@ def small_files():
 
 
 def middle_files():
-    """The same of files on tables of 2^16 or 2^17 slots, of those that outgrow a small table also what starts there."""
+    """The same of files on tables of 2^13 to 2^17 slots, of those that outgrow a small table also what starts there."""
     draws = random.Random(1)
     yield 0, ("one output", "anf", description(16, 1, "fr", valued(draws, 300, 16, 1)))
     yield 1, ("many outputs", "anf", description(12, OUTPUTS, "fr", valued(draws, 64, 12, OUTPUTS)))
@@ -65,7 +65,7 @@ def middle_files():
 
 
 def bases():
-    """Files on tables of 2^16 slots in mode basis: how many elements there are, and what each is, as above."""
+    """Files on tables of at most 2^16 slots in mode basis: how many elements there are, and what each is, as above."""
     draws = random.Random(1)
     yield 48, ("a basis that outgrows a small table", "basis", description(12, 1, "fr", valued(draws, 60, 12, 1)))
     yield 268, ("four bases", "basis", description(12, 4, "fr", valued(draws, 90, 12, 4)))
@@ -77,7 +77,7 @@ def large_files():
     yield "an output for each worker", "anf", description(16, OUTPUTS, "fr", valued(draws, 300, 16, OUTPUTS))
     yield "one output", "anf", description(20, 1, "fr", valued(draws, 2000, 20, 1))
     yield "points that outgrow 2^16 slots", "anf", description(16, 1, "fr", valued(draws, 3000, 16, 1))
-    yield "two bases", "basis", description(12, 2, "fr", valued(draws, 180, 12, 2))
+    yield "two bases", "basis", description(12, 2, "fr", valued(draws, 280, 12, 2))
 
 
 def all_files():
@@ -88,7 +88,7 @@ def all_files():
 
 
 def most_for(elements, workers):
-    """How many workers of so many find so many elements on a table of 2^16 slots."""
+    """How many workers of so many find so many elements on a table that is neither small nor great."""
     return min(workers, elements // 8)
 
 

@@ -104,8 +104,9 @@ fn faults_stop_a_batch(rt: HostRuntime) -> Result<(), Fail> {
     Ok(())
 }
 
-// How often each looks for the other at most.
-const LOOKS: u64 = 100_000_000;
+// How often each looks for the other at most: for some ten seconds, as a thread may begin late on a
+// machine that has other work.
+const LOOKS: u64 = 10_000_000_000;
 
 // It gives two files, and waits before it gives the second.
 #[derive(Drop)]

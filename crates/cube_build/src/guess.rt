@@ -7,11 +7,15 @@ use pla_reader::Pla;
 /// So many rows are compared with each other.
 const SAMPLE: usize = 64;
 
-/// The values of the last inputs are told apart where there are at most 64 times so many.
+/// So many words have a bit for each value that is told apart.
 const VALUE_WORDS: usize = 128;
 
 /// The polynomial of an output needs so many nodes for each node of its cover.
 const NODES_OF_COVER: u64 = 4;
+
+/// And so many where the rows are points whose values hardly repeat, as those of random functions,
+/// or cubes of which no two meet.
+const NODES_OF_MANY: u64 = 6;
 
 /// Where points lie apart, all outputs together need so many nodes for each node of the cover of
 /// the points, and each output as many again.
@@ -23,14 +27,23 @@ const SHARING_ELEMENTS: u64 = 8;
 /// Points lie apart where there are 2^APART_BITS times as many in all.
 const APART_BITS: u32 = 6;
 
+/// What a guess is made from, which tells how far it is followed.
+#[derive(Clone, Copy)]
+pub(crate) enum Trust {
+    /// Points that lie apart share few nodes, so that it is hardly ever far too great.
+    Sure,
+    /// Points that may share many.
+    Points,
+    /// Of cubes, what they say may be short.
+    Cubes,
+}
+
 /// A guess at the nodes of a run.
 #[derive(Clone, Copy)]
 pub(crate) struct Guess {
     /// So many nodes are needed.
     pub(crate) nodes: u64,
-    /// Whether it is hardly ever far too great. Rows that are points and lie apart share few nodes;
-    /// of others, as cubes and tables, what they say may be short.
-    pub(crate) is_sure: bool,
+    pub(crate) trust: Trust,
 }
 
 /// What the rows say of one output, in the mean over all.
@@ -100,8 +113,20 @@ fn lies_in(row: &Row, other: &Row) -> bool {
     row.care & other.care == other.care && row.value & other.care == other.value
 }
 
-/// How many rows lie in none before them, and how many pairs these are in that meet.
-fn count_meeting(rows: &[Row]) -> (u64, u64) {
+/// What the first rows say of all of them.
+#[derive(Clone, Copy)]
+struct First {
+    /// How many they are.
+    rows: u64,
+    /// How many of them lie in none before them.
+    apart: u64,
+    /// How many pairs these are in that meet.
+    pairs: u64,
+}
+
+/// What the first rows say.
+fn look_at_first(pla: &Pla) -> First {
+    let rows = &pla.rows.as_slice()[..pla.rows.len().min(SAMPLE)];
     let mut apart = 0u64;
     let mut pairs = 0u64;
     for (before, row) in rows.iter().enumerate() {
@@ -113,23 +138,25 @@ fn count_meeting(rows: &[Row]) -> (u64, u64) {
             pairs = pairs.saturating_add(u64::from(meet(row, other)));
         }
     }
-    (apart, pairs)
+    First {
+        rows: rows.len() as u64,
+        apart,
+        pairs,
+    }
 }
 
 /// A guess at the nodes of the cover of one output that so many rows name, as the first rows have
 /// it: one for each front of a row, one for each input of two rows that meet, and no more than
 /// there are points. Where most rows lie in others, those that come later are taken to meet no new
 /// ones.
-fn guess_cover(pla: &Pla, named: u64) -> u64 {
+fn guess_cover(pla: &Pla, first: First, named: u64) -> u64 {
     let all = pla.rows.len() as u64;
-    let first = &pla.rows.as_slice()[..pla.rows.len().min(SAMPLE)];
-    let (apart, pairs) = count_meeting(first);
-    let sample = first.len().max(1) as u64;
-    let rows = named.saturating_mul(apart) / sample;
-    let pairs = if apart < sample / 2 {
-        pairs
+    let sample = first.rows.max(1);
+    let rows = named.saturating_mul(first.apart) / sample;
+    let pairs = if first.apart < sample / 2 {
+        first.pairs
     } else {
-        (pairs.saturating_mul(all) / sample).saturating_mul(all) / sample
+        (first.pairs.saturating_mul(all) / sample).saturating_mul(all) / sample
     };
     let fronts = count_fronts(rows, pla.inputs);
     fronts
@@ -143,9 +170,39 @@ fn are_points(pla: &Pla) -> bool {
     pla.rows.as_slice().iter().all(|row| row.care == every)
 }
 
+/// Whether the rows are cubes of which no two meet, as the first ones have it.
+fn are_scattered(pla: &Pla, first: First) -> bool {
+    first.pairs == 0 && !are_points(pla)
+}
+
 /// Whether the rows are points of which few are next to each other.
 fn lie_apart(pla: &Pla) -> bool {
     pla.rows.len() as u64 <= 1 << pla.inputs.saturating_sub(APART_BITS) && are_points(pla)
+}
+
+/// Which values were met of those that are told apart.
+#[derive(Drop)]
+struct Met([u64; VALUE_WORDS]);
+
+impl Met {
+    /// Marks a value as met; whether it was not before.
+    fn add(&mut self, value: usize) -> bool {
+        let place = value % (64 * VALUE_WORDS);
+        let bit = 1u64 << (place % 64);
+        let is_new = self.0[place / 64] & bit == 0;
+        self.0[place / 64] |= bit;
+        is_new
+    }
+}
+
+/// Whether the rows are points, with half as many values as rows or more, by the first outputs.
+fn has_many_values(pla: &Pla) -> bool {
+    let mut met = Met([0; VALUE_WORDS]);
+    let mut values = 0usize;
+    for row in pla.rows.as_slice() {
+        values = values.saturating_add(usize::from(met.add(row.on as usize)));
+    }
+    pla.rows.len() / 2 <= values && are_points(pla)
 }
 
 /// Whether the rows are the points of a function of the last inputs: these have each of their
@@ -155,14 +212,11 @@ fn is_graph(pla: &Pla) -> bool {
     if count > 64 * VALUE_WORDS || count & count.saturating_sub(1) != 0 {
         return false;
     }
-    let mut met = [0u64; VALUE_WORDS];
+    let mut met = Met([0; VALUE_WORDS]);
     for row in pla.rows.as_slice() {
-        let value = row.value as usize % count;
-        let bit = 1u64 << (value % 64);
-        if met[value / 64] & bit != 0 {
+        if !met.add(row.value as usize % count) {
             return false;
         }
-        met[value / 64] |= bit;
     }
     are_points(pla)
 }
@@ -177,22 +231,37 @@ fn guess_elements(pla: &Pla, care_rows: u64) -> u64 {
     }
 }
 
+/// How many polynomials need as many nodes as so many elements of a basis. Where points lie apart,
+/// the elements share more of their nodes the more there are: what they need grows with the root of
+/// their number.
+fn count_shares(elements: u64, are_apart: bool) -> u64 {
+    let shares = elements.div_ceil(SHARING_ELEMENTS);
+    if are_apart {
+        shares.min(elements.saturating_add(elements / 2).isqrt())
+    } else {
+        shares
+    }
+}
+
 /// A guess at the nodes of a run that finds the polynomials of all outputs, and their bases too, if
 /// these are asked for.
 pub(crate) fn guess_run(pla: &Pla, is_basis: bool) -> Guess {
     let named = count_named(pla);
-    let cover = guess_cover(pla, named.rows);
+    let first = look_at_first(pla);
+    let cover = guess_cover(pla, first, named.rows);
     let outputs = u64::from(pla.outputs);
     let are_apart = lie_apart(pla);
     let polynomials = if are_apart {
         NODES_APART * (outputs + 1)
+    } else if has_many_values(pla) || are_scattered(pla, first) {
+        NODES_OF_MANY * outputs
     } else {
         NODES_OF_COVER * outputs
     };
     let shares = if is_basis {
         let bases = if named.is_shared { 1 } else { outputs };
         let elements = guess_elements(pla, named.care_rows);
-        elements.div_ceil(SHARING_ELEMENTS).saturating_mul(bases)
+        count_shares(elements, are_apart).saturating_mul(bases)
     } else {
         0
     };
@@ -201,6 +270,12 @@ pub(crate) fn guess_run(pla: &Pla, is_basis: bool) -> Guess {
         .saturating_add(polynomials);
     Guess {
         nodes: cover.saturating_mul(covers),
-        is_sure: are_apart && !is_graph(pla),
+        trust: if are_apart && !is_graph(pla) {
+            Trust::Sure
+        } else if are_points(pla) {
+            Trust::Points
+        } else {
+            Trust::Cubes
+        },
     }
 }

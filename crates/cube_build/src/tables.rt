@@ -2,15 +2,17 @@
 //! where nothing is guessed. A wrong guess costs time or memory, and changes no answer.
 ghost use Rattle.std.specs.Prelude.{◌≡◌, ◌⊎◌, ◌<◌, ◌≤◌};
 ghost use Rattle.lattice.specs.declared.limits.TheConstants.{MIN_BITS, MAX_BITS};
-ghost use Rattle.cube_build.specs.declared.tables.TheConstants.{MIDDLE_BITS, SMALL_BITS};
-ghost use Rattle.cube_build.specs.declared.tables.TheConstants.{TRIAL_BITS, LIGHT_BITS};
+ghost use Rattle.cube_build.specs.declared.tables.TheConstants.{LEAST_BITS, SMALL_BITS};
 
-use crate::guess::{Guess, guess_run};
+use crate::guess::{Guess, Trust, guess_run};
 use pla_reader::Pla;
 
 /// A small table has 2^SMALL_BITS slots. The greater a table is, the longer it takes to make, and
 /// the slower it is where it does not fit the processor's own memory.
 pub const SMALL_BITS: u32 = 12;
+
+/// A guess is followed to tables of 2^LEAST_BITS slots, and to no smaller ones.
+const LEAST_BITS: u32 = 13;
 
 /// A table of 2^TRIAL_BITS slots is filled in two milliseconds, and a run for which it does not
 /// suffice may take one of 2^MANY_BITS: with this a process takes no more than four times the
@@ -32,11 +34,11 @@ const MANY_BITS: u32 = 18;
 /// Tables of at most so many slots are made at once where a run may need them.
 const MOST_AT_ONCE: u32 = 19;
 
-/// Where nothing is guessed, the tables after small ones have 2^STEP_BITS times as many slots.
+/// Small tables that were full are followed by ones of 2^STEP_BITS times as many slots.
 const STEP_BITS: u32 = 4;
 
-/// Other tables that were full are followed by ones of 2^NEAR_BITS times as many slots. More are
-/// needed than they had, so twice as many: the next ones have at most four times what is needed.
+/// Other tables are followed by ones of 2^NEAR_BITS times as many slots. More are needed than they
+/// had, so twice as many: the next ones have at most four times what is needed.
 const NEAR_BITS: u32 = 3;
 
 /// What a run asks of its tables, from which their sizes are guessed.
@@ -88,74 +90,78 @@ impl Demand<'_> {
         ensures within { (MIN_BITS ≤ result) × (result ≤ most) }
         ensures least { (SMALL_BITS ≤ result) ⊎ (result ≡ most) }
     {
-        if self.is_small() {
-            most.min(SMALL_BITS)
+        let bits = if self.is_small() {
+            SMALL_BITS
         } else {
             self.first_guessed(self.guess(), most)
-        }
+        };
+        bits.min(most)
+    }
+
+    /// Whether a run may well need a light table, which suffices by the guess, and so begins with
+    /// one: from few rows the guess is too small as easily as too great.
+    fn may_be_light(&self, guess: Guess) -> bool {
+        !self.is_basis
+            && self.has_few_rows()
+            && 1 << TRIAL_BITS < guess.nodes
+            && guess.nodes <= 1 << LIGHT_BITS
     }
 
     /// The size of the tables that a guess begins with, where the last ones have 2^most slots: what
     /// suffices by it, if it is sure, and else none that have more than four times the memory that
-    /// the run may need.
+    /// the run may need. Of cubes, which need fewer than are guessed as easily as more, half are
+    /// tried.
     fn first_guessed(&self, guess: Guess, most: u32) -> u32
-        ensures most { result ≤ most }
-        ensures least { (TRIAL_BITS ≤ result) ⊎ (result ≡ most) }
+        ensures { LEAST_BITS ≤ result }
     {
-        let enough = size_for(guess.nodes, most);
-        if guess.is_sure {
-            enough
-        } else if !self.is_basis && self.has_few_rows() && is_light(guess.nodes) {
-            most.min(LIGHT_BITS)
-        } else if enough <= MIDDLE_BITS {
-            enough
-        } else if enough <= MANY_BITS {
-            TRIAL_BITS
-        } else {
-            MIDDLE_BITS
+        let bits = bits_of(guess.nodes);
+        let enough = size_for(bits, most);
+        let at_most = enough.min(most);
+        match guess.trust {
+            Trust::Sure => enough.max(bits),
+            _ if self.may_be_light(guess) => LIGHT_BITS,
+            // Where nearly all slots are needed, the last ones take long to find.
+            Trust::Points if bits <= LIGHT_BITS => {
+                let spare = guess.nodes / 16;
+                bits_of(guess.nodes.saturating_add(spare)).clamp(LEAST_BITS, MIDDLE_BITS)
+            }
+            _ if MIDDLE_BITS < at_most && at_most <= MANY_BITS => TRIAL_BITS,
+            _ => (enough - 1).clamp(LEAST_BITS, MIDDLE_BITS),
         }
     }
 
     /// The size of the tables that are tried after those of 2^bits slots, where the last ones have
-    /// 2^most: those that the guess begins with, and else a step more, or what suffices by the
-    /// guess where that is more than a step.
+    /// 2^most: a step more, or what suffices by the guess where that is more than a step. From few
+    /// rows too little is known for that, unless the guess is sure.
     pub fn next_size(&self, bits: u32, most: u32) -> u32
         requires { (bits < most) × (most ≤ MAX_BITS) }
         ensures { (bits < result) × (result ≤ most) }
     {
         let guess = self.guess();
-        let first = self.first_guessed(guess, most);
-        let enough = if guess.is_sure {
-            bits_of(guess.nodes)
-        } else {
-            size_for(guess.nodes, most)
+        let guessed = bits_of(guess.nodes);
+        let step = next_bits(bits, most);
+        let next = match guess.trust {
+            Trust::Sure => step.max(guessed),
+            _ if self.is_small() => step,
+            // Points seldom need more than is guessed.
+            Trust::Points if bits < guessed && guessed <= LIGHT_BITS => guessed,
+            _ => step.max(size_for(guessed, most)),
         };
-        if bits < first {
-            first
-        } else {
-            (bits + NEAR_BITS).max(enough).min(most)
-        }
+        next.min(most)
     }
 }
 
-/// The size of the tables that suffice for so many nodes, where the last ones have 2^most slots.
-fn size_for(nodes: u64, most: u32) -> u32
-    ensures most { result ≤ most }
-    ensures least { (MIDDLE_BITS ≤ result) ⊎ (result ≡ most) }
+/// The size of the tables that suffice for 2^bits nodes, where the last ones have 2^most slots.
+fn size_for(bits: u32, most: u32) -> u32
+    ensures { LEAST_BITS ≤ result }
 {
-    if nodes <= 1 << MIDDLE_BITS {
-        most.min(MIDDLE_BITS)
-    } else if nodes <= 1 << MANY_BITS || most > MOST_AT_ONCE {
-        most.min(MANY_BITS)
+    if bits <= MIDDLE_BITS {
+        bits.max(LEAST_BITS)
+    } else if bits <= MANY_BITS || MOST_AT_ONCE < bits && MOST_AT_ONCE < most {
+        MANY_BITS
     } else {
-        most
+        most.clamp(MIDDLE_BITS, MOST_AT_ONCE)
     }
-}
-
-/// Whether so many nodes fit a light table, and take more than half of a middle one. A guess from
-/// few rows is too small as easily as too great.
-fn is_light(nodes: u64) -> bool {
-    1 << (MIDDLE_BITS - 1) < nodes && nodes <= 1 << LIGHT_BITS
 }
 
 /// The bits of the least table that suffices for so many nodes.
@@ -164,7 +170,7 @@ fn bits_of(nodes: u64) -> u32 {
 }
 
 /// The size of the tables that are tried after those of 2^bits slots, where nothing is guessed and
-/// the last ones have 2^most.
+/// the last ones have 2^most: a step more.
 pub fn next_bits(bits: u32, most: u32) -> u32
     requires { bits < most }
     ensures { (bits < result) × (result ≤ most) }

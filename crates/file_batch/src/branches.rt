@@ -26,8 +26,9 @@ use std::alloc::Global;
 use std::sync::Wait;
 use std::thread::{Threads, join_mut};
 
-// How often a branch looks for the other at most, before it goes on without it.
-const MOST_LOOKS: u64 = 100_000_000;
+// How often a branch looks for the other at most, before it goes on without it: for about a second,
+// as a thread may begin late on a machine that has other work.
+const MOST_LOOKS: u64 = 1_000_000_000;
 
 // What became of the stream in the branch that reads.
 #[derive(Clone, Copy, Debug, Drop, PartialEq, Eq)]

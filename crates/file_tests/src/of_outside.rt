@@ -236,7 +236,7 @@ fn a_pipe_is_read_to_its_end_and_not_again(rt: HostRuntime) -> Result<(), Fail> 
 // comes.
 #[test]
 fn branches_meet(rt: HostRuntime) {
-    let gate = Rendezvous::waiting(100_000_000);
+    let gate = Rendezvous::waiting(10_000_000_000);
     join(&rt, || gate.enter(0), || gate.enter(1));
     assert!(rt; gate.met());
     let alone = Rendezvous::waiting(10);

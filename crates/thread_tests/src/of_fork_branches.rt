@@ -16,8 +16,9 @@ use std::test::Fail;
 use std::thread::Threads;
 use unique_table::Shared;
 
-// How often a job or a branch looks whether the others have begun.
-const LOOKS: u64 = 100_000_000;
+// How often a job or a branch looks whether the others have begun: for some ten seconds, as one may
+// begin late on a machine that has other work.
+const LOOKS: u64 = 10_000_000_000;
 
 // Jobs that note their calls. The odd ones give the handle of the family with the monomial 1 alone,
 // and the even ones that of the empty family. The first ones, as many as `waiting` says, wait until

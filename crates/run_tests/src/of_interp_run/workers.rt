@@ -40,7 +40,7 @@ fn branches_meet(rt: HostRuntime) -> Result<(), Fail> {
         (parity, "f1 = x1 + x2 + x3\n"),
         (one_cover, "f1 = x1 + x2 + x3\n"),
     ] {
-        let gate = Rendezvous::waiting(100_000_000);
+        let gate = Rendezvous::waiting(10_000_000_000);
         check_at(
             &rt,
             rt.alloc(),
