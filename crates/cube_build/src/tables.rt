@@ -98,6 +98,19 @@ impl Demand<'_> {
         bits.min(most)
     }
 
+    /// The size of the tables that a run begins with where nothing is guessed, and the last ones
+    /// have 2^most slots: small ones where all rows fit them, and else ones of 2^MIDDLE_BITS.
+    pub fn first_bits(&self, most: u32) -> u32
+        requires { MIN_BITS ≤ most }
+        ensures { (MIN_BITS ≤ result) × (result ≤ most) }
+    {
+        if self.is_small() {
+            most.min(SMALL_BITS)
+        } else {
+            most.min(MIDDLE_BITS)
+        }
+    }
+
     /// Whether a run may well need a light table, which suffices by the guess, and so begins with
     /// one: from few rows the guess is too small as easily as too great.
     fn may_be_light(&self, guess: Guess) -> bool {
@@ -126,7 +139,8 @@ impl Demand<'_> {
                 bits_of(guess.nodes.saturating_add(spare)).clamp(LEAST_BITS, MIDDLE_BITS)
             }
             _ if MIDDLE_BITS < at_most && at_most <= MANY_BITS => TRIAL_BITS,
-            _ => (enough - 1).clamp(LEAST_BITS, MIDDLE_BITS),
+            _ if bits <= MIDDLE_BITS => (enough - 1).max(LEAST_BITS),
+            _ => MIDDLE_BITS,
         }
     }
 

@@ -12,7 +12,7 @@ use crate::answering::answer_queries;
 use crate::plans::{Sought, plan_for};
 use crate::queries::Query;
 use computed_cache::CachedPass;
-use cube_build::{Demand, MIDDLE_BITS, next_bits};
+use cube_build::{Demand, next_bits};
 use lattice::MonoLists;
 use node_store::Store;
 use pla_reader::Pla;
@@ -100,9 +100,8 @@ pub fn reduce(
         → (query_nodes (description p.now) queries.now ≤ 2 ^ bits)
         × (limit < answer_terms (description p.now) queries.now) }
 {
-    // However many nodes are guessed: for the points where a polynomial is 1
-    // the guess is often wrong.
-    let mut tried = demand_of(p, queries).first_size(bits.min(MIDDLE_BITS));
+    // No guess is followed: for the points where a polynomial is 1 it is often wrong.
+    let mut tried = demand_of(p, queries).first_bits(bits);
     while tried < bits {
         match reduce_on(alloc, tried, p, queries, limit) {
             Err(TermsRefusal::Full) => tried = next_bits(tried, bits),
