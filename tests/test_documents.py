@@ -1,5 +1,5 @@
-"""The lines of README.md, docs/EXAMPLES.md and docs/USES.md print what stands there, and docs/LIBRARY.md shows callers as
-they are."""
+"""The lines of README.md, docs/EXAMPLES.md and docs/USES.md print what stands there, and docs/LIBRARY.md and docs/READING.md
+show sources as they are."""
 
 import os
 import pathlib
@@ -172,14 +172,30 @@ class Lines(Test):
                     self.assertTrue(stands or len(printed) == 1 and f"`{printed[0]}`" in document, ended)
 
 
-class Library(Test):
-    """The callers that docs/LIBRARY.md shows are those of the crate."""
+class Sources(Test):
+    """The sources that docs/LIBRARY.md and docs/READING.md show are those of the crates."""
 
-    def test_callers(self):
+    def test_library(self):
         document = (TOP / "docs/LIBRARY.md").read_text()
-        for name in ("listed", "whole", "counted"):
-            with self.case(f"{name}.rt"):
-                source = (TOP / f"crates/uses_library/src/{name}.rt").read_text()
-                lines = source.splitlines(keepends=True)
+        callers = [f"crates/uses_library/src/{name}.rt" for name in ("listed", "whole", "counted")]
+        for name in (*callers, "crates/node_store/src/any_family.rt"):
+            with self.case(name):
+                lines = (TOP / name).read_text().splitlines(keepends=True)
                 shown = "".join(f"    {line}" if line.strip() else line for line in lines)
                 self.assertTrue(shown in document, "not as it stands in the crate")
+
+    def test_reading(self):
+        """Each part of a block stands in a file that the page names, line by line below each other; of lines that bring
+        names each by itself."""
+        document = (TOP / "docs/READING.md").read_text()
+        named = {TOP / name for name in re.findall(r"`(crates/[\w/.]+\.(?:rt|antt))`", document)}
+        named.update((TOP / "crates/cube_sets/must-fail").glob("*.edit"))
+        texts = [path.read_text() for path in sorted(named) if path.is_file()]
+        sources = ["\n".join(map(str.strip, text.splitlines())) for text in texts]
+        for block in re.findall(r"(?m)(?:^    .*\n)+", document):
+            text = "\n".join(map(str.strip, block.splitlines()))
+            if text.startswith("logic="):
+                continue
+            for part in text.splitlines() if text.startswith("ghost use") else [text]:
+                with self.case(part):
+                    self.assertTrue(any(part in source for source in sources), "not as it stands in a file")
