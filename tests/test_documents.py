@@ -1,14 +1,19 @@
-"""The lines of README.md, docs/EXAMPLES.md and docs/USES.md print what stands there, and docs/LIBRARY.md and docs/READING.md
-show sources as they are."""
+"""The lines of README.md, docs/EXAMPLES.md and docs/USES.md print what stands there, the refusals of docs/FORMAT.md are as its
+examples say, and docs/LIBRARY.md and docs/READING.md show sources as they are."""
 
 import os
 import pathlib
 import re
 import shutil
+import sys
 import tempfile
 import unittest
 
-from tests.harness import TOP, Test, program, run
+from tests.harness import TOP, Ended, Test, program, run
+
+sys.path.insert(0, str(TOP / "tools"))
+
+from leastanf.descriptions import CAUSES
 
 # What the blocks of lines in docs/USES.md print, in order: a part of the block, and a part of what it prints.
 PRINTS = [
@@ -78,8 +83,11 @@ SHOWN = {
     ),
     "docs/EXAMPLES.md": (
         "./interp anf < examples/seven_segments.pla",
+        "./interp anf < examples/full_adder.pla",
         "./interp basis < examples/half_adder.pla",
         "{ cat examples/half_adder.pla; ./interp basis < examples/half_adder.pla; } | ./interp check",
+        "{ cat examples/half_adder.pla; ./interp basis < examples/half_adder.pla | head -n 2; } | ./interp check "
+        "|| echo 'status 1'",
         "./interp gen",
         "./interp anf --order $(cat examples/decoder.order) < examples/decoder.pla",
         "./nfq reduce < examples/relations.pla",
@@ -170,6 +178,30 @@ class Lines(Test):
                     printed = ended.out.splitlines()
                     stands = "".join(f"    {row}\n" for row in printed) in document
                     self.assertTrue(stands or len(printed) == 1 and f"`{printed[0]}`" in document, ended)
+
+
+    def test_each_row_is_shown(self):
+        """Each indented row of docs/EXAMPLES.md is a line above, or is printed by one, or stands in a file of examples/."""
+        known = {"...", *SHOWN["docs/EXAMPLES.md"]}
+        for path in sorted((TOP / "examples").iterdir()):
+            known.update(path.read_text().splitlines())
+        for line in SHOWN["docs/EXAMPLES.md"]:
+            known.update(self.shell(line).out.splitlines())
+        rows = re.findall(r"(?m)^    (.+)$", (TOP / "docs/EXAMPLES.md").read_text())
+        for row in rows:
+            with self.case(row):
+                self.assertIn(row, known)
+
+    def test_refusals(self):
+        """Each example of a refusal in docs/FORMAT.md is refused by the message beside it."""
+        row = r"(?m)^\| (\w+) \| .* \| `(\.i .*?/)`(.*?) \| `(interp: line .*?)` \|"
+        rows = re.findall(row, (TOP / "docs/FORMAT.md").read_text())
+        self.assertEqual({cause for cause, *_ in rows}, {*CAUSES})
+        for cause, example, more, message in rows:
+            with self.case(cause):
+                text = example.replace("/", "\n")
+                text += {"": "", " and a byte 0": "\0", " and 8,193 rows `1 1`": 8193 * "1 1\n"}[more]
+                self.assertEqual(run([program("interp"), "anf"], text), Ended(3, "", f"{message}\n"))
 
 
 class Sources(Test):
