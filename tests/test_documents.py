@@ -1,5 +1,5 @@
-"""The lines of README.md, docs/EXAMPLES.md and docs/USES.md print what stands there, the refusals of docs/FORMAT.md are as its
-examples say, and docs/LIBRARY.md and docs/READING.md show sources as they are."""
+"""The lines of README.md, docs/EXAMPLES.md and docs/USES.md print what stands there, those of docs/TOOLS.md end well, the
+refusals of docs/FORMAT.md are as its examples say, and docs/LIBRARY.md and docs/READING.md show sources as they are."""
 
 import os
 import pathlib
@@ -179,6 +179,16 @@ class Lines(Test):
                     stands = "".join(f"    {row}\n" for row in printed) in document
                     self.assertTrue(stands or len(printed) == 1 and f"`{printed[0]}`" in document, ended)
 
+
+    def test_tools(self):
+        """The lines of docs/TOOLS.md end well, and print something."""
+        lines = [line for block in blocks((TOP / "docs/TOOLS.md").read_text()) for line in block.splitlines()]
+        self.assertTrue(lines)
+        for line in lines:
+            with self.case(line):
+                ended = self.shell(line)
+                self.assertEqual(ended.status, 0, ended)
+                self.assertTrue(ended.out, ended)
 
     def test_each_row_is_shown(self):
         """Each indented row of docs/EXAMPLES.md is a line above, or is printed by one, or stands in a file of examples/."""
