@@ -2,9 +2,10 @@
 """Checks that what is said of the crates agrees, and fails with a message for each place where it does not.
 
 The comment above a crate's line in crates.txt is the documentation that its root file begins with, the line names those
-libraries alone that the crate uses, and each crate has a row in the tables of docs/ARCHITECTURE.md and docs/PROVED.md. Each crate
-that is no crate of tests has a page, README.md in its folder, which begins with its name and the same line, says where its tests
-are, and names files that are there.
+libraries alone that the crate uses, and each crate has a row in the tables of docs/ARCHITECTURE.md and docs/PROVED.md. The row
+of the first says what the crate stands on: crates of its line, and among them each that no other one of the line stands on. Each
+crate that is no crate of tests has a page, README.md in its folder, which begins with its name and the same line, says where its
+tests are, and names files that are there.
 """
 
 import pathlib
@@ -61,7 +62,23 @@ def page_faults(name, crate):
             yield f"has a page that names {file}, which is not there"
 
 
+def below(name, lines):
+    """All crates that a crate stands on, by those that each line names."""
+    return set(lines[name]).union(*(below(library, lines) for library in lines[name]))
+
+
+def row_faults(name, table, lines):
+    """What is wrong with what the row of a crate says that it stands on."""
+    row = re.search(rf"^\| `{name}` \| .* \| (.*) \|$", table, re.M)
+    said = set(re.findall(r"`(\w+)`", row[1])) if row else set()
+    least = {it for it in lines[name] if not any(it in below(other, lines) for other in lines[name])}
+    yield from (f"docs/ARCHITECTURE.md: {name} stands on {it} too" for it in sorted(least - said))
+    yield from (f"docs/ARCHITECTURE.md: {name} does not stand on {it}" for it in sorted(said - {*lines[name]}))
+
+
 def faults():
+    lines = {name: libraries for name, _, libraries in crates()}
+    lines = {name: [it for it in libraries if it in lines] for name, libraries in lines.items()}
     tables = {name: (TOP / "docs" / name).read_text() for name in ("ARCHITECTURE.md", "PROVED.md")}
     for name, comment, libraries in crates():
         crate = TOP / "crates" / name
@@ -72,6 +89,7 @@ def faults():
             yield f"crates.txt: {name} is not said to be what its documentation says: {promise(crate)}"
         if not OF_TESTS.match(name):
             yield from (f"{name} {fault}" for fault in page_faults(name, crate))
+        yield from row_faults(name, tables["ARCHITECTURE.md"], lines)
         for page, table in tables.items():
             if f"| `{name}` |" not in table and not (page == "PROVED.md" and OF_TESTS.match(name)):
                 yield f"docs/{page}: {name} has no row"
