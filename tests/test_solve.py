@@ -738,6 +738,21 @@ class Files(Solving):
         self.assertEqual(self.solve(SMALL, "--text").stdout, "".join([*lines[:2], lines[4], *lines[2:4], *lines[5:]]))
         self.assertIn('"inputs"', self.solve(XOR, "--as", "json").stdout)
 
+    def test_chosen_outputs_keep_their_names(self):
+        """An output that has a number for its name has that of its place in the file, whichever outputs are chosen."""
+        text = ".i 2\n.o 3\n.ob a*b c-d e=f\n.type f\n1- 100\n01 010\n11 001\n"
+        lines = {"f1": "f1 = x1\n", "c-d": "c-d = x1*x2 + x2\n", "f3": "f3 = x1*x2\n"}
+        for chosen in ("f3", "c-d,f1", "f3,f1", "f3,c-d,f1"):
+            wanted = "".join(lines[name] for name in chosen.split(","))
+            for more in ([], ["--order=each"], ["--polarity=x1"]):
+                with self.case((chosen, more)):
+                    ended = self.solve(text, "--outputs", chosen, *more)
+                    self.assertEqual(ended.returncode, 0, ended.stderr)
+                    if more == ["--polarity=x1"]:
+                        self.assertEqual(re.findall("^.*(?= = )", ended.stdout, re.MULTILINE), chosen.split(","))
+                    else:
+                        self.assertEqual(ended.stdout, wanted)
+
     def test_same_text(self):
         """Of each example in the modes anf and basis, the text that the program prints."""
         for path in sorted((TOP / "examples").glob("*.pla")):

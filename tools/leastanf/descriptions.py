@@ -100,6 +100,7 @@ class Description:
     kind                the type: f, fd, fr or fdr (esop too, where the reader was told to take it)
     typed               whether the file has a line .type
     given_input_names   the names of .ilb, or None; given_output_names, those of .ob
+    kept_output_names   the names that its outputs have in a description of which it has some, or None
     rows                a list of Row; input symbols are of 0 1 - 2, output symbols of 0 1 - ~ 2 4
     forms               of each form that was brought into shape (a key of FORMS) the number of its first line
     warnings            lines on what may be meant otherwise
@@ -108,7 +109,7 @@ class Description:
     def __init__(self, path, inputs=None, outputs=None, kind="fd"):
         self.path, self.inputs, self.outputs, self.kind = path, inputs, outputs, kind
         self.typed = False
-        self.given_input_names = self.given_output_names = None
+        self.given_input_names = self.given_output_names = self.kept_output_names = None
         self.rows = []
         self.forms = {}
         self.warnings = []
@@ -132,8 +133,8 @@ class Description:
 
     @property
     def shown_output_names(self):
-        """The names that solve prints for the outputs, as for the inputs."""
-        return shown_names(self.given_output_names, "f", self.outputs)
+        """The names that solve prints for the outputs, as for the inputs; some of a description keep theirs."""
+        return self.kept_output_names or shown_names(self.given_output_names, "f", self.outputs)
 
     def set_of(self, symbol):
         """The set into which an output symbol puts a row: on, off, free, or None where it says nothing."""

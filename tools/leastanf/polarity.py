@@ -12,6 +12,7 @@ def flipped(description, places):
         return description
     part = descriptions.Description(description.path, description.inputs, description.outputs, description.kind)
     part.given_input_names, part.given_output_names = description.given_input_names, description.given_output_names
+    part.kept_output_names = description.kept_output_names
     part.typed, part.forms = description.typed, description.forms
     for row in description.rows:
         symbols = "".join(

@@ -292,7 +292,8 @@ def chosen(description, outputs):
         return description
     part = descriptions.Description(description.path, description.inputs, len(outputs), description.kind)
     part.given_input_names, part.typed = description.given_input_names, description.typed
-    part.given_output_names = [description.shown_output_names[place] for place in outputs]
+    shown = description.shown_output_names
+    part.given_output_names = part.kept_output_names = [shown[place] for place in outputs]
     saying = descriptions.SETS[description.kind]
     for row in description.rows:
         symbols = "".join(row.outputs[place] for place in outputs)
