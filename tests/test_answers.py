@@ -194,7 +194,7 @@ class Reading(Test):
 
     def test_aliases(self):
         """Another name is taken for an input or an output, but for one that is a name itself."""
-        found = answers.parse("f1 = x1 + x2\n", ["a-b", "x1"], ["c-d"], {"x2": "a-b", "f1": "c-d", "x1": "a-b"})
+        found = answers.parse("f1 = x1 + x2\n", ["a-b", "x1"], ["c-d"], {"x2": "a-b", "x1": "a-b"}, {"f1": "c-d"})
         self.assertEqual(found.outputs[0].name, "c-d")
         self.assertEqual(found.outputs[0].polynomial.monomials, (("x1",), ("a-b",)))
 
@@ -294,6 +294,20 @@ class AnswerAs(Test):
         ended = self.answer_as(["json", file], printed)
         self.assertEqual(ended.status, 0, ended)
         self.assertIn('"polynomial": [["a-b", "c"]]', ended.out)
+
+    def test_names_of_inputs_and_outputs_are_apart(self):
+        """The number of an output is no input that is named like the output, nor is that of an input an output."""
+        file = self.here / "f.pla"
+        cases = [
+            (["a", "b"], ["a", "b-c"], "f1 = f1*b\nf2 = b\n", "'f1' is no input of the file"),
+            (["a-b", "c"], ["c", "d"], "x2 = a-b*c\nd = c\n", "'x2' is no output of the file"),
+        ]
+        for names, results, text, said in cases:
+            file.write_text(description(2, 2, "f", [("11", "10"), ("-1", "01")], names=names, results=results))
+            with self.case(text):
+                ended = self.answer_as(["json", file], text)
+                self.assertEqual((ended.status, ended.out), (3, ""))
+                self.assertIn(f"answer line 1: {said}", ended.err)
 
     def test_statuses(self):
         file = EXAMPLES / "full_adder.pla"

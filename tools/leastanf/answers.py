@@ -189,19 +189,19 @@ class Reader:
         return found
 
 
-def parse(text, inputs, outputs, aliases=None, ordered=False, whole=False):
+def parse(text, inputs, outputs, input_aliases=None, output_aliases=None, ordered=False, whole=False):
     """The answer that a text is, by the names of the inputs in its order and of the outputs, or else an AnswerError.
 
     An output may be missing, or stand in several lines, as queries ask for it, but where the answer has to be `whole`:
     there each output stands once, in this order. Of an empty text it is not known what it answers, so it is refused:
-    `parse_ideal` takes it for a basis without elements. `aliases` are other names for some inputs and outputs, and
-    `ordered` says whether factors and terms have to stand in the order of the inputs.
+    `parse_ideal` takes it for a basis without elements. `input_aliases` and `output_aliases` are other names for some
+    of them, and `ordered` says whether factors and terms have to stand in the order of the inputs.
     """
-    reader = Reader(inputs, aliases, text, ordered)
+    reader = Reader(inputs, input_aliases, text, ordered)
     found, ideal = [], []
     number = 0
     for number, left, right in lines_of(text):
-        name = left if left in outputs else (aliases or {}).get(left, left)
+        name = left if left in outputs else (output_aliases or {}).get(left, left)
         if name != "0" and name not in outputs:
             raise AnswerError(number, f"{left[:60]!r} is no output of the file")
         if name != "0" and ideal:

@@ -69,16 +69,15 @@ def read_words(line):
 
 def read_answer(description, options):
     """The answer on standard input."""
-    inputs, outputs = description.shown_input_names, description.shown_output_names
+    inputs = description.shown_input_names
+    of_inputs = dict(zip(description.input_names, inputs))
+    of_outputs = dict(zip(description.output_names, description.shown_output_names))
     inputs = [inputs[place] for place in words.order(description, options.order) or range(description.inputs)]
-    aliases = dict(zip(description.input_names, description.shown_input_names))
-    if options.ideal:
-        return answers.parse_ideal(words.standard_input(), inputs, aliases, ordered=True)
-    # (an output may have the name by which the program prints an input)
-    named = zip(description.output_names, outputs)
-    aliases.update((printed, shown) for printed, shown in named if printed != shown)
     outputs = words.chosen(description, options.outputs).shown_output_names
-    return answers.parse(words.standard_input(), inputs, outputs, aliases, ordered=True, whole=not options.queries)
+    text = words.standard_input()
+    if options.ideal:
+        return answers.parse_ideal(text, inputs, of_inputs, ordered=True)
+    return answers.parse(text, inputs, outputs, of_inputs, of_outputs, ordered=True, whole=not options.queries)
 
 
 @command(NAME)
