@@ -613,6 +613,28 @@ class Agrees(Test):
                 ended = run([*AGREES, file], "\n".join([less, *rest, ""]))
                 self.assertEqual(ended.status, 1, ended)
 
+    def test_numbers_of_outputs(self):
+        """With --outputs a number is that of the output in the file, and in a script that in the list of these; where
+        an output is called by the number of another one, no number is taken."""
+        cases = [
+            (None, "f2", "f1 = x2\n", 3, ""),
+            (None, "f2", "f2 = x2\n", 0, "f2: yes\n"),
+            (None, "f2,f1", "f1 = x1\nf2 = x2\n", 0, "f2: yes\nf1: yes\n"),
+            (None, "f2", "ring r = 2, (x1, x2), lp;\npoly f1 = x2;\n", 0, "f2: yes\n"),
+            (["a-b", "c-d"], "c-d", "f1 = x2\n", 3, ""),
+            (["a-b", "c-d"], "c-d", "f2 = x2\n", 0, "c-d: yes\n"),
+            (["a*b", "c-d"], "c-d,f1", "f1 = x1\nf2 = x2\n", 0, "c-d: yes\nf1: yes\n"),
+            (["f2", "b"], None, "f1 = x1\n", 3, ""),
+            (["f2", "b"], "b", "f2 = x2\n", 3, ""),
+        ]
+        with tempfile.TemporaryDirectory() as folder:
+            file = pathlib.Path(folder) / "f.pla"
+            for names, chosen, text, status, out in cases:
+                file.write_text(description(2, 2, "f", [("1-", "10"), ("-1", "01")], results=names))
+                with self.case((names, chosen, text)):
+                    ended = run([*AGREES, file, *([] if chosen is None else ["--outputs", chosen])], text)
+                    self.assertEqual((ended.status, ended.out), (status, out), ended)
+
     def test_not_least(self):
         """A polynomial that takes every given value agrees, though it is not the least one."""
         self.assertEqual(run([*AGREES, EXAMPLES / "half_adder.pla"], "graph = 1 + sum*carry\n").status, 0)

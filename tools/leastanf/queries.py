@@ -20,8 +20,6 @@ ONE = frozenset((0,))
 _TOKEN = re.compile(r"\s*(\*\*|1'b[01]|[01]_R\b|[0-9]+|[-+^*&|~!()]|\S)")
 # Where the text has none of these signs, it is a sum of products of factors.
 _SIGNS = re.compile(r"[-^&|!()']|~\s|\*\s*\*")
-# A name that has the form in which inputs are called by their numbers.
-_NUMBERED = re.compile(r"x[\[(_<]?([0-9]+)[\])>]?")
 
 
 class QueryError(Exception):
@@ -72,9 +70,9 @@ class Names:
         }
 
 
-def has_other_number(place, name):
-    """Whether the name of an input is x with a number that is not that of its place, as x0 is of the first one."""
-    found = _NUMBERED.fullmatch(name)
+def has_other_number(place, name, letters="x"):
+    """Whether a name is one of some letters with a number that is not that of its place, as x0 is of the first input."""
+    found = re.fullmatch(rf"[{letters}][\[(_<]?([0-9]+)[\])>]?", name)
     return found is not None and found[1] != str(place + 1)
 
 

@@ -3,8 +3,9 @@
 A line gives a polynomial to an output, by its name or as `poly f2 = ..` of output 2, or it gives elements of a basis:
 `0 = ..`, `ideal I2 = .., ..` of output 2, `G[3]=..`, or polynomials alone, as `print` writes them, of the output that
 was named last. In a script, which makes a ring, f2 is output 2 too, whatever the outputs are called; in another text a
-line `NAME = ..` is that of the output, whatever else these programs begin so. Of a list of elements the brackets and
-the word before them are left out, and so are the marks o1, o2 of Macaulay2. Elements with a power that are 0 where x^2
+line `NAME = ..` is that of the output, whatever else these programs begin so, and f2 and I2 are taken for output 2
+where no output is called f or I with the number of another one. Of a list of elements the brackets and the word before
+them are left out, and so are the marks o1, o2 of Macaulay2. Elements with a power that are 0 where x^2
 is x are the polynomials of the field and are left out too. A 0 that is not on a line `0 = 0` says that a list has no
 elements, as these programs have no other way to say it. A term that stands twice in a sum of products is refused, as no
 program prints it.
@@ -47,17 +48,20 @@ class Claim:
         self.element_lines = []
 
 
-def parse(text, description, names):
-    """What a text says of each output of a description, a list of Claims, or a TranscriptError."""
-    places = range(description.outputs)
-    claims = [Claim() for _ in places]
-    numbers = {f"{letter}{place + 1}": (place, letter == "f") for letter in "If" for place in places}
+def parse(text, description, names, outputs=None):
+    """What a text says of each output of a description, or of those at some places, a list of Claims, or a
+    TranscriptError. A script has numbers for these alone, and another text for all of the file."""
+    shown = description.shown_output_names
+    outputs = list(range(len(shown)) if outputs is None else outputs)
+    claims = [Claim() for _ in outputs]
     names_of_outputs = {}
-    for given in (description.output_names, description.shown_output_names):
-        names_of_outputs.update((name, (place, True)) for place, name in enumerate(given))
-    by_name, by_number = {**numbers, **names_of_outputs}, {**names_of_outputs, **numbers}
+    for given in (description.output_names, shown):
+        names_of_outputs.update((given[output], (place, True)) for place, output in enumerate(outputs))
+    by_number = {**names_of_outputs, **_numbered(range(len(outputs)))}
+    has_numbers = any(queries.has_other_number(output, name, "fI") for output, name in enumerate(shown))
+    by_name = {**({} if has_numbers else _numbered(outputs)), **names_of_outputs}
     is_script = _RING.search(text) is not None
-    current = 0 if description.outputs == 1 else None
+    current = 0 if len(outputs) == 1 else None
     plain, skipped = ((), _SKIPPED_IN_SCRIPTS) if is_script else (names_of_outputs, _SKIPPED)
     factors = {"0", "1", *names.factor_bits()}
 
@@ -86,6 +90,11 @@ def parse(text, description, names):
             elements = [entry for entry in zip(parts, polynomials) if left == "0" or not _NONE.fullmatch(entry[0])]
             _add_elements(claims[place], line, elements, factors)
     return claims
+
+
+def _numbered(outputs):
+    """What f1, I1 and so on stand for: the place in a list of outputs, and whether it is the output's polynomial."""
+    return {f"{letter}{output + 1}": (place, letter == "f") for letter in "If" for place, output in enumerate(outputs)}
 
 
 def _is_label(left, lefts):

@@ -98,14 +98,15 @@ def main(line):
     description = words.description(NAME, options.file)
     try:
         order = words.order(description, options.order)
-        description = words.chosen(description, options.outputs)
-        solving.refuse_contradictions(description)
+        outputs = words.outputs(description, options.outputs)
+        part = solving.chosen(description, outputs)
+        solving.refuse_contradictions(part)
         if options.relations is not None:
-            print_relations(description, order, options)
+            print_relations(part, order, options)
             return 0
-        claims = transcripts.parse(words.standard_input(), description, queries.Names(description, order))
+        claims = transcripts.parse(words.standard_input(), description, queries.Names(part, order), outputs)
         refuse_elements(claims)
-        return print_verdicts(agreeing(judging.Judge(description, order), description, claims))
+        return print_verdicts(agreeing(judging.Judge(part, order), part, claims))
     except (transcripts.TranscriptError, solving.Unsolved) as error:
         say(NAME, str(error))
         return error.status

@@ -105,8 +105,13 @@ def flips(description, text):
     return solving.inputs_of(description, text.split(","), "--polarity")
 
 
+def outputs(description, text):
+    """The places of the outputs that --outputs names, or of all where it is not given."""
+    if text is None:
+        return list(range(description.outputs))
+    return solving.outputs_of(description, text.split(","), "--outputs")
+
+
 def chosen(description, text):
     """The description of the outputs that --outputs names, or of all where it is not given."""
-    if text is None:
-        return description
-    return solving.chosen(description, solving.outputs_of(description, text.split(","), "--outputs"))
+    return solving.chosen(description, outputs(description, text))
