@@ -545,6 +545,15 @@ class Transcripts(Test):
                 claim = self.claims(text, file)[0]
                 self.assertEqual((claim.polynomial, claim.elements), (polynomial, elements))
 
+    def test_terms_twice_of_names_with_signs(self):
+        """A term that stands twice is refused, whatever signs its names have."""
+        file = self.here / "f.pla"
+        file.write_text(description(2, 1, "f", [("-1", "1")], names=["a-b", "c"], results=["f"]))
+        self.assertEqual(self.claims("f = a-b + c\n", file)[0].polynomial, {2, 1})
+        for text in ("f = a-b + a-b + c\n", "f = c + a-b*c + a-b*c\n"):
+            with self.case(text), self.assertRaises(transcripts.TranscriptError):
+                self.claims(text, file)
+
     def judged(self, text):
         ended = run([*JUDGE, self.file], text)
         self.assertEqual((ended.status, ended.out), (0, "graph: yes\n"), ended)

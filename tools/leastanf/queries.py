@@ -18,8 +18,6 @@ MOST_TERMS, MOST_STEPS = 1_000_000, 10_000_000
 ONE = frozenset((0,))
 
 _TOKEN = re.compile(r"\s*(\*\*|1'b[01]|[01]_R\b|[0-9]+|[-+^*&|~!()]|\S)")
-# Where the text has none of these signs, it is a sum of products of factors.
-_SIGNS = re.compile(r"[-^&|!()']|~\s|\*\s*\*")
 
 
 class QueryError(Exception):
@@ -94,10 +92,9 @@ class Aliases:
 def parse(text, names, twice=True):
     """The polynomial of a text, or a QueryError. `twice` says whether a term may stand twice in a sum of products, as
     no program prints it."""
-    if not _SIGNS.search(text):
-        found = _sum_of_products(text, names, twice)
-        if found is not None:
-            return found
+    found = _sum_of_products(text, names, twice)
+    if found is not None:
+        return found
     try:
         return _Parser(text, names).whole()
     except RecursionError:
@@ -105,9 +102,9 @@ def parse(text, names, twice=True):
 
 
 def _sum_of_products(text, names, twice):
-    """The polynomial of a plain sum of products, or None where it is none."""
+    """The polynomial of a plain sum of products, in which names may have any signs, or None where it is none."""
     bits = {**names.factor_bits(), "1": 0}
-    found = set()
+    found, repeated = set(), None
     for term in text.split("+"):
         mask = 0
         for factor in term.split("*"):
@@ -115,9 +112,11 @@ def _sum_of_products(text, names, twice):
             if bit is None:
                 return None
             mask |= bit
-        if mask in found and not twice:
-            raise QueryError(f"the term {term.strip()[:60]!r} stands twice")
+        if mask in found:
+            repeated = term
         found ^= {mask}
+    if repeated is not None and not twice:
+        raise QueryError(f"the term {repeated.strip()[:60]!r} stands twice")
     return found
 
 
