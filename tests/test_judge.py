@@ -505,11 +505,14 @@ class Transcripts(Test):
                 self.claims(f"{text}\n")
 
     def test_lists_of_outputs(self):
-        """The place of an element in a list is no output's name that has a fault in it."""
+        """The place of an element in a list is no name of an output or an input, and none that has a fault in it."""
         file = self.here / "f.pla"
-        file.write_text(description(1, 2, "f", [("1", "11")], results=["p[0]", "p[1]"]))
-        with self.assertRaises(transcripts.TranscriptError):
-            self.claims("p[0] = x1\np[2] = x1\n", file)
+        names = {"names": ["a[0]", "a[1]"], "results": ["p[0]", "p[1]"]}
+        file.write_text(description(2, 2, "f", [("11", "11")], **names))
+        self.assertEqual(self.claims("p[0] = a[0]\nG[2] = a[1]\n", file)[0].elements, [{1}])
+        for left in ("p[2]", "a[0]", "a[2]", "x[1]"):
+            with self.case(left), self.assertRaises(transcripts.TranscriptError):
+                self.claims(f"p[0] = a[0]\n{left} = a[1]\n", file)
 
     def test_outputs_with_names_of_other_programs(self):
         """No line of an output is taken for what another program writes beside an answer."""

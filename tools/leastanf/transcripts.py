@@ -77,7 +77,7 @@ def parse(text, description, names, outputs=None):
         place, is_polynomial = lefts.get(left, (current, False))
         if place is None:
             raise TranscriptError(line, f"{left or right[:20]!r} is no output of the file, and none was named before")
-        if found and left not in lefts and not _is_label(left, lefts):
+        if found and left not in lefts and not _is_label(left, {*lefts, *names.places}):
             raise TranscriptError(line, f"{left!r} is no output of the file")
         if left in lefts and not is_polynomial and claims[place].has_list:
             raise TranscriptError(line, "the output has a list of elements already")
@@ -97,10 +97,10 @@ def _numbered(outputs):
     return {f"{letter}{output + 1}": (place, letter == "f") for letter in "If" for place, output in enumerate(outputs)}
 
 
-def _is_label(left, lefts):
-    """Whether a left side is 0, or the place of an element in a list that has no output's name."""
+def _is_label(left, named):
+    """Whether a left side is 0, or the place of an element in a list that is called like no output and no input."""
     found = re.fullmatch(r"(\w+)\[\d+\]", left)
-    return left == "0" or found is not None and not any(name.startswith(f"{found[1]}[") for name in lefts)
+    return left == "0" or found is not None and not any(name.startswith(f"{found[1]}[") for name in named)
 
 
 def _set_polynomial(claim, line, polynomials):
