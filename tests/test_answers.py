@@ -96,6 +96,14 @@ class Polynomials(Test):
         self.assertNotEqual(one, Polynomial([("a", "b")]))
         self.assertNotEqual(one, Polynomial([("a", "b"), ("c",), ()]))
 
+    def test_text_stays(self):
+        """The text and the monomials do not depend on the order by which numbers were asked for."""
+        polynomial = Monomials(("c", "b", "a")).polynomial({6, 5, 1})
+        self.assertEqual(polynomial.masks(("a", "b", "c")), [3, 5, 4])
+        self.assertEqual(str(polynomial), "c*b + c*a + a")
+        self.assertEqual(polynomial.monomials, (("c", "b"), ("c", "a"), ("a",)))
+        self.assertEqual(polynomial.masks(("c", "b", "a")), [6, 5, 1])
+
     def test_twice(self):
         for monomials in ([("a",), ("a",)], [("a", "b"), ("b", "a")], [(), ()], [("a", "a")]):
             with self.case(monomials), self.assertRaises(ValueError):

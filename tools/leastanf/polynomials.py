@@ -73,7 +73,7 @@ class Polynomial:
 
     def __str__(self):
         """The text as the programs print it."""
-        if self._writer is not None:
+        if self._monomials is None:
             return self._writer.text(self._masks)
         return " + ".join(["*".join(monomial) or "1" for monomial in self.monomials]) or "0"
 
