@@ -700,10 +700,26 @@ class Files(Solving):
         """No answer takes the place of a file that is read, by whatever path it has."""
         (self.here / "g.anf").write_text(XOR)
         (self.here / "link").symlink_to(".")
+        (self.here / "loop").symlink_to("loop")
         for folder in (".", "link", str(self.here)):
             with self.case(folder):
                 self.expect(self.solve(XOR, "g.anf", "-o", folder), 2, "", "would be written over one of the files")
                 self.assertEqual((self.here / "g.anf").read_text(), XOR)
+        for name, file in (("f.anf", "f.pla"), ("standard_input.anf", "-")):
+            with self.case(name):
+                (self.here / "f.pla").write_text(XOR)
+                os.link(self.here / "f.pla", self.here / name)
+                with open(self.here / "f.pla", "rb") as given:
+                    ended = self.run_words([*SOLVE, "-o", ".", file], stdin=given)
+                self.assertEqual((ended.returncode, ended.stdout), (2, b""), ended.stderr)
+                self.assertEqual((self.here / "f.pla").read_text(), XOR)
+        with self.case("a link to another answer"):
+            (self.here / "a").mkdir()
+            (self.here / "a/g.anf").write_text("")
+            os.link(self.here / "a/g.anf", self.here / "a/f.anf")
+            self.expect(self.solve(XOR, "g.anf", "-o", "a"), 2, "", "would have their answer in one file")
+        with self.case("a link to itself"):
+            self.expect(self.solve(XOR, "loop", "-o", "answers"), 8, "", "loop: ")
 
     def small(self):
         run = subprocess.run([program("interp"), "anf"], input=SMALL.encode(), capture_output=True, check=True)

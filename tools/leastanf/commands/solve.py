@@ -48,6 +48,7 @@ The environment variable INTERP names the program, if it is not the one beside t
 lists them.
 """
 
+import os
 import pathlib
 import re
 import shlex
@@ -144,14 +145,23 @@ def read_words(line):
     if options.language is not None and options.language not in FORMATS:
         parser.error(f"--as takes one of {', '.join(FORMATS)}")
     if options.folder is not None:
-        targets = [target(path, options).resolve() for path in options.files]
+        targets = {identity(target(path, options)) for path in options.files}
         if options.text:
             parser.error("--text goes without -o")
-        if len(set(targets)) < len(targets):
+        if len(targets) < len(options.files):
             parser.error("two of the files would have their answer in one file")
-        if set(targets) & {pathlib.Path(path).resolve() for path in options.files}:
+        if targets & set(map(identity, options.files)):
             parser.error("an answer would be written over one of the files")
     return options
+
+
+def identity(path):
+    """What tells a file from others: the device and the number that it has there, or its path where there is none."""
+    try:
+        found = os.fstat(sys.stdin.fileno()) if path == "-" else os.stat(path)
+        return found.st_dev, found.st_ino
+    except OSError:
+        return os.path.realpath(path)
 
 
 def target(path, options):
