@@ -313,6 +313,28 @@ class Forms(Folder):
                 ended = self.call(name, [word.format("f.pla") for word in NAMED[name]], READING[name][1])
                 wanted = f"{name}: f.pla:{line}: {descriptions.FORMS['row over lines']}\n"
                 self.assertEqual((ended.status, ended.err), (0, wanted))
+        cover = ".i 2\n.o 1\n.TYPE f\n.type esop\n1-\n1\n"
+        ended = self.call("describe", ["esop", "-"], cover)
+        self.assertEqual(ended.status, 0)
+        self.assertIn(f"describe: standard input:5: {descriptions.FORMS['row over lines']}\n", ended.err)
+        self.assertIn("describe: standard input:3: .TYPE is no command and is skipped", ended.err)
+
+    def test_warnings(self):
+        """Each command that reads a description tells which names stand for others, and what is skipped."""
+        (self.here / "f.pla").write_text(".i 2\n.o 1\n.ilb 0 1\n.TYPE fr\n11 1\n.e\n")
+        calls = [
+            ("solve", ["f.pla"], ""),
+            ("ask", ["f.pla", "0 + 1"], ""),
+            ("judge", ["f.pla"], "f1 = x1*x2\n"),
+            ("agrees", ["f.pla"], "f1 = x1*x2\n"),
+            ("answer_as", ["json", "f.pla"], "f1 = x1*x2\n"),
+        ]
+        for name, words, text in calls:
+            with self.case(name):
+                ended = self.call(name, words, text)
+                self.assertEqual(ended.status, 0)
+                self.assertIn(f"{name}: f.pla: x1 stands for '0', which cannot be told in an answer\n", ended.err)
+                self.assertIn(f"{name}: f.pla:4: .TYPE is no command and is skipped", ended.err)
 
 
 class Oldest(Folder):

@@ -153,7 +153,7 @@ def exclusive_or(data, path="these bytes"):
     if cover.kind != "esop":
         raise DescriptionError(cover.path, None, "BadType", f"the type is {cover.kind}, and esop is wanted")
     found = described(cover.inputs, cover.outputs, cover.given_input_names, cover.given_output_names, "f")
-    found.path = cover.path
+    found.path, found.forms, found.warnings = cover.path, cover.forms, cover.warnings
     for output in range(cover.outputs):
         symbols = "".join("1" if place == output else "0" for place in range(cover.outputs))
         cubes = [row.inputs.replace("2", "-") for row in cover.rows if row.outputs[output] in "14"]

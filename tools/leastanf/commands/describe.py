@@ -33,7 +33,7 @@ import sys
 from .. import descriptions, tables
 from ..descriptions import called
 from . import command, say
-from .words import Parser
+from .words import Parser, tell_of
 
 NAME = "describe"
 
@@ -70,6 +70,7 @@ def of_points(data, options):
 
 def of_cover(data, options):
     found = tables.exclusive_or(data, called(options.file))
+    tell_of(NAME, found)
     return tables.renamed(found, options.inputs, options.outputs)
 
 

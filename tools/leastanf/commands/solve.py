@@ -225,9 +225,7 @@ def smaller(description):
 
 
 def tell_of_file(description):
-    """Says what may be meant otherwise."""
-    for text in description.warnings:
-        say(NAME, text)
+    """Says where a .type may be missing."""
     points = all("-" not in row.inputs and "2" not in row.inputs for row in description.rows)
     zeros = any(set(row.outputs) == {"0"} for row in description.rows)
     if not description.typed and points and zeros and len(description.rows) < 1 << description.inputs:
@@ -236,13 +234,6 @@ def tell_of_file(description):
             f"{description.path}: there is no .type, so a point without a row has the value 0; where such points are "
             "free, write .type fr",
         )
-    for given, names in (
-        (description.given_input_names, description.shown_input_names),
-        (description.given_output_names, description.shown_output_names),
-    ):
-        for name, shown in zip(given or (), names):
-            if name != shown:
-                say(NAME, f"{description.path}: {shown} stands for '{name}', which cannot be told in an answer")
 
 
 def tell_of_choice(path, part, options, choice):

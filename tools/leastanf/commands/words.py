@@ -79,11 +79,27 @@ class Parser(argparse.ArgumentParser):
 
 
 def description(name, path):
-    """The description in a file, for a command of this name, which tells the forms that were brought into shape."""
+    """The description in a file, for a command of this name, which tells how it was read and which names stand for
+    others."""
     found = descriptions.read(path)
+    tell_of(name, found)
+    for given, names in (
+        (found.given_input_names, found.shown_input_names),
+        (found.given_output_names, found.shown_output_names),
+    ):
+        for before, shown in zip(given or (), names):
+            if before != shown:
+                say(name, f"{found.path}: {shown} stands for '{before}', which cannot be told in an answer")
+    return found
+
+
+def tell_of(name, found):
+    """Tells for a command of this name the forms of a file that were brought into shape, and what may be meant
+    otherwise."""
     for form, line in found.forms.items():
         say(name, f"{found.path}{'' if line is None else f':{line}'}: {descriptions.FORMS[form]}")
-    return found
+    for text in found.warnings:
+        say(name, text)
 
 
 def standard_input():
