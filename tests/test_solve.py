@@ -883,6 +883,15 @@ class Interface(Test):
         self.assertEqual([str(element) for element in basis["graph"].basis], ["carry + a*b", "sum + a + b"])
         self.assertEqual(str(leastanf.solve(XOR.encode(), polarity=["b"], order=["b", "a"])), "f1 = ~b + a + 1\n")
 
+    def test_larger_than_the_program_takes(self):
+        """Descriptions of tables and lists of points are solved at any size, as their texts are."""
+        values = [point >> 7 & point & 1 for point in range(1 << 14)]
+        self.assertEqual(str(leastanf.solve(leastanf.table(values))), "f1 = x7*x14\n")
+        points_ = leastanf.tables.points(["1" * 70], ["0" * 70])
+        self.assertEqual(str(leastanf.solve(points_)), "f1 = x70\n")
+        wide = leastanf.table([0, (1 << 65) - 1])
+        self.assertEqual(str(leastanf.solve(wide)), "".join(f"f{place} = x1\n" for place in range(1, 66)))
+
     def test_exceptions(self):
         for text, limits, status in (
             (".i 2\n.o 1\n.type fr\n1- 1\n-1 0\n", {}, 4),

@@ -7,6 +7,7 @@ points of the rows of the file, by the module `points`.
 """
 
 import concurrent.futures
+import operator
 import os
 import threading
 import time
@@ -283,7 +284,9 @@ def refuse_contradictions(description, outputs=None):
 
 def fits(description):
     """Whether the program takes a description as it is."""
-    return not {"inputs", "outputs", "rows", "bytes"} & set(description.forms)
+    sizes = description.inputs, description.outputs, len(description.rows)
+    most = descriptions.MOST_INPUTS, descriptions.MOST_OUTPUTS, descriptions.MOST_ROWS
+    return "bytes" not in description.forms and all(map(operator.le, sizes, most))
 
 
 def chosen(description, outputs):
@@ -299,11 +302,7 @@ def chosen(description, outputs):
         symbols = "".join(row.outputs[place] for place in outputs)
         if any(symbol in saying for symbol in symbols):
             part.rows.append(descriptions.Row(row.line, row.inputs, symbols))
-    part.forms = {form: line for form, line in description.forms.items() if form not in ("outputs", "rows", "bytes")}
-    if len(outputs) > descriptions.MOST_OUTPUTS:
-        part.forms["outputs"] = None
-    if len(part.rows) > descriptions.MOST_ROWS:
-        part.forms["rows"] = None
+    part.forms = {form: line for form, line in description.forms.items() if form != "bytes"}
     return part
 
 
