@@ -69,7 +69,7 @@ class Names:
 
 
 def has_other_number(place, name, letters="x"):
-    """Whether a name is one of some letters with a number that is not that of its place, as x0 is of the first input."""
+    """Whether a name is one of some letters with a number that is not that of its place, as x0 is of the first one."""
     found = re.fullmatch(rf"[{letters}][\[(_<]?([0-9]+)[\])>]?", name)
     return found is not None and found[1] != str(place + 1)
 

@@ -75,8 +75,9 @@ def mend_for_python(name):
 
 def distinct(names, keeps, mend, taken=()):
     """For each name the one that stands for it. `keeps` says whether the language takes a name, and `mend` makes one
-    that it takes and that stays one with digits behind it. None is one of those that are taken."""
-    used = set(taken)
+    that it takes and that stays one with digits behind it. None is one of those that are taken, or another one of the
+    names, so that none can be taken for another."""
+    used, given = set(taken), frozenset(names)
     found = [None] * len(names)
     for place, name in enumerate(names):
         if keeps(name) and name not in used:
@@ -86,7 +87,7 @@ def distinct(names, keeps, mend, taken=()):
         if found[place] is None:
             made, number = mend(name), 2
             found[place] = made
-            while found[place] in used:
+            while found[place] in used or found[place] != name and found[place] in given:
                 found[place] = f"{made}{number}"
                 number += 1
             used.add(found[place])
