@@ -574,11 +574,12 @@ class Transcripts(Test):
     def test_scripts_of_names_that_look_alike(self):
         """No name of a script is that of another input in the file."""
         file = self.here / "f.pla"
-        for names in (["sum", "sum'"], ["sum'", "sum"], ["a-b", "a'b"], ["f1", "f12"], ["poly", "poly_"]):
-            file.write_text(description(2, 1, "f", [("1-", "1")], names=names, results=["f"]))
+        for names in (["sum", "sum'"], ["sum'", "sum"], ["a-b", "a'b"], ["f1", "f12"], ["poly", "poly_"], ["1_R", "a"]):
+            file.write_text(description(2, 1, "f", [("0-", "1")], names=names, results=["f"]))
             for name in ("singular", "macaulay2"):
                 with self.case((names, name)):
-                    script = run([sys.executable, TOP / "tools/answer_as", name, file], f"f = {names[0]}\n").out
+                    first = descriptions.read(file).shown_input_names[0]
+                    script = run([sys.executable, TOP / "tools/answer_as", name, file], f"f = {first} + 1\n").out
                     ended = run([*JUDGE, file], script)
                     self.assertEqual((ended.status, ended.out), (0, "f: yes\n"), script)
 

@@ -57,6 +57,8 @@ WARNINGS = [
     (".i 2\n.o 1\n.p 3\n11 1\n", ".p says 3 rows, and there are 1"),
     (".i 2\n.o 1\n.ilb a*b c\n.type f\n11 1\n", "x1 stands for 'a*b'"),
     (".i 2\n.o 1\n.ilb a a\n.type f\n11 1\n", "x2 stands for 'a'"),
+    (".i 2\n.o 1\n.ilb a 1_R\n.type f\n11 1\n", "x2 stands for '1_R'"),
+    (".i 2\n.o 1\n.ilb 1'b0 a\n.type f\n11 1\n", "x1 stands for '1'b0'"),
 ]
 
 

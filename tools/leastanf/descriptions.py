@@ -63,6 +63,8 @@ CAUSES = {
 _REFUSED = (".kiss", ".pair", ".symbolic", ".symbolic-output")
 _KNOWN = (".i", ".o", ".type", ".ilb", ".ob", ".p", ".e", ".end", ".mv", ".phase", *_REFUSED)
 _PLAIN = re.compile(r"[A-Za-z_][A-Za-z0-9_.\[\]<>]{0,31}\Z")
+# Names that are constants in polynomials of any form: of the programs, of Verilog and of Macaulay2.
+_CONSTANTS = frozenset(("0", "1", "1'b0", "1'b1", "0_R", "1_R"))
 _BAD_BYTE = re.compile(r"[^\t\x20-\x7e]")
 _COMMENT = re.compile(r"(?:^|(?<=[ \t]))#.*", re.DOTALL)
 _INPUT_SYMBOLS, _OUTPUT_SYMBOLS = frozenset("012-"), frozenset("0124-~")
@@ -174,7 +176,7 @@ def shown_names(given, letter, count):
 
 def is_tellable(name):
     """Whether a name in an answer can be told from the rest of its line."""
-    return name not in ("0", "1") and not set(name) & set("*+=,~")
+    return name not in _CONSTANTS and not set(name) & set("*+=,~")
 
 
 def read(path, kinds=KINDS):
