@@ -583,6 +583,19 @@ class Transcripts(Test):
                     ended = run([*JUDGE, file], script)
                     self.assertEqual((ended.status, ended.out), (0, "f: yes\n"), script)
 
+    def test_scripts_by_an_order(self):
+        """Names that are made over do not depend on the order of the inputs."""
+        file = self.here / "f.pla"
+        file.write_text(description(2, 1, "f", [("1-", "1")], names=["a-b", "a|b"], results=["f"]))
+        for name in ("singular", "macaulay2"):
+            for order in ("a-b,a|b", "a|b,a-b"):
+                words = [sys.executable, TOP / "tools/answer_as", name, file, "--order", order]
+                script = run(words, "f = a-b\n").out
+                for more in ([], ["--order", order]):
+                    with self.case((name, order, more)):
+                        ended = run([*JUDGE, file, *more], script)
+                        self.assertEqual((ended.status, ended.out), (0, "f: yes\n"), script)
+
     def test_scripts_without_bases(self):
         """In scripts of mode anf outputs are told by their numbers, whatever their names, and no basis is judged."""
         file = self.here / "f.pla"

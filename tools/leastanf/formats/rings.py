@@ -28,9 +28,11 @@ class System:
     mark, language, taken, step, polynomial = "", None, frozenset("R"), "{} = {}", "f{} = {}"
 
     def names(self, inputs, outputs):
-        """The names of inputs, where the answer has so many outputs."""
+        """The names of inputs, where the answer has so many outputs. They do not depend on the order of the inputs."""
         made = {f"{letter}{number}" for letter in "fI" for number in range(1, max(1, outputs) + 1)}
-        return naming.distinct(inputs, self.keeps, self.mend, self.taken | made)
+        given = sorted(inputs)
+        found = dict(zip(given, naming.distinct(given, self.keeps, self.mend, self.taken | made)))
+        return [found[name] for name in inputs]
 
     def keeps(self, name):
         """Whether it takes a name."""
