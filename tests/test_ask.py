@@ -427,7 +427,7 @@ class Tables(Folder):
             with self.case(text), self.assertRaises(tables.TableError):
                 tables.numbers(text)
         self.assertEqual(tables.numbers("1 2,3\n-"), [1, 2, 3, None])
-        for bad in ("1 2 y", "0x", "1.5", "-1"):
+        for bad in ("1 2 y", "0x", "1.5", "-1", "1,,2", "{1, 2,\n, 0, 3}"):
             with self.case(bad), self.assertRaises(tables.TableError):
                 tables.numbers(bad)
 
@@ -517,7 +517,8 @@ class Tables(Folder):
         self.assertEqual(self.values(given, 0), [1, 1, 0, 1, 0, 0, None, None])
         self.assertEqual(self.values(given, 1), [None, None, 0, 0, 1, 1, None, None])
         self.assertEqual(self.values(given, 33), [0, 1] * 4)
-        for bad in ("", "no table", "a | b\n1'0 | 1'1 1'1\n", "a | b\n2'0x | 1'1\n", "a | b\n3'01 | 1'1\n"):
+        rows = ("1'0 | 1'1 1'1", "2'0x | 1'1", "3'01 | 1'1", "1'0 | 4294967296", "1'0 | -2147483649")
+        for bad in ("", "no table", *(f"a | b\n{row}\n" for row in rows)):
             with self.case(bad), self.assertRaises(tables.TableError):
                 tables.evaluated(bad)
 
@@ -542,6 +543,8 @@ class Tables(Folder):
             (["esop", "-"], ".i 2\n.o 1\n11 1\n", 3, ""),
             (["yosys", "-"], "", 3, ""),
             (["hex", "-", "--inputs", "a"], "8", 3, ""),
+            (["graph", "-", "--outputs="], "1 0", 3, ""),
+            (["points", "-", "--outputs="], "01", 3, ""),
         ]
         for words, text, status, wanted in cases:
             with self.case(f"{words} {text!r}"):

@@ -82,6 +82,8 @@ def numbers(text):
     them, as programs have them; x, - and ? are free. Comments of C and those behind # are left out. A number such as
     010 is refused, as it is 8 in C and 10 elsewhere."""
     plain = re.sub(r"/\*.*?\*/|//[^\n]*|#[^\n]*", " ", text, flags=re.DOTALL)
+    if re.search(r",\s*,", plain):
+        raise TableError("between two commas a value is missing")
     found = []
     for word in re.split(r"[\s,;{}()\[\]]+", plain):
         if word in FREE:
@@ -224,7 +226,7 @@ def evaluated(text):
 def constant_bits(word):
     """The bits of a constant of yosys, the highest first. One of 32 bits is a decimal number, and one of equal bits may
     have one of them alone."""
-    if re.fullmatch("-?[0-9]{1,10}", word):
+    if re.fullmatch("-?[0-9]{1,10}", word) and -(1 << 31) <= int(word) < 1 << 32:
         return f"{int(word) & 0xFFFFFFFF:032b}"
     found = re.fullmatch("([0-9]{1,6})'([01xz-]+)", word)
     if not found or len(found[2]) not in (1, int(found[1])):

@@ -109,7 +109,8 @@ def read_words(words):
     for option, forms in FORMS_OF.items():
         if getattr(options, option) and options.form not in forms:
             parser.error(f"--{option.replace('_', '-')} goes with {' and '.join(forms)}")
-    options.inputs, options.outputs = (part and part.split(",") for part in (options.inputs, options.outputs))
+    given = options.inputs, options.outputs
+    options.inputs, options.outputs = (None if names is None else names.split(",") for names in given)
     return options
 
 
