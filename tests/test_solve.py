@@ -826,6 +826,34 @@ class Hostile(Solving):
                 self.assertTrue(ends_soon(started))
                 (self.here / "started").unlink()
 
+    def test_signals_at_the_first_run(self):
+        """The script that builds the program is asked to end, and awaited, whichever thread needs the program first."""
+        shutil.copytree(TOP / "tools", self.here / "tools")
+        script = self.here / "interp"
+        script.write_text(
+            "#!/bin/sh\n"
+            "# exec \"$top/tools/run_proved\" interp interp_main 'anf' FILE\n"
+            f"cd {shlex.quote(str(self.here))}\n"
+            "trap 'kill $!; touch ended; exit 143' TERM\n"
+            "sleep 60 & echo $! > started; wait\n"
+        )
+        script.chmod(0o755)
+        (self.here / "f.pla").write_text(XOR)
+        (self.here / "large.pla").write_text(".i 63\n.o 1\n.type f\n" + "1" * 63 + " 1\n")
+        environment = {name: value for name, value in os.environ.items() if name not in ("INTERP", "NFQ")}
+        self.addCleanup(signal.signal, signal.SIGTERM, signal.signal(signal.SIGTERM, signal.SIG_DFL))
+        for words in (["f.pla"], ["--polarity=auto", "f.pla"], ["large.pla"]):
+            with self.case(words):
+                process = self.begin([sys.executable, self.here / "tools/solve", *words], environment)
+                while not (self.here / "started").exists() or not (self.here / "started").read_text().strip():
+                    time.sleep(0.05)
+                process.send_signal(signal.SIGTERM)
+                out, _ = process.communicate(timeout=20)
+                self.assertEqual((process.returncode, out), (143, b""))
+                self.assertTrue(ends_soon(int((self.here / "started").read_text())))
+                (self.here / "ended").unlink()
+                (self.here / "started").unlink()
+
     def test_first_run(self):
         """Where the program is not built yet, what its script says of this is shown, once."""
         shutil.copytree(TOP / "tools", self.here / "tools")

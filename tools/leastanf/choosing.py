@@ -109,6 +109,8 @@ class _Choosing:
         names = ", ".join(self.description.shown_output_names[place] for place in outputs[:4])
         self.progress(f"{len(trials)} orders and polarities for {names}{' ..' if len(outputs) > 4 else ''}")
         best = before or Choice(outputs, trials[0][1], trials[0][2], trials[0][0], None)
+        # (signals reach this thread alone, and the program may have to be built)
+        programs.find("interp")
         with concurrent.futures.ThreadPoolExecutor(self.settings.processors) as pool:
             futures = [pool.submit(self.literals, part, order, flips) for _, order, flips in trials]
             try:

@@ -104,11 +104,18 @@ def find(name):
 @functools.cache
 def build(name, script):
     """Has the script of a program prove and build it, once, where this was not done yet or its sources are newer. It
-    says on standard error how far it is, which takes minutes."""
+    says on standard error how far it is, which takes minutes. Where the run is ended it is asked to end, and leaves
+    what was proved."""
     if not re.search(rf'/run_proved" {name} \w+ ', script.read_text()):
         return
     word, data = TRIALS[name]
-    if subprocess.run([script, word], input=data, stdout=subprocess.DEVNULL, check=False).returncode:
+    with subprocess.Popen([script, word], stdin=subprocess.PIPE, stdout=subprocess.DEVNULL) as process:
+        try:
+            process.communicate(data)
+        except BaseException:
+            process.terminate()
+            raise
+    if process.returncode:
         raise ProgramMissing(f"{script} gave no program: what it said stands above")
 
 

@@ -370,7 +370,9 @@ class _Solving:
         return sorted(found + more, key=lambda output: output.place), missing
 
     def side_by_side(self, work, parts):
-        """What some work gives for each of some parts, in their order."""
+        """What some work gives for each of some parts, in their order. The program is looked for before, as signals
+        reach the first thread alone, and it may have to be built."""
+        programs.find("interp")
         with concurrent.futures.ThreadPoolExecutor(self.settings.processors) as pool:
             futures = [pool.submit(work, part) for part in parts]
             try:
