@@ -52,7 +52,8 @@ FORMS = [
     ("2*a + 3*b + 1", "b ^ 1"),
     ("a**0", "1"),
     ("(((a)))", "a"),
-    ("((a + b)*(b + c[0]) + 1)^3", "(a ^ b) & (b ^ c) ^ 1"),
+    ("((a + b)*(b + c[0]) + 1)**3", "(a ^ b) & (b ^ c) ^ 1"),
+    ("a ^ 2 ^ b^12", "a ^ b"),
     (" a*b*c[0]+a * b+\ta", "a & b & c ^ a & b ^ a"),
     ("x1*x(2) + x_3", "a & b ^ c"),
     ("x[1] + x2", "a ^ b"),
@@ -77,6 +78,8 @@ REFUSED = [
     ("a^1", "a power or a sum"),
     ("a^0", "a power or a sum"),
     ("a ^ 1", "a power or a sum"),
+    ("a ^ 3 ^ b", "a power or a sum"),
+    ("(a + b)^13", "a power or a sum"),
     ("a + b & c[0]", "brackets"),
     ("a & b + c[0]", "brackets"),
     ("a**b", "a power is wanted"),
@@ -133,7 +136,8 @@ class Forms(Test):
         if kind == "complement":
             return f"{draws.choice('~!')}({one})", f"(1 ^ ({same}))"
         if kind == "power":
-            return f"({one})^{draws.randint(2, 9)}", f"({same})"
+            power = draws.randint(2, 9)
+            return f"({one}){'**' if power % 2 else '^'}{power}", f"({same})"
         other, also = self.expression(draws, depth - 1)
         signs = {"sum": ("+^-", "^"), "product": ("*&", "&"), "or": ("|", "|")}[kind]
         return f"({one}) {draws.choice(signs[0])} ({other})", f"(({same}) {signs[1]} ({also}))"

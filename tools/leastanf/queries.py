@@ -205,8 +205,8 @@ class _Parser:
             if not re.fullmatch("[0-9]+", self.sign or ""):
                 self.fail("a power is wanted behind **")
             power = self.sign.lstrip("0")
-            if sign == "^" and power in ("", "1"):
-                self.fail(f"^{self.sign} may be a power or a sum: write it without ^, or the sum with +")
+            if sign == "^" and (not power or power[-1] in "13579"):
+                self.fail(f"^{self.sign} may be a power or a sum: write a power with **, or a sum with +")
             found = found if power else ONE
             self.step()
         return found

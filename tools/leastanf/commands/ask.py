@@ -10,11 +10,11 @@ exactly where the polynomial is 0 at each care point, so a relation follows exac
 
 A polynomial is a sum with + - or ^ of products with * or &, with | for or, ~ or ! for the complement, brackets, powers
 as a^2 or a**2, and the constants 0, 1, 1'b0 and 1'b1. Factors and terms stand in any order. What programs read in more
-than one way is refused: a^1 and a^0, and & beside + without brackets. Names are those of the file; those that answer_as
-gives them in Singular, Macaulay2 and Sage, and x(3), x_3 and x[3] for the third input, are taken too, the last ones
-where no name of the file is x with the number of another place. It is brought into the order and the form that nfq
-takes, and where it is too long for a run it is asked in parts. Forms of the file that nfq refuses are told, as solve
-tells them.
+than one way is refused: 0 and odd numbers behind ^, as a^1, and & beside + without brackets. Names are those of the
+file; those that answer_as gives them in Singular, Macaulay2 and Sage, and x(3), x_3 and x[3] for the third input, are
+taken too, the last ones where no name of the file is x with the number of another place. It is brought into the order
+and the form that nfq takes, and where it is too long for a run it is asked in parts. Forms of the file that nfq refuses
+are told, as solve tells them.
 
 With union the reduced basis of the intersection of the ideals of two outputs is printed, which is that of the care
 points that either has, and with meet that of their sum, which is that of the care points that both have.
