@@ -447,7 +447,8 @@ class Tables(Folder):
                 lowest = tables.hexadecimal(digits, first_is_lowest=True)
                 for place in range(2**width):
                     self.assertEqual(lowest[int(f"{place:0{width}b}"[::-1], 2)], values[place])
-        for bad in ("", "0x", "123", "xyz", "6996 6996 1"):
+        self.assertEqual(tables.hexadecimal(" 69_96 6996\r\n"), tables.hexadecimal("0x69966996"))
+        for bad in ("", "0x", "123", "xyz", "6996 6996 1", "6996\n8000\n"):
             with self.case(bad), self.assertRaises(tables.TableError):
                 tables.hexadecimal(bad)
 

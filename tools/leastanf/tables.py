@@ -100,6 +100,8 @@ def numbers(text):
 def hexadecimal(text, first_is_lowest=False):
     """The values of a truth table in hexadecimal digits, as 0x6996 or 6996: the last digit has the first points. The
     first input is the highest bit of a point's number, or its lowest one, as ABC has it."""
+    if len(text.strip().splitlines()) > 1:
+        raise TableError("each line may be a table of its own: one table on one line is wanted")
     digits = re.sub(r"\s|_", "", text)
     digits = digits[2:] if digits[:2].lower() == "0x" else digits
     if not re.fullmatch("[0-9a-fA-F]+", digits):

@@ -7,7 +7,7 @@ forms:
             brackets between them and comments as in C; x, - and ? are free
   graph     the same numbers; the description has the pairs of a value and its argument, the bits of the value first, so
             that its reduced basis has the equations between both
-  hex       a truth table in hexadecimal digits, the last digit for the first points
+  hex       a truth table in hexadecimal digits on one line, the last digit for the first points
   points    a point on each line, as 01-1, and behind it 0 or 1, or nothing for 1; all other points are free
   esop      a PLA file of type esop, whose rows are summed modulo 2
   yosys     what `eval -table` prints of a circuit; a value of x is free
