@@ -57,6 +57,11 @@ def program(name):
     return str(TOP / "crates" / crate / "out" / crate)
 
 
+def named_programs():
+    """The variables of the environment by which the Python tools run the programs that are tried."""
+    return {name.upper(): program(name) for name in ("interp", "nfq")}
+
+
 def installed(name):
     """The path of a program of the system, such as a compiler; the test is skipped where there is none."""
     path = shutil.which(name)
@@ -188,3 +193,23 @@ class Test(unittest.TestCase):
         """The context of a case, which is named: where it fails this is told, and the cases behind it are tried too."""
         type(self).cases += 1
         return self.subTest(what)
+
+
+class InFolder(Test):
+    """Tests of which each has a folder of its own, `here`."""
+
+    def setUp(self):
+        folder = tempfile.TemporaryDirectory()
+        self.addCleanup(folder.cleanup)
+        self.here = pathlib.Path(folder.name)
+
+    def executable(self, name, text):
+        """The path of a program in the folder, which has this text."""
+        path = self.here / name
+        path.write_text(text)
+        path.chmod(0o755)
+        return str(path)
+
+    def script(self, name, lines):
+        """The path of a program in the folder, which has a shell run these lines."""
+        return self.executable(name, f"#!/bin/sh\n{lines}\n")

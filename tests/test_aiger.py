@@ -5,14 +5,13 @@ What a circuit's outputs are is told by its gates, one after the other (bench/ma
 which finds the polynomials gate by gate. What is free is told by a care output.
 """
 
-import pathlib
 import random
 import re
 import tempfile
 
 from bench import brial
 from bench.make_circuits import CIRCUITS, Circuit, galois, numbered
-from tests.harness import EXAMPLES, Ended, Test, answer, installed, program, run
+from tests.harness import EXAMPLES, Ended, InFolder, Test, answer, installed, program, run
 from tests.needed_nodes import LEAST_BITS, MOST_TERMS, bits_for, cost_of_circuit, due
 from tests.plain_polynomials import Points
 
@@ -332,19 +331,14 @@ def verilog(circuit, found):
     return "\n".join([*lines, "endmodule", ""])
 
 
-class Outside(Test):
+class Outside(InFolder):
     """What yosys and ABC write, and what ABC says of an answer."""
-
-    def setUp(self):
-        folder = tempfile.TemporaryDirectory()
-        self.addCleanup(folder.cleanup)
-        self.folder = pathlib.Path(folder.name)
 
     def are_equal(self, circuit, found):
         """Whether ABC finds the file a.aig, which is there, and the printed polynomials equivalent."""
-        (self.folder / "anf.v").write_text(verilog(circuit, found))
+        (self.here / "anf.v").write_text(verilog(circuit, found))
         script = "read_verilog anf.v; strash; write_aiger b.aig; cec -n a.aig b.aig"
-        ended = run([installed("berkeley-abc"), "-q", script], cwd=self.folder)
+        ended = run([installed("berkeley-abc"), "-q", script], cwd=self.here)
         return "Networks are equivalent" in ended.out
 
     def test_equivalence(self):
@@ -352,7 +346,7 @@ class Outside(Test):
         for number in range(LARGE):
             circuit = random_circuit(draws, draws.randint(4, 62), draws.randint(5, 40), draws.randint(1, 6))
             with self.case(f"circuit {number}"):
-                (self.folder / "a.aig").write_bytes(circuit.binary())
+                (self.here / "a.aig").write_bytes(circuit.binary())
                 self.assertTrue(self.are_equal(circuit, answers(circuit, "anf")))
 
     def test_files_of_others(self):
@@ -361,10 +355,10 @@ class Outside(Test):
             f"read_verilog {EXAMPLES / 'adder.v'}; synth -flatten; aigmap; "
             "write_aiger -symbols y.aig; write_aiger -ascii -symbols y.aag"
         )
-        self.assertEqual(run([installed("yosys"), "-q", "-p", yosys], cwd=self.folder).status, 0)
+        self.assertEqual(run([installed("yosys"), "-q", "-p", yosys], cwd=self.here).status, 0)
         abc = "read_aiger y.aig; strash; balance; write_aiger -s z.aig"
-        self.assertEqual(run([installed("berkeley-abc"), "-q", abc], cwd=self.folder).status, 0)
-        files = [(self.folder / name).read_bytes() for name in ("y.aig", "y.aag", "z.aig")]
+        self.assertEqual(run([installed("berkeley-abc"), "-q", abc], cwd=self.here).status, 0)
+        files = [(self.here / name).read_bytes() for name in ("y.aig", "y.aag", "z.aig")]
         found = [answer([program("circuit"), "anf"], text) for text in files]
         self.assertEqual(found[0], found[1])
         self.assertEqual(found[0], found[2])
@@ -392,7 +386,7 @@ class Outside(Test):
                     continue
                 self.assertEqual((ended.status, ended.err), (0, ""))
                 taken += 1
-                (self.folder / "a.aig").write_bytes(changed)
+                (self.here / "a.aig").write_bytes(changed)
                 named = Circuit(numbered("x", len(circuit.names)))
                 found = [read_line(line, named.names) for line in ended.out.splitlines()]
                 self.assertTrue(self.are_equal(named, found))

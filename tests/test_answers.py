@@ -10,7 +10,7 @@ import tempfile
 import unittest
 
 from tests import plain_polynomials
-from tests.harness import EXAMPLES, TOP, Test, answer, description, program, run
+from tests.harness import EXAMPLES, TOP, InFolder, Test, answer, description, program, run
 from tests.plain_descriptions import names, read
 
 sys.path.insert(0, str(TOP / "tools"))
@@ -207,13 +207,8 @@ class Reading(Test):
         self.assertEqual(found.outputs[0].polynomial.monomials, (("x1",), ("a-b",)))
 
 
-class AnswerAs(Test):
+class AnswerAs(InFolder):
     """The command: its words, its statuses, and answers by an order."""
-
-    def setUp(self):
-        folder = tempfile.TemporaryDirectory()
-        self.addCleanup(folder.cleanup)
-        self.here = pathlib.Path(folder.name)
 
     def answer_as(self, words, text, **how):
         return run([*ANSWER_AS, *words], text, **how)

@@ -6,15 +6,13 @@ What is due comes from the values at each point and from plain elimination, by t
 
 import itertools
 import os
-import pathlib
 import random
 import re
 import sys
-import tempfile
 import unittest
 
 from tests import plain_polynomials
-from tests.harness import EXAMPLES, TOP, Test, description, installed, program, run
+from tests.harness import EXAMPLES, TOP, InFolder, Test, description, installed, named_programs, run
 from tests.plain_descriptions import meets
 from tests.test_judge import Sample
 
@@ -91,14 +89,7 @@ REFUSED = [
 
 def setUpModule():
     """The package runs the programs that are tried."""
-    os.environ["INTERP"], os.environ["NFQ"] = program("interp"), program("nfq")
-
-
-class Folder(Test):
-    def setUp(self):
-        folder = tempfile.TemporaryDirectory()
-        self.addCleanup(folder.cleanup)
-        self.here = pathlib.Path(folder.name)
+    os.environ.update(named_programs())
 
 
 class Forms(Test):
@@ -182,7 +173,7 @@ class Forms(Test):
         self.assertEqual(queries.parse("a_0_", names), {1})
 
 
-class NormalForms(Folder):
+class NormalForms(InFolder):
     """Normal forms by ask, and the bases of two outputs."""
 
     def test_random(self):
@@ -314,10 +305,8 @@ class NormalForms(Folder):
             self.assertEqual((ended.status, ended.out), (69, ""), ended)
         for said in ("", "yes", "f1 = z", "f2 = x1"):
             with self.case(f"a program that says {said!r}"):
-                script = self.here / "nfq"
-                script.write_text(f"#!/bin/sh\ncat > made\nprintf '{said}\\n'\n")
-                script.chmod(0o755)
-                ended = run([*ASK, file, "a"], env={**os.environ, "NFQ": str(script)}, cwd=self.here)
+                script = self.script("nfq", f"cat > made\nprintf '{said}\\n'")
+                ended = run([*ASK, file, "a"], env={**os.environ, "NFQ": script}, cwd=self.here)
                 self.assertEqual((ended.status, ended.out), (70, ""), ended)
 
 
@@ -384,7 +373,7 @@ class Random(Test):
         return text
 
 
-class Tables(Folder):
+class Tables(InFolder):
     """Ways in."""
 
     def values(self, given, output=0):

@@ -1,11 +1,9 @@
 """What bench/ measures, and how a measurement ends that cannot be made. How fast anything is, is not tested."""
 
 import os
-import pathlib
 import sys
-import tempfile
 
-from tests.harness import TOP, Test, installed, run
+from tests.harness import TOP, InFolder, installed, run
 from tests.test_first_run import CRATES, Checkout
 
 # Of each measurement words for a small one, and the scripts of the programs that it measures.
@@ -19,24 +17,12 @@ SMALL = [
 ]
 
 
-class Measurements(Test):
+class Measurements(InFolder):
     """Runs of the scripts, and of programs that stand for ours."""
-
-    def setUp(self):
-        folder = tempfile.TemporaryDirectory()
-        self.addCleanup(folder.cleanup)
-        self.here = pathlib.Path(folder.name)
-
-    def script(self, name, text):
-        """A program of such a text."""
-        path = self.here / name
-        path.write_text(text)
-        path.chmod(0o755)
-        return str(path)
 
     def test_programs_behind_scripts(self):
         """Where a script runs a program of its repository, this is what is measured, and it is built before."""
-        checkout, other = Checkout(self.here, seconds=0), self.script("other", "#!/bin/sh\n")
+        checkout, other = Checkout(self.here, seconds=0), self.script("other", "")
         wanted = [other, *(str(checkout.program(name)) for name in CRATES)]
         line = "import run, sys; print(*map(run.program, sys.argv[1:]))"
         words = [sys.executable, "-c", line, other, *(checkout.top / name for name in CRATES)]
@@ -63,8 +49,8 @@ class Measurements(Test):
 
     def test_what_cannot_be_measured(self):
         """It is told, and the status is not 0."""
-        killed = self.script("killed", "#!/bin/sh\nkill -9 $$\n")
-        no_program = self.script("no_program", "no program\n")
+        killed = self.script("killed", "kill -9 $$")
+        no_program = self.executable("no_program", "no program\n")
         cases = [
             ("run.py", ["none"], "none is none of points_16, "),
             ("looks.py", ["--program", killed, "none"], "none is none of points_16, "),

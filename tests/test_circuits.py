@@ -6,14 +6,12 @@ evaluated at random points. The descriptions are rows that are made here, or wha
 
 import itertools
 import os
-import pathlib
 import random
 import re
 import subprocess
 import sys
-import tempfile
 
-from tests.harness import TOP, Test, installed, program
+from tests.harness import TOP, InFolder, installed, program
 
 POINTS = 256
 
@@ -284,13 +282,12 @@ def polynomial_value(text, columns, everywhere):
     return total
 
 
-class Circuits(Test):
+class Circuits(InFolder):
     """Circuits as rows and in Verilog."""
 
     def setUp(self):
-        self.folder = tempfile.TemporaryDirectory()
-        self.addCleanup(self.folder.cleanup)
-        self.file = pathlib.Path(self.folder.name) / "circuit.pla"
+        super().setUp()
+        self.file = self.here / "circuit.pla"
 
     def solve(self, *options):
         words = [sys.executable, TOP / "tools/solve", *options, self.file]

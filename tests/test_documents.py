@@ -2,14 +2,12 @@
 refusals of docs/FORMAT.md are as its examples say, and docs/LIBRARY.md and docs/READING.md show sources as they are."""
 
 import os
-import pathlib
 import re
 import shutil
 import sys
-import tempfile
 import unittest
 
-from tests.harness import TOP, Ended, Test, program, run
+from tests.harness import TOP, Ended, InFolder, Test, named_programs, program, run
 
 sys.path.insert(0, str(TOP / "tools"))
 
@@ -121,27 +119,24 @@ def made(text):
     return set(re.findall(r"made/[\w./]*\w", text))
 
 
-class Lines(Test):
+class Lines(InFolder):
     """Lines that a shell runs, in a folder with what they need."""
 
     def setUp(self):
-        folder = tempfile.TemporaryDirectory()
-        self.addCleanup(folder.cleanup)
-        self.folder = pathlib.Path(folder.name)
+        super().setUp()
         for name in ("bench", "examples", "tools"):
-            (self.folder / name).symlink_to(TOP / name)
-        (self.folder / "made").mkdir()
+            (self.here / name).symlink_to(TOP / name)
+        (self.here / "made").mkdir()
         # Files that lines would write whose program is not installed.
         self.unwritten = set()
 
     def shell(self, text):
         """How the lines end. The programs of this repository that they name are linked to those that are tried."""
         for name in re.findall(r"(?<![\w/.])\./(\w+)", text):
-            link = self.folder / name
+            link = self.here / name
             if not link.is_symlink():
                 link.symlink_to(program(name))
-        given = {name.upper(): program(name) for name in ("interp", "nfq")}
-        return run(["bash", "-c", text], cwd=self.folder, env={**os.environ, **given})
+        return run(["bash", "-c", text], cwd=self.here, env={**os.environ, **named_programs()})
 
     def test_uses(self):
         found = blocks((TOP / "docs/USES.md").read_text())
@@ -157,7 +152,7 @@ class Lines(Test):
         absent = missing(block)
         if absent:
             self.shell("\n".join(line for line in block.splitlines() if not missing(line)))
-            self.unwritten.update(path for path in made(block) if not (self.folder / path).exists())
+            self.unwritten.update(path for path in made(block) if not (self.here / path).exists())
             raise unittest.SkipTest(f"{absent[0]} is not installed")
         unwritten = self.unwritten & made(block)
         if unwritten:
@@ -178,7 +173,6 @@ class Lines(Test):
                     printed = ended.out.splitlines()
                     stands = "".join(f"    {row}\n" for row in printed) in document
                     self.assertTrue(stands or len(printed) == 1 and f"`{printed[0]}`" in document, ended)
-
 
     def test_tools(self):
         """The lines of docs/TOOLS.md end well, and print something."""

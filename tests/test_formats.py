@@ -16,7 +16,7 @@ import sys
 import tempfile
 import unittest
 
-from tests.harness import TOP, Test, description, installed, run
+from tests.harness import TOP, InFolder, Test, description, installed, run
 from tests.plain_descriptions import meets, names, read
 
 sys.path.insert(0, str(TOP / "tools"))
@@ -143,13 +143,8 @@ SAMPLES = samples()
 SMALL = [(what, given) for what, given in SAMPLES if len(given.inputs) <= 4]
 
 
-class Folder(Test):
+class Folder(InFolder):
     """A folder for the files of a test."""
-
-    def setUp(self):
-        folder = tempfile.TemporaryDirectory()
-        self.addCleanup(folder.cleanup)
-        self.here = pathlib.Path(folder.name)
 
     def write(self, name, text):
         (self.here / name).write_text(text)

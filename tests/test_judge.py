@@ -12,7 +12,7 @@ import tempfile
 import unittest
 
 from tests import plain_polynomials
-from tests.harness import EXAMPLES, TOP, Test, description, installed, program, run
+from tests.harness import EXAMPLES, TOP, InFolder, Test, description, installed, named_programs, program, run
 from tests.plain_descriptions import care_points, meets
 
 sys.path.insert(0, str(TOP / "tools"))
@@ -26,7 +26,7 @@ UNKNOWN = 15
 
 def setUpModule():
     """The package runs the programs that are tried."""
-    os.environ["INTERP"], os.environ["NFQ"] = program("interp"), program("nfq")
+    os.environ.update(named_programs())
 
 
 class Sample:
@@ -300,13 +300,8 @@ class Bases(Test):
                     self.assertEqual(run([*JUDGE, path], "".join(kept[:place] + kept[place + 1 :])).status, 1)
 
 
-class Command(Test):
+class Command(InFolder):
     """The command judge: what it takes, what it prints, and its statuses."""
-
-    def setUp(self):
-        folder = tempfile.TemporaryDirectory()
-        self.addCleanup(folder.cleanup)
-        self.here = pathlib.Path(folder.name)
 
     def test_files(self):
         draws = random.Random(7)
@@ -397,13 +392,6 @@ class Command(Test):
                     self.assertTrue(ended.err.startswith(f"{name}: answer line {line}: "), ended.err)
                     self.assertIn(said, ended.err)
 
-    def script(self, name, text):
-        """A program that stands for one of this repository."""
-        path = self.here / name
-        path.write_text(f"#!/bin/sh\n{text}\n")
-        path.chmod(0o755)
-        return str(path)
-
     def test_not_known(self):
         """Where no program has an answer, it is not known; where nfq has none, interp may have one."""
         file, text = EXAMPLES / "full_adder.pla", (EXAMPLES / "full_adder.anf").read_text()
@@ -446,13 +434,11 @@ class Command(Test):
                 self.assertNotIn("Traceback", ended.err)
 
 
-class Transcripts(Test):
+class Transcripts(InFolder):
     """Answers as other programs write them."""
 
     def setUp(self):
-        folder = tempfile.TemporaryDirectory()
-        self.addCleanup(folder.cleanup)
-        self.here = pathlib.Path(folder.name)
+        super().setUp()
         self.file = EXAMPLES / "half_adder.pla"
 
     def claims(self, text, file=None):
@@ -632,7 +618,7 @@ class Transcripts(Test):
                     self.assertEqual(run([*JUDGE, self.file], printed).status, 3)
 
 
-class Agrees(Test):
+class Agrees(InFolder):
     """The command agrees."""
 
     def test_examples(self):
@@ -728,12 +714,8 @@ class Agrees(Test):
 
     def test_limits_of_relations(self):
         """There is a limit of time and one of monomials, each with a message and what to do."""
-        with tempfile.TemporaryDirectory() as folder:
-            path = pathlib.Path(folder) / "nfq"
-            path.write_text("#!/bin/sh\nexec sleep 20\n")
-            path.chmod(0o755)
-            words = [*AGREES, EXAMPLES / "half_adder.pla", "--relations", "2", "--seconds", "1"]
-            ended = run(words, env={**os.environ, "NFQ": str(path)})
+        words = [*AGREES, EXAMPLES / "half_adder.pla", "--relations", "2", "--seconds", "1"]
+        ended = run(words, env={**os.environ, "NFQ": self.script("nfq", "exec sleep 20")})
         self.assertEqual((ended.status, ended.out), (14, ""))
         self.assertEqual(
             ended.err, "agrees: no relations after 1 s: give more time by --seconds, or ask for a lower degree\n"

@@ -16,7 +16,7 @@ import sys
 import tempfile
 import time
 
-from tests.harness import TOP, Test, program, run
+from tests.harness import TOP, InFolder, Test, program, run
 
 sys.path.insert(0, str(TOP / "tools"))
 
@@ -114,13 +114,11 @@ def ends_soon(number):
     return False
 
 
-class Solving(Test):
+class Solving(InFolder):
     """A folder with files, and runs of solve in it."""
 
     def setUp(self):
-        self.folder = tempfile.TemporaryDirectory()
-        self.addCleanup(self.folder.cleanup)
-        self.here = pathlib.Path(self.folder.name)
+        super().setUp()
         self.environment = {**os.environ, "INTERP": program("interp")}
         self.environment.pop("PYTHONUNBUFFERED", None)
 
@@ -129,10 +127,7 @@ class Solving(Test):
         environment = self.environment
         script = how.pop("program", None)
         if script is not None:
-            path = self.here / "program"
-            path.write_text(f"#!/bin/sh\n{script}\n")
-            path.chmod(0o755)
-            environment = {**environment, "INTERP": str(path)}
+            environment = {**environment, "INTERP": self.script("program", script)}
         (self.here / "f.pla").write_bytes(text if isinstance(text, bytes) else text.encode())
         how = {"capture_output": True, "timeout": 600, **how}
         ended = subprocess.run([*SOLVE, *options, "f.pla"], cwd=self.here, env=environment, check=False, **how)
@@ -812,11 +807,9 @@ class Hostile(Solving):
             with self.case(number):
                 # Where the tests run under nohup it is ignored, and what they start has it so.
                 self.addCleanup(signal.signal, number, signal.signal(number, signal.SIG_DFL))
-                path = self.here / "program"
-                path.write_text("#!/bin/sh\necho $$ > started\nexec sleep 60\n")
-                path.chmod(0o755)
+                path = self.script("program", "echo $$ > started\nexec sleep 60")
                 (self.here / "f.pla").write_text(XOR)
-                process = self.begin([*SOLVE, "f.pla"], {**os.environ, "INTERP": str(path)})
+                process = self.begin([*SOLVE, "f.pla"], {**os.environ, "INTERP": path})
                 while not (self.here / "started").exists() or not (self.here / "started").read_text().strip():
                     time.sleep(0.05)
                 started = int((self.here / "started").read_text())
@@ -857,16 +850,14 @@ class Hostile(Solving):
     def test_first_run(self):
         """Where the program is not built yet, what its script says of this is shown, once."""
         shutil.copytree(TOP / "tools", self.here / "tools")
-        script = self.here / "interp"
-        script.write_text(
-            "#!/bin/sh\n"
+        self.script(
+            "interp",
             "# exec \"$top/tools/run_proved\" interp interp_main 'anf' FILE\n"
             f"cd {shlex.quote(str(self.here))}\n"
             "[ -f crates/interp_main/out/interp_main ] || echo 'interp: 1 of 24 crates' >&2\n"
             "mkdir -p crates/interp_main/out && touch crates/interp_main/out/interp_main\n"
-            f'exec {shlex.quote(self.environment["INTERP"])} "$@"\n'
+            f'exec {shlex.quote(self.environment["INTERP"])} "$@"',
         )
-        script.chmod(0o755)
         (self.here / "f.pla").write_text(XOR)
         environment = {name: value for name, value in os.environ.items() if name not in ("INTERP", "NFQ")}
         for said in ("interp: 1 of 24 crates\n", ""):

@@ -13,7 +13,7 @@ import tempfile
 import threading
 
 from tests import test_ask, test_descriptions, test_judge
-from tests.harness import EXAMPLES, TOP, Ended, Test, program, run, text_of
+from tests.harness import EXAMPLES, TOP, Ended, InFolder, named_programs, program, run, text_of
 
 sys.path.insert(0, str(TOP / "tools"))
 
@@ -56,14 +56,12 @@ def file_of(name):
     return READING["describe"][1] if name == "describe" else pathlib.Path(HALF_ADDER).read_text()
 
 
-class Folder(Test):
+class Folder(InFolder):
     """A folder for the files of a test, and runs of commands in it."""
 
     def setUp(self):
-        folder = tempfile.TemporaryDirectory()
-        self.addCleanup(folder.cleanup)
-        self.here = pathlib.Path(folder.name)
-        self.environment = {**os.environ, "INTERP": program("interp"), "NFQ": program("nfq")}
+        super().setUp()
+        self.environment = {**os.environ, **named_programs()}
 
     def call(self, name, words, text=None, **how):
         return run([tool(name), *words], text, cwd=self.here, env=self.environment, **how)
@@ -244,8 +242,7 @@ class Statuses(Folder):
             return self.call(name, words, text)
         path = self.here / "program"
         if program_text[0] is not None:
-            path.write_text(f"#!/bin/sh\ncat > read\n{program_text[0]}\n")
-            path.chmod(0o755)
+            self.script("program", f"cat > read\n{program_text[0]}")
         environment = {**self.environment, "INTERP": str(path), "NFQ": str(path)}
         ended = run([tool(name), *words], text, cwd=self.here, env=environment)
         path.unlink(missing_ok=True)
@@ -503,7 +500,7 @@ class Throwing(Folder):
     def test_thrown(self):
         draws = random.Random(self.SEED)
         cases = [thrown(draws) for _ in range(self.COUNT)]
-        os.environ.update(INTERP=self.environment["INTERP"], NFQ=self.environment["NFQ"])
+        os.environ.update(named_programs())
         answered = collections.Counter()
         fork = multiprocessing.get_context("fork")
         with concurrent.futures.ProcessPoolExecutor(os.cpu_count(), fork) as pool:

@@ -7,13 +7,11 @@ program is not installed.
 """
 
 import functools
-import pathlib
 import random
-import tempfile
 import unittest
 
 from bench import brial
-from tests.harness import TOP, Test, description, installed, program, run
+from tests.harness import TOP, InFolder, description, installed, program, run
 from tests.made_descriptions import valued
 
 FILES = 100
@@ -52,13 +50,8 @@ def printed(mode, text):
     return run([program("interp"), mode], text).out
 
 
-class Witness(Test):
+class Witness(InFolder):
     """One test for each other program."""
-
-    def setUp(self):
-        folder = tempfile.TemporaryDirectory()
-        self.addCleanup(folder.cleanup)
-        self.folder = pathlib.Path(folder.name)
 
     def expect_each(self, lines, wanted):
         """A line of the other program for each file."""
@@ -68,7 +61,7 @@ class Witness(Test):
                 self.assertEqual(line, wanted)
 
     def test_brial(self):
-        driver = brial.driver(self.folder)
+        driver = brial.driver(self.here)
         if driver is None:
             raise unittest.SkipTest("BRiAl is not installed")
         for sample in samples():
@@ -87,7 +80,7 @@ class Witness(Test):
     def test_macaulay2(self):
         """By Macaulay2: the ideal of the care points, intersected point by point."""
         macaulay2 = installed("M2")
-        script = self.folder / "points.m2"
+        script = self.here / "points.m2"
         script.write_text("\n".join(in_macaulay2(sample) for sample in samples()))
         self.expect_each(run([macaulay2, "--script", script]).out.splitlines(), "same")
 
@@ -103,16 +96,16 @@ class Witness(Test):
 
     def compare_in_abc(self, abc, text):
         """What ABC says of a file and of the circuit of its answer."""
-        file = self.folder / "file.pla"
+        file = self.here / "file.pla"
         file.write_text(text)
         circuit = run([TOP / "tools/answer_as", "verilog", file], printed("anf", text)).out
-        (self.folder / "answer.v").write_text(circuit)
+        (self.here / "answer.v").write_text(circuit)
         steps = [
             "read_pla file.pla; strash; write_blif file.blif",
             "read_verilog answer.v; strash; write_blif answer.blif",
             "cec -n file.blif answer.blif",
         ]
-        return run([abc, "-c", "; ".join(steps)], cwd=self.folder).out
+        return run([abc, "-c", "; ".join(steps)], cwd=self.here).out
 
 
 def in_singular(sample):
