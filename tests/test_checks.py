@@ -42,7 +42,10 @@ fn add_one(number: u64) -> u64
 }
 """,
     "crates/low/src/inner.rt": """\
+ghost use Rattle.low.specs.MarkLaws.{MarksAscend};
 ghost use Rattle.low.specs.Marks as marks;
+ghost use Rattle.low.specs.Odd;
+ghost use Rattle.low.specs.Odd.{IsEven as IsTwice, IsHidden};
 
 /// What has marks.
 pub trait Marked {
@@ -50,16 +53,52 @@ pub trait Marked {
         ensures { marks.IsSmall result };
 }
 
+struct Inner;
+
+impl Inner {
+    // IsHidden
+    fn mark(&self) -> u64
+        ensures { IsHidden result }
+    {
+        1
+    }
+}
+
 /// The mark of the mark.
 pub fn twice(number: u64) -> u64
-    requires { marks.IsSmall number }
+    requires { marks.IsSmall number
+        × IsTwice number }
     ensures first { marks.IsMarked number number }
-    ensures second { marks.IsMarked number result }
+    ensures second { marks.IsMarked number result × MarksAscend }
 {
+    // (IsHidden)
     number + 2
 }
+
+fn hidden()
+    ensures { IsHidden 1 }
+{
+}
 """,
-    "crates/low/specs/Lib.antt": "pub mod Marks\n",
+    "crates/low/specs/Lib.antt": "pub mod Marks\npub mod MarkLaws\npub mod Odd\n",
+    "crates/low/specs/MarkLaws.antt": "abbrev pub MarksAscend : Type 0\nMarksAscend = 1 < 2\n",
+    "crates/low/specs/Odd.antt": """\
+-- Numbers by their last bit.
+use Rattle.std.specs.Prelude.{ℕ}
+
+-- the last bit is 1
+abbrev pub IsOdd : ℕ → Type 0
+IsOdd n = (k : ℕ) → n ≡ k + k + 1
+-- (and none is both)
+
+abbrev pub IsEven : ℕ → Type 0
+IsEven n = (k : ℕ) → n ≡ k + k
+
+IsNoHead n = n
+
+abbrev pub IsHidden : ℕ → Type 0
+IsHidden n = n ≡ 0
+""",
     "crates/low/specs/Marks.antt": """\
 -- Marks.
 use Rattle.std.specs.Prelude.{ℕ, ◌≡◌, ◌+◌, ◌<◌}
@@ -114,6 +153,7 @@ of numbers.
     "crates/interp_run/src/top.rt": """\
 //! The top call.
 ghost use Rattle.low.specs.Marks.{IsMarked};
+ghost use Rattle.low.specs.Odd;
 
 use low::mark;
 
@@ -121,6 +161,7 @@ pub fn run<R: Threads>(
     rt: &R,
 ) -> u8
     ensures headline { IsMarked 1 result }
+    ensures odd { Odd.IsOdd 1 }
 {
     mark(1)
 }
@@ -140,10 +181,12 @@ run_answer = mark_is small_mark
 # What stands behind `run`
 
 - `IsMarked`, `next` (`Marks.antt`): the next number is the mark of a number.
+- `IsOdd`: the last bit is 1.
 
 # Inner words
 
 - `IsSmall`: below 1,024.
+- `IsEven`: the last bit is 0.
 """,
     "docs/ARCHITECTURE.md": "| `low` |\n| `interp_run` |\n| `low_tests` |\n",
     "docs/PROVED.md": "| `low` |\n| `interp_run` |\n",
@@ -312,7 +355,7 @@ class Definitions(Repository):
         document, told = "docs/DEFINITIONS.md", "docs/DEFINITIONS.md: "
         named = "is named by a clause of a public function, and by no item"
         no_small = {document: swapped("- `IsSmall`: below 1,024.\n", "")}
-        method = {**no_small, INNER: swapped("    requires { marks.IsSmall number }\n", "")}
+        method = {**no_small, INNER: swapped("{ marks.IsSmall number\n", "{ 1\n")}
         self.expect_faults(
             "definitions",
             [
@@ -334,16 +377,26 @@ class Definitions(Repository):
                 ),
                 (no_small, f"{told}IsSmall {named}"),
                 (method, f"{told}IsSmall {named}"),
+                ({document: swapped("- `IsEven`: the last bit is 0.\n", "")}, f"{told}IsEven {named}"),
+                ({INNER: swapped("fn hidden", "pub fn hidden")}, f"{told}IsHidden {named}"),
+                ({INNER: swapped("    fn mark(", "    pub fn mark(")}, f"{told}IsHidden {named}"),
+                ({INNER: swapped("impl Inner", "impl Marked for Inner")}, f"{told}IsHidden {named}"),
+                (
+                    {document: swapped("- `IsOdd`: the last bit is 1.\n", "")},
+                    f"{told}IsOdd stands behind `run`, and the first part does not name it",
+                    f"{told}IsOdd {named}",
+                ),
             ],
         )
-        private = {**method, INNER: lambda text: text.replace("{ marks.IsSmall", "{ IsSmall")}
-        self.expect_good("definitions", private, "a word that is no definition there")
-        hidden = swapped("/// One more.\nfn", "/// One more.\npub(crate) fn")
-        self.expect_good("definitions", {LIB: hidden}, "a function for the crate alone")
+        hidden = swapped("fn hidden", "pub(crate) fn hidden")
+        self.expect_good("definitions", {INNER: hidden}, "a function for the crate alone")
+        word = {**method, INNER: lambda text: text.replace("{ marks.IsSmall", "{ IsSmall")}
+        self.expect_good("definitions", word, "a word that is no definition there")
 
     def test_list(self):
         ended = self.check("definitions", {}, "--list")
-        told = "low/specs/Marks.antt: IsMarked next\ndefinitions behind run: 2, of 4 lines: ok\n"
+        told = "low/specs/Marks.antt: IsMarked next\nlow/specs/Odd.antt: IsOdd\n"
+        told += "definitions behind run: 3, of 6 lines: ok\n"
         self.assertEqual((ended.status, ended.out), (0, told))
 
 
