@@ -59,6 +59,14 @@ def value(polynomial, point):
     return sum(int(point, 2) & mask == mask for mask in polynomial) % 2
 
 
+def read(printed, names):
+    """The monomials of a printed polynomial, in their order."""
+    if printed == "0":
+        return []
+    bits = {name: 1 << (len(names) - 1 - place) for place, name in enumerate(names)}
+    return [0 if term == "1" else sum(bits[factor] for factor in term.split("*")) for term in printed.split(" + ")]
+
+
 def text(polynomial, names):
     """A set of monomials as the programs print it."""
     terms = []

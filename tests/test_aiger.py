@@ -11,6 +11,7 @@ import tempfile
 
 from bench import brial
 from bench.make_circuits import CIRCUITS, Circuit, galois, numbered
+from tests import plain_polynomials
 from tests.harness import EXAMPLES, Ended, InFolder, Test, answer, installed, program, run
 from tests.needed_nodes import LEAST_BITS, MOST_TERMS, bits_for, cost_of_circuit, due
 from tests.plain_polynomials import Points
@@ -47,17 +48,10 @@ def columns(words, inputs):
     return [sum(1 << place for place, word in enumerate(words) if word[k] == "1") for k in range(inputs)]
 
 
-def mask_of(term, names):
-    """A printed term as a number, the first name the greatest bit."""
-    if term == "1":
-        return 0
-    return sum(1 << (len(names) - 1 - names.index(factor)) for factor in term.split("*"))
-
-
 def read_line(line, names):
     """What stands on the left of a printed line, and its terms in their order."""
     left, right = line.split(" = ")
-    return left, [] if right == "0" else [mask_of(term, names) for term in right.split(" + ")]
+    return left, plain_polynomials.read(right, names)
 
 
 def ones_at(terms, words):

@@ -11,6 +11,7 @@ import re
 import subprocess
 import sys
 
+from bench.make_files import rijndael
 from tests.harness import TOP, InFolder, installed, program
 
 POINTS = 256
@@ -105,7 +106,7 @@ ROWS = [
     ("address of 32 bits", bits("a", 32), ["y"], "f", lambda: [("-" * 12 + "0" * 19 + "1", "1")],
      lambda a: {"y": int(a >> 12 == 1 << 19)}),
     ("S-box of AES, as one table", bits("x", 8), bits("y", 8), "fr",
-     lambda: point_rows(bits("x", 8), aes, ["y"], {"y": 8}), lambda x: aes(x)),
+     lambda: point_rows(bits("x", 8), lambda x: {"y": rijndael(x)}, ["y"], {"y": 8}), lambda x: {"y": rijndael(x)}),
     ("product of 4 bits", bits("a", 4) + bits("b", 4), bits("p", 8), "fr",
      lambda: point_rows(bits("a", 4) + bits("b", 4), lambda a, b: {"p": a * b}, ["p"], {"p": 8}),
      lambda a, b: {"p": a * b}),
@@ -122,29 +123,6 @@ def quotient(a, b):
 
 def decimal(a):
     return {"u": a % 10, "t": a // 10 % 10, "h": a // 100}
-
-
-def aes(x):
-    """The S-box: the inverse in the field, and an affine map."""
-    power, result = x, 1
-    for exponent in range(8):
-        if 254 >> exponent & 1:
-            result = times(result, power)
-        power = times(power, power)
-    y = 0x63
-    for turn in range(5):
-        y ^= (result << turn | result >> (8 - turn)) & 255
-    return {"y": y}
-
-
-def times(a, b):
-    product = 0
-    while b:
-        if b & 1:
-            product ^= a
-        a = a << 1 ^ (0x11B if a & 0x80 else 0)
-        b >>= 1
-    return product
 
 
 VERILOG = [

@@ -9,6 +9,7 @@ fault of a stream.
 
 import random
 
+from tests import plain_polynomials
 from tests.harness import EXAMPLES, Ended, Test, answer, description, program, run
 from tests.made_descriptions import random_rows
 from tests.plain_descriptions import care_points, names, read, with_end
@@ -47,26 +48,10 @@ ENDS = [
 ]
 
 
-def terms_of(polynomial, inputs):
-    """The terms of a printed polynomial, each the set of the places of its variables."""
-    if polynomial == "0":
-        return []
-    factors = [[] if term == "1" else term.split("*") for term in polynomial.split(" + ")]
-    return [{inputs.index(name) for name in term} for term in factors]
-
-
-def value(terms, point):
-    return sum(all(point[place] == "1" for place in term) for term in terms) % 2
-
-
 def random_polynomial(draws, inputs):
     """A polynomial of a few random terms, as it is printed."""
     masks = {draws.randrange(2 ** len(inputs)) for _ in range(draws.randint(0, 6))}
-    terms = []
-    for mask in sorted(masks, reverse=True):
-        factors = [name for place, name in enumerate(inputs) if mask >> (len(inputs) - 1 - place) & 1]
-        terms.append("*".join(factors) or "1")
-    return " + ".join(terms) or "0"
+    return plain_polynomials.text(masks, inputs)
 
 
 def reduced(text, queries):
@@ -129,10 +114,10 @@ class Examples(Test):
         self.assertEqual(again, found)
         for number, before, after in zip(numbers, given, found, strict=True):
             points = care_points(inputs, kind, rows, number)
-            first, second = terms_of(before, ins), terms_of(after, ins)
+            first, second = (plain_polynomials.read(it, ins) for it in (before, after))
             self.assertEqual(
-                [value(first, point) for point in points],
-                [value(second, point) for point in points],
+                [plain_polynomials.value(first, point) for point in points],
+                [plain_polynomials.value(second, point) for point in points],
                 f"{outs[number]} = {before} and {after}",
             )
 

@@ -13,7 +13,7 @@ import resource
 import tempfile
 
 from bench import make_files
-from tests import test_refused
+from tests import plain_polynomials, test_refused
 from tests.harness import TOP, Ended, Test, description, program, run
 from tests.test_devices import Trial
 
@@ -42,10 +42,8 @@ RUNS = [
 
 def polynomial(draws, inputs, count):
     """The sum of so many random terms, as a query has it."""
-    terms = []
-    for mask in sorted(draws.sample(range(1, 2**inputs), count), reverse=True):
-        terms.append("*".join(f"x{place + 1}" for place in range(inputs) if mask >> (inputs - 1 - place) & 1))
-    return " + ".join(terms)
+    names = [f"x{place}" for place in range(1, inputs + 1)]
+    return plain_polynomials.text(draws.sample(range(1, 2**inputs), count), names)
 
 
 def queries(draws, inputs, outputs, counts):
