@@ -25,7 +25,7 @@ FILES = {
 //! numbers.
 ghost use Rattle.low.specs.Marks.{IsMarked};
 
-pub use inner::twice;
+pub use inner::{Inner, Marked, twice};
 
 /// The mark of a number.
 pub fn mark(number: u64) -> u64
@@ -53,7 +53,15 @@ pub trait Marked {
         ensures { marks.IsSmall result };
 }
 
-struct Inner;
+pub struct Inner;
+
+impl Marked for Inner {
+    ghost held = 1;
+
+    fn mark_of(&self) -> u64 {
+        7
+    }
+}
 
 impl Inner {
     // IsHidden
@@ -61,6 +69,10 @@ impl Inner {
         ensures { IsHidden result }
     {
         1
+    }
+
+    pub fn marks(&self) -> u64 {
+        self.mark()
     }
 }
 
@@ -141,6 +153,15 @@ mark_is n m is = is
 """,
     "crates/low/must-fail/other_mark.edit": "file: src/lib.rt\nold: number + 1\nnew: number + 3\n",
     "crates/low/must-fail/third_mark.edit": "# clause: second\nfile: src/inner.rt\nold: number + 2\nnew: number\n",
+    "crates/low/must-fail/held_mark.edit": "# clause: held\nfile: src/inner.rt\nold:         7\nnew:         6\n",
+    "crates/low/must-fail/mark_of_trait.edit": (
+        "# clause: ensures\nfile: src/inner.rt\nold:         7\nnew:         8\n"
+    ),
+    "crates/low/must-fail/hidden_mark.edit": "file: src/inner.rt\nold:         1\nnew:         2\n",
+    "crates/low/must-fail/no_function.edit": (
+        "# clause: twice first\nfile: src/inner.rt\nold: struct Inner;\nnew: struct Outer;\n"
+        "file: src/inner.rt\nold: struct Outer;\nnew: struct Inner(u8);\n"
+    ),
     "crates/low/README.md": """\
 # low
 
@@ -222,6 +243,7 @@ class Repository(Test):
         with self.case(f"{name}: {what}"):
             ended = self.check(name, changes)
             self.assertEqual((ended.status, len(ended.out.splitlines()), ended.err), (0, 1, ""), ended)
+            self.assertRegex(ended.out, r"(: ok|the proofs are in shape)\n$")
 
     def expect_faults(self, name, cases):
         """Each of these changes has its messages, and no others, before the last line."""
@@ -380,7 +402,7 @@ class Definitions(Repository):
                 ({document: swapped("- `IsEven`: the last bit is 0.\n", "")}, f"{told}IsEven {named}"),
                 ({INNER: swapped("fn hidden", "pub fn hidden")}, f"{told}IsHidden {named}"),
                 ({INNER: swapped("    fn mark(", "    pub fn mark(")}, f"{told}IsHidden {named}"),
-                ({INNER: swapped("impl Inner", "impl Marked for Inner")}, f"{told}IsHidden {named}"),
+                ({INNER: swapped("impl Inner", "impl Other for Inner")}, f"{told}IsHidden {named}"),
                 (
                     {document: swapped("- `IsOdd`: the last bit is 1.\n", "")},
                     f"{told}IsOdd stands behind `run`, and the first part does not name it",
@@ -415,6 +437,11 @@ class Edits(Repository):
                 ({third: swapped("# clause: second\n", "")}, f"{third}: it names no clause, and needs to"),
                 ({third: swapped("second", "third")}, f"{third}: it names a clause that is none: third"),
                 ({third: swapped("second", "mark second")}, f"{third}: it names a clause that is none: mark second"),
+                ({third: swapped("second", "ensures")}, f"{third}: it names a clause that is none: ensures"),
+                (
+                    {f"{LOW}/must-fail/no_function.edit": swapped("# clause: twice first\n", "")},
+                    f"{LOW}/must-fail/no_function.edit: it names no clause, and needs to",
+                ),
             ],
         )
         self.expect_good("edits", {third: swapped("second", "mark ensures")}, "a clause of another function")
@@ -431,13 +458,20 @@ class Edits(Repository):
     def test_counts(self):
         self.expect_good("edits", self.many(1, 16), "16 in a crate")
         self.expect_faults("edits", [(self.many(1, 17), "c00 has 17 edits, more than 16")])
-        self.expect_faults("edits", [(self.many(24, 15), "there are 362 edits, more than 360")])
+        self.expect_faults("edits", [(self.many(24, 15), "there are 366 edits, more than 360")])
 
     def test_list(self):
         """Behind a function that other crates cannot name stands one that they can."""
         ended = self.check("edits", {}, "--list")
-        lines = ["low other_mark: add_one (mark), ensures", "low third_mark: twice, second"]
-        self.assertEqual((ended.status, ended.out.splitlines()), (0, [*lines, "edits that must fail: 2: ok"]))
+        lines = [
+            "low held_mark: Inner::mark_of, held",
+            "low hidden_mark: Inner::mark (Inner::marks), ensures",
+            "low mark_of_trait: Inner::mark_of, ensures",
+            "low no_function: twice, first",
+            "low other_mark: add_one (mark), ensures",
+            "low third_mark: twice, second",
+        ]
+        self.assertEqual((ended.status, ended.out.splitlines()), (0, [*lines, "edits that must fail: 6: ok"]))
 
 
 class Crates(Repository):
