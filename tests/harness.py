@@ -25,6 +25,16 @@ SECONDS = 100
 # The status by which the script of a program says that it could not be built.
 NOT_BUILT = 70
 
+# What each program says of wrong words. What steal says is what interp does.
+USAGE = {
+    "interp": "interp: usage: interp MODE [--workers N] [--nodes B] [--terms T] [--seed S] [--order NAMES]\n",
+    "nfq": "nfq: usage: nfq reduce|union|meet\n",
+    "circuit": "circuit: usage: circuit anf|basis|count|equal "
+    "[--nodes B] [--terms T] [--order NAMES] [--care NAME] [--invert NAMES]\n",
+    "batch": "batch: usage: batch anf|basis [--workers N] [--nodes B] [--terms T] [--order NAMES]\n",
+}
+USAGE["steal"] = USAGE["interp"]
+
 # How a run ended: its status, which is negative where a signal ended it, and what it wrote, as text.
 Ended = collections.namedtuple("Ended", "status out err")
 

@@ -18,13 +18,11 @@ import tempfile
 import time
 import unittest
 
-from tests.harness import ALL, EXAMPLES, Ended, Fault, Test, description, faults, installed, program, run
+from tests.harness import ALL, EXAMPLES, USAGE, Ended, Fault, Test, description, faults, installed, program, run
 from tests.made_descriptions import random_cube, random_rows, shared_out
 
 MOST_FILE = 4_194_304
 MOST_STREAM = 67_108_864
-
-USAGE = "batch: usage: batch anf|basis [--workers N] [--nodes B] [--terms T] [--order NAMES]\n"
 
 POINTS = description(2, 1, "fr", ["11 1", "00 0"], end=None)
 CONTRADICTION = description(2, 1, "fr", ["1- 1", "-1 0"], end=None)
@@ -135,7 +133,7 @@ class Batches(Test):
     def test_words(self):
         for words in ("", "check", "gen", "gen --seed 1", "anf basis", "anf --workers 0", "anf --nodes", "solve"):
             with self.case(words or "no words"):
-                self.assertEqual(run([program("batch"), *words.split()], POINTS), Ended(2, "", USAGE))
+                self.assertEqual(run([program("batch"), *words.split()], POINTS), Ended(2, "", USAGE["batch"]))
 
     def test_an_order(self):
         with self.case("an order of the inputs, which one file does not have"):

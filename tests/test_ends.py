@@ -5,10 +5,9 @@ The last tests look at mode gen by several workers, and at the lines of progress
 
 import subprocess
 
-from tests.harness import EXAMPLES, Ended, Test, description, program, run
+from tests.harness import EXAMPLES, USAGE, Ended, Test, description, program, run
 
 POINTS = description(2, 1, "fr", ["11 1", "00 0"])
-USAGE = "interp: usage: interp MODE [--workers N] [--nodes B] [--terms T] [--seed S] [--order NAMES]\n"
 ORDER = "interp: order must name every input once\n"
 TOLD = "output 1: 1 terms, 1 basis\n"
 
@@ -22,8 +21,8 @@ ENDS = [
     ("check", f"{POINTS}f1 = x2\n", 1, ""),
     ("check --order x2,x1", f"{POINTS}f1 = x1\n0 = x2 + x1\n", 0, ""),
     ("check --order x2,x1", f"{POINTS}f1 = x2\n0 = x1 + x2\n", 3, "interp: answer line 2: TermOrder\n"),
-    ("", "", 2, USAGE),
-    ("anf --nodes 3", "", 2, USAGE),
+    ("", "", 2, USAGE["interp"]),
+    ("anf --nodes 3", "", 2, USAGE["interp"]),
     ("anf", description(2, 1, "fd", ["1-"], end=None), 3, "interp: line 4: RowLength\n"),
     ("check", description(15, 1, "fr", []) + "f1 = 0\n0 = 1\n", 3, "interp: more than 14 inputs cannot be checked\n"),
     ("check", f"{POINTS}f1 = x2\n0 = x3\n", 3, "interp: answer line 2: UnknownName\n"),

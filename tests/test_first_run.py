@@ -16,15 +16,9 @@ import tempfile
 import time
 import unittest
 
-from tests.harness import TOP, Test, program, run
+from tests.harness import TOP, USAGE, Test, program, run
 
-# What a program says of wrong words, and what its script adds.
-USAGE = {
-    "interp": "interp: usage: interp MODE [--workers N] [--nodes B] [--terms T] [--seed S] [--order NAMES]\n",
-    "nfq": "nfq: usage: nfq reduce|union|meet\n",
-    "circuit": "circuit: usage: circuit anf|basis|count|equal [--nodes B] [--terms T] [--order NAMES] [--care NAME] [--invert NAMES]\n",
-    "batch": "batch: usage: batch anf|basis [--workers N] [--nodes B] [--terms T] [--order NAMES]\n",
-}
+# What the script of a program adds to what this says of wrong words.
 ADVICE = {
     "interp": "interp reads standard input: interp anf < file.pla\n",
     "nfq": "nfq reads standard input: nfq reduce < file.pla\n",
@@ -32,8 +26,7 @@ ADVICE = {
     "batch": "batch reads standard input: batch anf < file.pla\n",
 }
 # What steal says is what interp does.
-for said in (USAGE, ADVICE):
-    said["steal"] = said["interp"]
+ADVICE["steal"] = ADVICE["interp"]
 REFUSED = [
     ("interp", []),
     ("interp", [""]),

@@ -10,7 +10,7 @@ fault of a stream.
 import random
 
 from tests import plain_polynomials
-from tests.harness import EXAMPLES, Ended, Test, answer, description, program, run
+from tests.harness import EXAMPLES, USAGE, Ended, Test, answer, description, program, run
 from tests.made_descriptions import random_rows
 from tests.plain_descriptions import care_points, names, read, with_end
 
@@ -20,8 +20,6 @@ FILES = (
 ).split()
 POLYNOMIALS = 8
 RANDOM_FILES = 60
-
-USAGE = "nfq: usage: nfq reduce|union|meet\n"
 
 # The care points are the graph of x1 = (x2 + 1)*(x3 + 1)*..*(x21 + 1), so the normal form of x1 has 2^20 terms.
 GRAPH = ["1" + 20 * "0", *("0" + place * "-" + "1" + (19 - place) * "-" for place in range(20))]
@@ -34,9 +32,9 @@ SELECTS = (EXAMPLES / "selects_last.pla").read_text()
 
 # Of most kinds of end: the words, the file, the status and the message.
 ENDS = [
-    ("", "", 2, USAGE),
-    ("anf", "", 2, USAGE),
-    ("reduce reduce", "", 2, USAGE),
+    ("", "", 2, USAGE["nfq"]),
+    ("anf", "", 2, USAGE["nfq"]),
+    ("reduce reduce", "", 2, USAGE["nfq"]),
     ("reduce", "", 3, "nfq: line 0: NoSize\n"),
     ("reduce", f"{TWO_POINTS}f1 = x2 + x1\n", 3, "nfq: query line 1: TermOrder\n"),
     ("reduce", f"{ONE_POINT}\nf2 = x1\n", 3, "nfq: query line 2: UnknownName\n"),
