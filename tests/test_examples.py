@@ -13,6 +13,9 @@ from tests.plain_descriptions import inputs_of, with_end
 # The inputs that mode check takes.
 MOST_CHECKED = 14
 
+# So many outputs have a line of progress.
+MOST_TOLD = 16
+
 # The ends of a judgement.
 YES = Ended(0, "yes\n", "")
 
@@ -25,6 +28,18 @@ def no(line, fault):
 def is_element(line):
     """Whether a line of an answer is an element of a basis."""
     return line.startswith("0 = ")
+
+
+def progress(text):
+    """The lines of progress on an answer: the terms of each of the first 16 outputs, and the elements of its basis."""
+    counts = []
+    for line in text.splitlines():
+        if is_element(line):
+            counts[-1][1] += 1
+        else:
+            counts.append([0 if line.endswith(" = 0") else line.count(" + ") + 1, 0])
+    numbered = enumerate(counts[:MOST_TOLD], 1)
+    return "".join(f"output {output}: {terms} terms, {elements} basis\n" for output, (terms, elements) in numbered)
 
 
 def changes_of_first(line):
@@ -70,14 +85,14 @@ class Answers(Test):
         for mode in ("anf", "basis"):
             for file in self.files(mode):
                 with self.case(file.name):
-                    ended = self.answer_to(file, [mode])
-                    self.assertEqual((ended.status, ended.out), (0, file.read_text()))
+                    text = file.read_text()
+                    self.assertEqual(self.answer_to(file, [mode]), Ended(0, text, progress(text)))
 
     def test_orders(self):
         for file in self.files("ordered"):
             with self.case(file.name):
-                ended = self.answer_to(file, ["anf", "--order", file.with_suffix(".order").read_text().strip()])
-                self.assertEqual((ended.status, ended.out), (0, file.read_text()))
+                text, order = file.read_text(), file.with_suffix(".order").read_text().strip()
+                self.assertEqual(self.answer_to(file, ["anf", "--order", order]), Ended(0, text, progress(text)))
 
     def test_messages(self):
         for file in self.files("message"):
@@ -103,7 +118,7 @@ class Circuits(Test):
             for wanted in answers:
                 with self.case(wanted.name):
                     ended = run([program("circuit"), wanted.suffix[1:], *words], file.read_bytes())
-                    self.assertEqual((ended.status, ended.out), (0, wanted.read_text()))
+                    self.assertEqual(ended, Ended(0, wanted.read_text(), ""))
 
     def test_pairs(self):
         for file in sorted(EXAMPLES.glob("*.beside")):
@@ -113,7 +128,8 @@ class Circuits(Test):
             words = ["--care", care.read_text().strip()] if care.is_file() else []
             with self.case(file.name):
                 ended = run([program("circuit"), "equal", *words], first.read_bytes() + second.read_bytes())
-                self.assertEqual((ended.status, ended.out), (0, file.with_suffix(".equal").read_text()))
+                wanted = file.with_suffix(".equal").read_text()
+                self.assertEqual(ended, Ended(int(": different at " in wanted), wanted, ""))
 
 
 class Judged(Test):

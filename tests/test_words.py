@@ -79,7 +79,8 @@ class Words(InFolder):
             self.expect_refused(name, modes[0].upper())
             for words in [*REFUSED, ["--order"], ["--care"], ["--invert"]]:
                 self.expect_refused(name, modes[0], *words)
-        for words in (["--workers", "2"], ["--seed", "1"], *(2 * [f"--{it}", "a"] for it in ("care", "invert", "order"))):
+        twice = [2 * [f"--{it}", "a"] for it in ("care", "invert", "order")]
+        for words in (["--workers", "2"], ["--seed", "1"], *twice):
             self.expect_refused("circuit", "anf", *words)
         for words in (["--care", "f1"], ["--invert", "x1"], ["--order", "x2,x1", "--order", "x2,x1"]):
             for name in ("interp", "steal", "batch"):
