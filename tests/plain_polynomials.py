@@ -67,6 +67,11 @@ def read(printed, names):
     return [0 if term == "1" else sum(bits[factor] for factor in term.split("*")) for term in printed.split(" + ")]
 
 
+def count_terms(printed):
+    """How many terms the polynomials of printed lines have together."""
+    return sum(0 if line.endswith(" = 0") else line.count(" + ") + 1 for line in printed.splitlines())
+
+
 def text(polynomial, names):
     """A set of monomials as the programs print it."""
     terms = []

@@ -27,6 +27,8 @@ ENDS = [
     ("check", description(15, 1, "fr", []) + "f1 = 0\n0 = 1\n", 3, "interp: more than 14 inputs cannot be checked\n"),
     ("check", f"{POINTS}f1 = x2\n0 = x3\n", 3, "interp: answer line 2: UnknownName\n"),
     ("anf", description(2, 1, "fr", ["1- 1", "-1 0"], end=None), 4, "interp: output 1: on line 4, off line 5\n"),
+    ("anf", description(2, 2, "fr", ["1- 11", "-1 10"], end=None), 4, "interp: output 2: on line 4, off line 5\n"),
+    ("basis", description(2, 2, "fr", ["1- 00", "-1 11"]), 4, "interp: output 1: on line 5, off line 4\n"),
     ("anf --nodes 4", description(17, 1, "fd", [], end=None), 5, "interp: more than 16 nodes are needed\n"),
     # The first of these needs 16 nodes, which is what there is room for, and the second 17.
     ("anf --nodes 4", MAJORITY, 0, "output 1: 3 terms, 0 basis\n"),

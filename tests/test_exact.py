@@ -14,6 +14,7 @@ from tests.harness import ALL, EXAMPLES, Fault, Test, description, faults, progr
 from tests.made_descriptions import random_rows, valued
 from tests.needed_nodes import LEAST_BITS, MOST_TERMS, bits_for, cost_of, due
 from tests.plain_descriptions import read
+from tests.plain_polynomials import count_terms
 
 FILES = (
     "full_adder seven_segments half_adder johnson one_hot "
@@ -68,7 +69,7 @@ class Exact(Test):
         """With the least table that has enough slots, and with half of it, again and again."""
         cost = cost_of(*read(text), mode)
         whole = run([program("interp"), mode], text)
-        self.assertEqual(whole.status, 0)
+        self.assertEqual((whole.status, count_terms(whole.out)), (0, cost.terms))
         enough = bits_for(cost.last)
         for bits in range(max(LEAST_BITS, enough - 1), enough + 1):
             for workers in WORKERS * TIMES:
@@ -85,7 +86,7 @@ class Exact(Test):
             text, cost = description(*file), cost_of(*file, mode)
             whole = run([program("interp"), mode], text)
             with self.case(f"{nodes} nodes"):
-                self.assertEqual((cost.last, whole.status), (nodes, 0))
+                self.assertEqual((cost.last, whole.status, count_terms(whole.out)), (nodes, 0, cost.terms))
             for name, bits, workers in itertools.product(PROGRAMS, (17, 18), (2, 4, 8, 16)):
                 with self.case(f"{nodes} nodes, {name} {mode} --nodes {bits} --workers {workers}"):
                     words = [program(name), mode, "--nodes", bits, "--workers", workers]
@@ -119,4 +120,6 @@ class Exact(Test):
                 if whole.status == 4:
                     break
                 with self.case(f"file {number}, {mode}: {text!r}"):
-                    self.try_limits(cost_of(inputs, outputs, kind, rows, mode), whole, mode, text, draws)
+                    cost = cost_of(inputs, outputs, kind, rows, mode)
+                    self.assertEqual((whole.status, count_terms(whole.out)), (0, cost.terms))
+                    self.try_limits(cost, whole, mode, text, draws)

@@ -9,6 +9,7 @@ care output that NAME.care names. NAME.equal is what it prints where the circuit
 
 from tests.harness import EXAMPLES, Ended, Test, program, run
 from tests.plain_descriptions import inputs_of, with_end
+from tests.plain_polynomials import count_terms
 
 # The inputs that mode check takes.
 MOST_CHECKED = 14
@@ -37,7 +38,7 @@ def progress(text):
         if is_element(line):
             counts[-1][1] += 1
         else:
-            counts.append([0 if line.endswith(" = 0") else line.count(" + ") + 1, 0])
+            counts.append([count_terms(line), 0])
     numbered = enumerate(counts[:MOST_TOLD], 1)
     return "".join(f"output {output}: {terms} terms, {elements} basis\n" for output, (terms, elements) in numbered)
 
