@@ -373,6 +373,12 @@ class Random(Test):
         return text
 
 
+def parity_cover(inputs):
+    """The cover of type esop that has a row for each input."""
+    cubes = ["-" * place + "1" + "-" * (inputs - 1 - place) for place in range(inputs)]
+    return description(inputs, 1, "esop", [(cube, "1") for cube in cubes]).encode()
+
+
 class Tables(InFolder):
     """Ways in."""
 
@@ -437,8 +443,8 @@ class Tables(InFolder):
                 for place in range(2**width):
                     self.assertEqual(lowest[int(f"{place:0{width}b}"[::-1], 2)], values[place])
         self.assertEqual(tables.hexadecimal(" 69_96 6996\r\n"), tables.hexadecimal("0x69966996"))
-        for bad in ("", "0x", "123", "xyz", "6996 6996 1", "6996\n8000\n"):
-            with self.case(bad), self.assertRaises(tables.TableError):
+        for bad in ("", "0x", "123", "xyz", "6996 6996 1", "6996\n8000\n", (tables.MOST_VALUES // 2) * "0"):
+            with self.case(bad[:20]), self.assertRaises(tables.TableError):
                 tables.hexadecimal(bad)
 
     def test_hexadecimal_as_abc_has_it(self):
@@ -478,6 +484,13 @@ class Tables(InFolder):
                     cubes = [row.inputs for row in given.rows if row.outputs[output] == "1"]
                     for one, other in itertools.combinations(cubes, 2):
                         self.assertTrue(any({a, b} == {"0", "1"} for a, b in zip(one, other)))
+        with self.case("other symbols for a free input and for 1"):
+            given = tables.exclusive_or(description(2, 1, "esop", [("12", "4"), ("-1", "~")]).encode())
+            self.assertEqual(self.values(given), [0, 0, 1, 1])
+        with self.case("as many rows as may be"):
+            self.assertEqual(len(tables.exclusive_or(parity_cover(17)).rows), tables.MOST_ROWS)
+        with self.case("twice as many"), self.assertRaises(tables.TableError):
+            tables.exclusive_or(parity_cover(18))
         with self.case("another type"), self.assertRaises(descriptions.DescriptionError):
             tables.exclusive_or(description(1, 1, "f", [("1", "1")]).encode())
 
@@ -485,6 +498,8 @@ class Tables(InFolder):
         for values in ([], [1], [1, 2, 3], [0, 4], [0, -1], [0, "1"], [0, 1.0]):
             with self.case(str(values)), self.assertRaises(tables.TableError):
                 tables.table(values, 2)
+        with self.case("too many values"), self.assertRaisesRegex(tables.TableError, "more than 1048576 values"):
+            tables.table([0] * (2 * tables.MOST_VALUES), 1)
         with self.assertRaises(tables.TableError):
             tables.table([0, 1], inputs=["a", "b"])
         with self.assertRaises(tables.TableError):
@@ -494,6 +509,16 @@ class Tables(InFolder):
         with self.assertRaises(tables.TableError):
             tables.points(["1" * 1025])
         self.assertEqual((tables.table([0, 1], 1024).outputs, tables.points(["1" * 1024]).inputs), (1024, 1024))
+
+    def test_constants(self):
+        """Constants of yosys: numbers of 32 bits, those of equal bits, and bits without a value."""
+        cases = [("5", f"{5:032b}"), ("-1", 32 * "1"), ("4'1", "1111"), ("3'1z-", "1xx"), ("2'x", "xx"), ("1'0", "0")]
+        for word, bits in cases:
+            with self.case(word):
+                self.assertEqual(tables.constant_bits(word), bits)
+        for word in ("3'10", "2'2", "'1", "0x1"):
+            with self.case(word), self.assertRaises(tables.TableError):
+                tables.constant_bits(word)
 
     def test_yosys(self):
         """A circuit with x, by what yosys prints of it."""
