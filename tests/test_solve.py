@@ -21,7 +21,7 @@ from tests.harness import TOP, InFolder, Test, program, run
 sys.path.insert(0, str(TOP / "tools"))
 
 import leastanf
-from leastanf import descriptions, orders, points, remedies, solving
+from leastanf import descriptions, orders, points, polarity, remedies, solving
 from leastanf.__main__ import COMMANDS
 from leastanf.polynomials import Monomials
 from leastanf.commands import solve as command
@@ -532,6 +532,37 @@ class OnRequest(Solving):
         self.assertTrue(any(order[-3:] == used for _, order in named))
         for _, order in named:
             self.assertEqual(sorted(order), list(range(12)))
+
+    def test_orders_that_are_tried(self):
+        """By the literals of the rows and the numbers in names; no two are the same, and none is that of the file."""
+        names = "a[0] a[1] a[2] s b[0] b[1]".split()
+        cubes = [(0b110000, 0b110000), (0b010100, 0b000100)]
+        wanted = {
+            "reversed": "b[1] b[0] s a[2] a[1] a[0]",
+            "most literals first": "a[1] a[0] s a[2] b[0] b[1]",
+            "narrow names first": "s b[0] b[1] a[0] a[1] a[2]",
+            "narrow names first, highest bit first": "s b[1] b[0] a[2] a[1] a[0]",
+            "single names first, bits side by side": "s a[0] b[0] a[1] b[1] a[2]",
+            "single names first, highest bits first": "s a[2] a[1] b[1] a[0] b[0]",
+            "bits side by side": "a[0] b[0] a[1] b[1] a[2] s",
+            "highest bits first": "a[2] a[1] b[1] a[0] b[0] s",
+            "fewest literals first": "a[2] b[0] b[1] a[0] s a[1]",
+            "narrow names last": "a[0] a[1] a[2] b[0] b[1] s",
+            "most informative first": "a[1] a[0] a[2] s b[0] b[1]",
+            "halves side by side": "a[0] s a[1] b[0] a[2] b[1]",
+        }
+        found = dict(orders.static_orders(range(6), cubes, names, 6))
+        self.assertEqual({what: " ".join(names[at] for at in order) for what, order in found.items()}, wanted)
+        self.assertEqual(orders.static_orders([0], [], ["x"], 1), [])
+
+    def test_polarities_that_are_tried(self):
+        """By the zeros and ones that the rows of value 1 have; no two are the same."""
+        rows = ["00- 1", "01- 1", "-11 1", *3 * ["110 0"]]
+        given = descriptions.parse("\n".join([".i 3", ".o 1", ".type f", *rows, ""]).encode(), "f")
+        wanted = [("none", []), ("all", [0, 1, 2]), ("more zeros than ones", [0]), ("more ones than zeros", [1, 2])]
+        self.assertEqual(polarity.candidates(given), wanted)
+        given = descriptions.parse(b".i 1\n.o 1\n.type f\n0 1\n", "f")
+        self.assertEqual(polarity.candidates(given), [("none", []), ("all", [0])])
 
     def test_polarity(self):
         """A decoder of 20 bits has more than a million terms, and one where its inputs are complemented."""
