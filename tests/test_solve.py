@@ -535,21 +535,21 @@ class OnRequest(Solving):
 
     def test_orders_that_are_tried(self):
         """By the literals of the rows and the numbers in names; no two are the same, and none is that of the file."""
-        names = "a[0] a[1] a[2] s b[0] b[1]".split()
+        names = "a[0] a[10] a[2] s b[0] b[1]".split()
         cubes = [(0b110000, 0b110000), (0b010100, 0b000100)]
         wanted = {
-            "reversed": "b[1] b[0] s a[2] a[1] a[0]",
-            "most literals first": "a[1] a[0] s a[2] b[0] b[1]",
-            "narrow names first": "s b[0] b[1] a[0] a[1] a[2]",
-            "narrow names first, highest bit first": "s b[1] b[0] a[2] a[1] a[0]",
-            "single names first, bits side by side": "s a[0] b[0] a[1] b[1] a[2]",
-            "single names first, highest bits first": "s a[2] a[1] b[1] a[0] b[0]",
-            "bits side by side": "a[0] b[0] a[1] b[1] a[2] s",
-            "highest bits first": "a[2] a[1] b[1] a[0] b[0] s",
-            "fewest literals first": "a[2] b[0] b[1] a[0] s a[1]",
-            "narrow names last": "a[0] a[1] a[2] b[0] b[1] s",
-            "most informative first": "a[1] a[0] a[2] s b[0] b[1]",
-            "halves side by side": "a[0] s a[1] b[0] a[2] b[1]",
+            "reversed": "b[1] b[0] s a[2] a[10] a[0]",
+            "most literals first": "a[10] a[0] s a[2] b[0] b[1]",
+            "narrow names first": "s b[0] b[1] a[0] a[2] a[10]",
+            "narrow names first, highest bit first": "s b[1] b[0] a[10] a[2] a[0]",
+            "single names first, bits side by side": "s a[0] b[0] a[2] b[1] a[10]",
+            "single names first, highest bits first": "s a[10] a[2] b[1] a[0] b[0]",
+            "bits side by side": "a[0] b[0] a[2] b[1] a[10] s",
+            "highest bits first": "a[10] a[2] b[1] a[0] b[0] s",
+            "fewest literals first": "a[2] b[0] b[1] a[0] s a[10]",
+            "narrow names last": "a[0] a[2] a[10] b[0] b[1] s",
+            "most informative first": "a[10] a[0] a[2] s b[0] b[1]",
+            "halves side by side": "a[0] s a[10] b[0] a[2] b[1]",
         }
         found = dict(orders.static_orders(range(6), cubes, names, 6))
         self.assertEqual({what: " ".join(names[at] for at in order) for what, order in found.items()}, wanted)
