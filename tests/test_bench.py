@@ -163,15 +163,15 @@ class Measurements(InFolder):
     def test_runs(self):
         """The least time of each program counts, and what a signal ends, or takes too long, is not run again."""
         lines = {
-            "first_is_slow": "[ -e slow ] || sleep 0.5; touch slow",
+            "first_is_slow": "[ -e slow ] || sleep 0.9; touch slow",
             "killed": "kill -9 $$",
             "late": "exec sleep 20",
         }
         columns = [(name, [self.script(name, f"echo {name} >> runs; {text}")]) for name, text in lines.items()]
-        line = "import run; run.LIMIT = 1; times, results = run.measure({}, '/dev/null', 3); print(times[0] < 400)"
+        line = "import run; run.LIMIT = 2; times, results = run.measure({}, '/dev/null', 3); print(times[0] < 900)"
         line += "; print(*[run.cell(0.4, result[2]) for result in results], sep=', ')"
         ended = self.python(line.format(columns))
-        self.assertEqual(tuple(ended), (0, "True\n0, 0, status -9, none in 1 s\n", ""))
+        self.assertEqual(tuple(ended), (0, "True\n0, 0, status -9, none in 2 s\n", ""))
         runs = (self.here / "runs").read_text().split()
         self.assertEqual({name: runs.count(name) for name in lines}, {"first_is_slow": 3, "killed": 1, "late": 1})
 
