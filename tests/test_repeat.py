@@ -50,7 +50,7 @@ def small_files():
 
 
 def middle_files():
-    """The same of files on tables of 2^13 to 2^17 slots, of those that outgrow a small table also what starts there."""
+    """The same of files on tables of 2^14 to 2^17 slots, of those that outgrow a small table also what starts there."""
     draws = random.Random(1)
     yield 0, ("one output", "anf", description(16, 1, "fr", valued(draws, 300, 16, 1)))
     yield 1, ("many outputs", "anf", description(12, OUTPUTS, "fr", valued(draws, 64, 12, OUTPUTS)))

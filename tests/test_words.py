@@ -29,7 +29,7 @@ RANGES = {
 OPTIONS = {
     "interp": ("nodes", "terms", "workers", "seed"),
     "steal": ("nodes", "terms", "workers", "seed"),
-    "batch": ("nodes", "terms", "workers"),
+    "batch": ("nodes", "terms", "workers", "seed"),
     "circuit": ("nodes", "terms"),
     "nfq": (),
 }
@@ -56,7 +56,7 @@ class Words(InFolder):
         """At both ends of its range an option is taken, before the mode and behind it, in both forms."""
         for name, options in OPTIONS.items():
             for option in options:
-                mode = "gen" if option == "seed" else "anf"
+                mode = "gen" if option == "seed" and "gen" in BEGUN[name][0] else "anf"
                 least, most, none = RANGES[option]
                 for value in (most, least):
                     lines = [[mode, f"--{option}", value], [mode, f"--{option}={value}"]]
