@@ -209,7 +209,11 @@ run_answer = mark_is small_mark
 - `IsSmall`: below 1,024.
 - `IsEven`: the last bit is 0.
 """,
-    "docs/ARCHITECTURE.md": "| `low` |\n| `interp_run` |\n| `low_tests` |\n",
+    "docs/ARCHITECTURE.md": """\
+| `low` | marks | - |
+| `interp_run` | the top call | `low` |
+| `low_tests` | tests of both | `low` |
+""",
     "docs/PROVED.md": "| `low` |\n| `interp_run` |\n",
     "tests/README": "",
 }
@@ -478,7 +482,11 @@ class Crates(Repository):
     """What is said of crates."""
 
     def test_faults(self):
-        page = f"{LOW}/README.md"
+        page, table = f"{LOW}/README.md", "docs/ARCHITECTURE.md"
+        over_both = {
+            "crates.txt": swapped("low_tests: low", "low_tests: low interp_run"),
+            "crates/low_tests/src/lib.rt": behind("use interp_run::run;\n"),
+        }
         begins = "low has a page that does not begin with its name and what its documentation says"
         self.expect_faults(
             "crates",
@@ -497,12 +505,17 @@ class Crates(Repository):
                 ({page: swapped("**Tests**", "**Trials**")}, "low has a page that does not say where its tests are"),
                 ({page: swapped("MarkLaws", "Laws")}, "low has a page that names proofs/Laws.antt, which is not there"),
                 (
-                    {"docs/ARCHITECTURE.md": swapped("| `low_tests` |\n", "")},
-                    "docs/ARCHITECTURE.md: low_tests has no row",
+                    {table: swapped("| `low_tests` | tests of both | `low` |\n", "")},
+                    f"{table}: low_tests has no row",
                 ),
                 ({"docs/PROVED.md": swapped("| `low` |\n", "")}, "docs/PROVED.md: low has no row"),
+                ({table: swapped("top call | `low`", "top call | -")}, f"{table}: interp_run stands on low too"),
+                ({table: swapped("| - |", "| `low_tests` |")}, f"{table}: low does not stand on low_tests"),
+                (over_both, f"{table}: low_tests stands on interp_run too"),
             ],
         )
+        least = {**over_both, table: swapped("both | `low`", "both | `interp_run`")}
+        self.expect_good("crates", least, "what the other crates of a line stand on is left out")
 
 
 # The files of tests that look at the clock.
