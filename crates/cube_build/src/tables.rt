@@ -111,13 +111,13 @@ impl Demand<'_> {
         }
     }
 
-    /// Whether a run may well need a light table, which suffices by the guess, and so begins with
-    /// one: from few rows the guess is too small as easily as too great.
+    /// Whether a run may well need a light table, and so begins with one: from few rows a guess of up
+    /// to twice as many nodes is too great as easily as too small.
     fn may_be_light(&self, guess: Guess) -> bool {
         !self.is_basis
             && self.has_few_rows()
             && 1 << TRIAL_BITS < guess.nodes
-            && guess.nodes <= 1 << LIGHT_BITS
+            && guess.nodes <= 1 << MANY_BITS
     }
 
     /// The size of the tables that a guess begins with, where the last ones have 2^most slots: what
