@@ -6,9 +6,10 @@
 It makes the files (make_files.py), builds the plain program (plain.rs) by rustc, runs both programs on each file under
 callgrind, a tool of valgrind, and prints a table: the bits of the tables' slots, how often each program looks for a
 kept result, the instructions of both whole runs in millions, those of the operations on diagrams alone by the number of
-its looks, and how many times as many of these interp takes. The last table of both programs has the least of a few
-sizes that suffices for the plain one. What interp looks for is counted by the plain program, on tables as interp tries
-them. Where rustc or valgrind is missing, nothing is measured.
+its looks, and how many times as many of these interp takes. The last table of both programs has the slots that interp
+comes to, or, for a file of which this is not known here, the least of a few sizes that suffices for the plain one. What
+interp looks for is counted by the plain program, on tables as interp tries them. Where rustc or valgrind is missing,
+nothing is measured.
 """
 
 import argparse
@@ -25,11 +26,11 @@ import run
 SOURCE = pathlib.Path(__file__).resolve().parent / "plain.rs"
 TOOLS = ("rustc", "valgrind", "callgrind_annotate")
 
-# The files that are measured where none is named, each with the sizes of the tables that interp fills in vain, in bits
-# of a slot.
-FILLED = {
-    "points_20": [], "points_24": [], "multiplier_6": [14], "redundant_28": [14], "cubes_14": [14], "majority_13": [],
-    "points_14_basis": [], "points_24_basis": [],
+# The files that are measured where none is named, each with the sizes of the tables that interp tries, in bits of a
+# slot. All but the last one are filled in vain.
+TRIED = {
+    "points_20": [18], "points_24": [19], "multiplier_6": [14, 18], "redundant_28": [14, 18], "cubes_14": [17],
+    "majority_13": [16], "points_14_basis": [18], "points_24_basis": [19],
 }  # fmt: skip
 
 HEADS = [
@@ -37,7 +38,7 @@ HEADS = [
     "plain, a look", "ratio",
 ]  # fmt: skip
 
-# The sizes of table that are tried, in bits of a slot, and the status of the plain program where its table is full.
+# The sizes of table that are tried for other files, and the status of the plain program where its table is full.
 SIZES = (12, 16, 18, 19, 20)
 FULL = 3
 
@@ -77,9 +78,10 @@ def ended(words, file):
         return subprocess.run(words, stdin=text, capture_output=True, check=False)
 
 
-def counted(program, mode, file):
-    """The bits of the least table that suffices for the plain program, and how its run ends; None where none does."""
-    for bits in SIZES:
+def counted(program, mode, file, sizes):
+    """The bits of the first of some tables that suffices for the plain program, and how its run ends; None where none
+    does."""
+    for bits in sizes:
         end = ended([program, mode, str(bits)], file)
         if end.returncode != FULL:
             return bits, end
@@ -123,7 +125,8 @@ def measured(name, folder, program, plain):
     # all memory.
     if ended([program, mode, "--nodes", str(SIZES[-1])], path).returncode:
         return no_answer(name, "interp")
-    size = counted(plain[1], mode, path)
+    tried = TRIED.get(name)
+    size = counted(plain[1], mode, path, tried[-1:] if tried else SIZES)
     if size is None:
         return no_answer(name, "plain")
     bits, plain_end = str(size[0]), size[1]
@@ -131,7 +134,7 @@ def measured(name, folder, program, plain):
     end = ended(words, path)
     if end.returncode:
         return no_answer(name, "interp")
-    filled = FILLED.get(name, [])
+    filled = tried[:-1] if tried else []
     found, tables = profiled(words, path)
     if tables != len(filled) + 1:
         return run.tell([name], f"interp makes {tables} tables, and {len(filled)} are said to be filled in vain")
@@ -170,7 +173,7 @@ def main():
         folder = pathlib.Path(folder)
         plain = build(folder)
         print(f"| {' | '.join(HEADS)} |\n|{'---|' * len(HEADS)}")
-        names = options.names or FILLED
+        names = options.names or TRIED
         return max([measured(name, folder, options.program, plain) for name in names])
 
 
