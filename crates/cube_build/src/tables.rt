@@ -111,8 +111,8 @@ impl Demand<'_> {
         }
     }
 
-    /// Whether a run may well need a light table, and so begins with one: from few rows a guess of up
-    /// to twice as many nodes is too great as easily as too small.
+    /// Whether a run may well need a light table, and so begins with one: from few rows a guess of
+    /// up to twice as many nodes is too great as easily as too small.
     fn may_be_light(&self, guess: Guess) -> bool {
         !self.is_basis
             && self.has_few_rows()
