@@ -145,8 +145,8 @@ impl Demand<'_> {
     }
 
     /// The size of the tables that are tried after those of 2^bits slots, where the last ones have
-    /// 2^most: a step more, or what suffices by the guess where that is more than a step. From few
-    /// rows too little is known for that, unless the guess is sure.
+    /// 2^most: a step more, or what suffices by the guess where that is more than a step. Where all
+    /// rows fit small tables too little is known for that, unless the guess is sure.
     pub fn next_size(&self, bits: u32, most: u32) -> u32
         requires { (bits < most) × (most ≤ MAX_BITS) }
         ensures { (bits < result) × (result ≤ most) }
