@@ -9,7 +9,7 @@ from typing import NamedTuple
 # (the tests import this file as one of a package)
 sys.path.insert(0, str(pathlib.Path(__file__).resolve().parent))
 
-from make_files import PRESENT, rijndael
+from make_files import PRESENT, folder_to_fill, rijndael
 
 FALSE, TRUE = 0, 1
 
@@ -366,8 +366,7 @@ CIRCUITS = {
 
 
 def main():
-    folder = pathlib.Path(sys.argv[1])
-    folder.mkdir(parents=True, exist_ok=True)
+    folder = folder_to_fill()
     for name, make in CIRCUITS.items():
         (folder / f"{name}.aig").write_bytes(make().binary())
 

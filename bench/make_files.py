@@ -1,9 +1,9 @@
 #!/usr/bin/env python3
 """Writes the files that are measured: make_files.py FOLDER. The files are the same on each machine."""
 
+import argparse
 import itertools
 import pathlib
-import sys
 
 
 class Draws:
@@ -206,9 +206,17 @@ FILES = {
 }
 
 
-def main():
-    folder = pathlib.Path(sys.argv[1])
+def folder_to_fill():
+    """The folder that the one argument names. It is made where it is missing."""
+    parser = argparse.ArgumentParser()
+    parser.add_argument("folder", type=pathlib.Path)
+    folder = parser.parse_args().folder
     folder.mkdir(parents=True, exist_ok=True)
+    return folder
+
+
+def main():
+    folder = folder_to_fill()
     for name, (_, make) in FILES.items():
         (folder / f"{name}.pla").write_text(make())
 

@@ -4,6 +4,7 @@ A test that cannot run, as a program or a compiler is missing, is skipped with t
 unittest.SkipTest, which a test lets through.
 """
 
+import array
 import collections
 import functools
 import os
@@ -132,7 +133,7 @@ def description(inputs, outputs, kind, rows, names=None, results=None, end=".e")
     return "".join(f"{line}\n" for line in lines)
 
 
-# Which calls are met, and what becomes of them: see faults.c. `call` is alloc, read, write or thread, `fd` the
+# Which calls are met, and what becomes of them: see faults.c. `call` is alloc, block, read, write or thread, `fd` the
 # descriptor of reads and writes, `first` and `last` count the calls from 1, and `how` is fail, interrupt, short or
 # pass.
 Fault = collections.namedtuple("Fault", "call fd first last how")
@@ -156,8 +157,8 @@ class Faults:
         words = [compiler, "-O1", "-Wall", "-Werror", "-shared", "-fPIC", source, "-o", self.path]
         subprocess.run(words, check=True)
 
-    def count(self, words, text, fault, **how):
-        """Runs the words on a text, and answers how this ended and how many calls were met."""
+    def meet(self, words, text, fault, **how):
+        """Runs the words on a text, and answers how this ended and the bytes that each call asked for that was met."""
         with open(os.memfd_create("met"), "r+b") as met:
             given = {
                 **how.pop("env", os.environ),
@@ -170,7 +171,12 @@ class Faults:
                 "FAULT_TELL": str(met.fileno()),
             }
             ended = run(words, text, **how, env=given, pass_fds=(met.fileno(),))
-            return ended, os.fstat(met.fileno()).st_size
+            return ended, array.array("Q", met.read())
+
+    def count(self, words, text, fault, **how):
+        """The same, and how many calls were met."""
+        ended, sizes = self.meet(words, text, fault, **how)
+        return ended, len(sizes)
 
     def run(self, words, text, fault, **how):
         """The same, and whether a call was met."""

@@ -175,6 +175,15 @@ class Measurements(InFolder):
         runs = (self.here / "runs").read_text().split()
         self.assertEqual({name: runs.count(name) for name in lines}, {"first_is_slow": 3, "killed": 1, "late": 1})
 
+    def test_words_of_makers(self):
+        """A maker of files takes the name of a folder, and by other words makes none."""
+        for name in ("make_files.py", "make_circuits.py"):
+            for words, status in ((["--help"], 0), ([], 2), (["one", "other"], 2), (["--other"], 2)):
+                with self.case((name, words)):
+                    ended = run([sys.executable, TOP / "bench" / name, *words], cwd=self.here)
+                    self.assertEqual((ended.status, os.listdir(self.here)), (status, []), ended)
+                    self.assertIn(f"usage: {name} [-h] folder\n", ended.out + ended.err)
+
     def test_files(self):
         """What is measured is the same on each machine."""
         line = "import pathlib, random_files; path = pathlib.Path('file.pla')"

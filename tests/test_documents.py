@@ -1,5 +1,6 @@
 """The lines of README.md, docs/EXAMPLES.md and docs/USES.md print what stands there, those of docs/TOOLS.md end well, the
-refusals of docs/FORMAT.md are as its examples say, and docs/LIBRARY.md and docs/READING.md show sources as they are."""
+refusals of docs/FORMAT.md are as its examples say, docs/LIBRARY.md and docs/READING.md show sources as they are, and
+docs/PROVED.md names each file of tests."""
 
 import os
 import re
@@ -235,3 +236,11 @@ class Sources(Test):
             for part in text.splitlines() if text.startswith("ghost use") else [text]:
                 with self.case(part):
                     self.assertTrue(any(part in source for source in sources), "not as it stands in a file")
+
+
+class Tests(Test):
+    def test_rows(self):
+        """docs/PROVED.md says of each file of tests what it does, and has rows for files that are there alone."""
+        rows = re.findall(r"(?m)^\| ((?:`test_\w+`(?:, )?)+) \|", (TOP / "docs/PROVED.md").read_text())
+        said = re.findall(r"test_\w+", " ".join(rows))
+        self.assertEqual(sorted(said), sorted(path.stem for path in (TOP / "tests").glob("test_*.py")))
