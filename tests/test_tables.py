@@ -1,4 +1,4 @@
-"""On which tables the runs of interp begin, and on which they go on where one is full.
+"""On which tables the runs of interp and nfq begin, and on which they go on where one is full.
 
 The sizes of tables change no answer and no clause speaks of them, but time and memory hang on them. A table is one
 block of memory, of 16 bytes for each slot where there are 2^12 or more, so it is told by the blocks that a run asks
@@ -59,23 +59,39 @@ RULES = {
     ],
 }  # fmt: skip
 
+# For each mode of nfq files with the tables that are due. Joins follow a guess, and queries none.
+QUERIES = {
+    "reduce": [("present_graph", [12]), ("points_16", [16]), ("multiplier_6", [16]), ("points_20", [16, 19])],
+    "union": [("points_16", [18]), ("cubes_14_two", [14, 18])],
+    "meet": [("points_16", [18]), ("cubes_14_two", [14, 18])],
+}
+
 
 class Tables(Test):
-    def tables(self, name, limit):
-        """The bits of the tables that a run on a file of bench/ makes, one after the other."""
-        mode, make = FILES[name]
-        words = [program("interp"), mode, "--nodes", limit]
-        ended, sizes = faults().meet(words, make(), Fault("block", 0, 1, ALL, "pass"))
+    def tables(self, words, text):
+        """The bits of the tables that a run makes, one after the other."""
+        ended, sizes = faults().meet(words, text, Fault("block", 0, 1, ALL, "pass"))
         self.assertIn(ended.status, (0, 5), ended)
         # (A table that is greater than 2^19 slots is copied from as many zeros, and each one has more than those before.)
         return list(dict.fromkeys(BITS[size] for size in sizes if size in BITS))
 
+    def solving(self, name, limit):
+        """The tables of a run of interp on a file of bench/, with one worker and this limit of slots."""
+        mode, make = FILES[name]
+        return self.tables([program("interp"), mode, "--nodes", limit], make())
+
     def test_rules(self):
-        """The tables of runs with one worker."""
         for rule, runs in RULES.items():
             for name, limit, due in runs:
                 with self.case((rule, name, limit)):
-                    self.assertEqual(self.tables(name, limit), due)
+                    self.assertEqual(self.solving(name, limit), due)
+
+    def test_queries(self):
+        for mode, runs in QUERIES.items():
+            for name, due in runs:
+                with self.case((mode, name)):
+                    query = "f1 = x1*x2\n" if mode == "reduce" else ""
+                    self.assertEqual(self.tables([program("nfq"), mode], FILES[name][1]() + query), due)
 
     def test_looks(self):
         """The tables on which bench/looks.py has the plain program count what interp looks for are those of interp."""
@@ -83,4 +99,4 @@ class Tables(Test):
         [tried] = answer([sys.executable, "-c", line], cwd=TOP / "bench")
         for name, due in json.loads(tried).items():
             with self.case(name):
-                self.assertEqual(self.tables(name, due[-1]), due)
+                self.assertEqual(self.solving(name, due[-1]), due)
