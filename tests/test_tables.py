@@ -72,7 +72,7 @@ class Tables(Test):
         """The bits of the tables that a run makes, one after the other."""
         ended, sizes = faults().meet(words, text, Fault("block", 0, 1, ALL, "pass"))
         self.assertIn(ended.status, (0, 5), ended)
-        # (A table that is greater than 2^19 slots is copied from as many zeros, and each one has more than those before.)
+        # (A table of more than 2^19 slots is copied from a block of as many zeros. The sizes of a run's tables rise.)
         return list(dict.fromkeys(BITS[size] for size in sizes if size in BITS))
 
     def solving(self, name, limit):
