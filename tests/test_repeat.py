@@ -16,7 +16,7 @@ import subprocess
 import tempfile
 import unittest
 
-from tests.harness import ALL, EXAMPLES, Fault, Test, answer, description, faults, program, run
+from tests.harness import ALL, EXAMPLES, Fault, InFolder, Test, answer, description, faults, program, run
 from tests.made_descriptions import random_cube, valued
 
 PROGRAMS = ("interp", "steal")
@@ -164,6 +164,27 @@ class Threads(Test):
         for name, workers in itertools.product(PROGRAMS, WORKERS):
             with self.case(f"{name} --workers {workers}"):
                 self.assertEqual(self.count(name, line, text, workers), 2 * (workers - 1))
+
+
+class Pools(InFolder):
+    """The jobs of interp and of steal are dealt in different ways, which no answer tells: deques are memory."""
+
+    def sizes(self, program_path, folder):
+        """The bytes that each call for memory asks for, in a run with two workers; each program has one name here."""
+        path = self.here / folder / "program"
+        path.parent.mkdir()
+        path.symlink_to(program_path)
+        words = [path, "anf", "--workers", 2]
+        text = (EXAMPLES / "full_adder.pla").read_text()
+        ended, sizes = faults().meet(words, text, Fault("alloc", 0, 1, ALL, "pass"))
+        self.assertEqual(ended.status, 0)
+        return sorted(sizes)
+
+    def test_memory(self):
+        """Two runs of one program ask for the same, and steal for more than interp."""
+        drawn, again = (self.sizes(program("interp"), folder) for folder in "ab")
+        self.assertEqual(drawn, again)
+        self.assertGreater(len(self.sizes(program("steal"), "c")), len(drawn))
 
 
 class Refused(Test):

@@ -1,8 +1,8 @@
 """On which tables the runs of interp and nfq begin, and on which they go on where one is full.
 
-The sizes of tables change no answer and no clause speaks of them, but time and memory hang on them. A table is one
-block of memory, of 16 bytes for each slot where there are 2^12 or more, so it is told by the blocks that a run asks
-for. What is due is what docs/DECISIONS.md says ("Sizes of tables"), on files of bench/.
+The sizes of tables change no answer, and clauses keep them within bounds alone, but time and memory hang on them. A
+table is one block of memory, of 16 bytes for each slot where there are 2^12 or more, so it is told by the blocks that a
+run asks for. What is due is what docs/DECISIONS.md says ("Sizes of tables"), on files of bench/.
 """
 
 import json
@@ -72,7 +72,7 @@ class Tables(Test):
         """The bits of the tables that a run makes, one after the other."""
         ended, sizes = faults().meet(words, text, Fault("block", 0, 1, ALL, "pass"))
         self.assertIn(ended.status, (0, 5), ended)
-        # (A table of more than 2^19 slots is copied from a block of as many zeros. The sizes of a run's tables rise.)
+        # (One size may come twice: a table of more than 2^19 slots is copied from zeros, and a join may have two tables.)
         return list(dict.fromkeys(BITS[size] for size in sizes if size in BITS))
 
     def solving(self, name, limit):
@@ -97,6 +97,7 @@ class Tables(Test):
         """The tables on which bench/looks.py has the plain program count what interp looks for are those of interp."""
         line = "import json, looks; print(json.dumps(looks.TRIED))"
         [tried] = answer([sys.executable, "-c", line], cwd=TOP / "bench")
+        self.assertNotEqual(json.loads(tried), {})
         for name, due in json.loads(tried).items():
             with self.case(name):
                 self.assertEqual(self.solving(name, due[-1]), due)
