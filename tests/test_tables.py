@@ -8,7 +8,7 @@ run asks for. What is due is what docs/DECISIONS.md says ("Sizes of tables"), on
 import json
 import sys
 
-from bench.make_files import FILES
+from bench.make_files import FILES, Draws, bits, description
 from tests.harness import ALL, TOP, Fault, Test, answer, faults, program
 
 # The bits of a table's slots, by the bytes of its words: those of nodes, and those of kept results, 2^12 or more.
@@ -41,7 +41,8 @@ RULES = {
     ],
     "and go on with 2^17 where up to 2^17 nodes are guessed": [("points_16_many", 19, [16, 17])],
     "of cubes for which few are guessed half is tried": [("parity_13", 19, [15])],
-    "2^14 slots come before 2^18": [("multiplier_6", 19, [14, 18]), ("redundant_20", 19, [14, 18])],
+    "2^14 slots come before 2^18": [("multiplier_6", 19, [14, 18])],
+    "of cubes for which 2^17 to 2^18 are guessed, and no bases are found, a quarter is tried": [("redundant_20", 19, [16])],
     "2^16 slots come before 2^19": [
         ("cubes_15", 19, [16, 19]),
         ("cubes_16_two", 22, [16, 19]),
@@ -92,6 +93,21 @@ class Tables(Test):
                 with self.case((mode, name)):
                     query = "f1 = x1*x2\n" if mode == "reduce" else ""
                     self.assertEqual(self.tables([program("nfq"), mode], FILES[name][1]() + query), due)
+
+    def test_alike(self):
+        """Outputs of which all rows say the same, or the opposite, are guessed to need what one needs."""
+        draws, middle = Draws(8), 2**9
+        said = [draws.one_of("01-~") for _ in range(2**10)]
+        opposite = ["10-~"["01-~".index(symbol)] for symbol in said]
+        others = {"same": (said, 13), "opposite": (opposite, 13)}
+        for name, (other, _) in list(others.items()):
+            changed = "~" if other[middle] == "-" else "-"
+            others[f"{name} but in one row"] = ([*other[:middle], changed, *other[middle + 1 :]], 14)
+        for name, (other, due) in others.items():
+            with self.case(name):
+                rows = [(bits(point, 10), first + second) for point, (first, second) in enumerate(zip(said, other))]
+                text = description(10, 2, "fdr", rows)
+                self.assertEqual(self.tables([program("interp"), "anf"], text), [due])
 
     def test_looks(self):
         """The tables on which bench/looks.py has the plain program count what interp looks for are those of interp."""

@@ -1,5 +1,5 @@
 //! A guess at how many nodes a run on a description needs.
-ghost use Rattle.std.specs.Prelude.{◌≤◌};
+ghost use Rattle.std.specs.Prelude.{◌<◌, ◌≤◌};
 
 use lattice::{Kind, Row};
 use pla_reader::Pla;
@@ -90,6 +90,51 @@ fn count_named(pla: &Pla) -> Named {
         care_rows: cared / outputs,
         is_shared,
     }
+}
+
+/// The outputs of which the row says what it says of this one, and those of which it says the
+/// opposite. An output is a bit.
+fn alike_in(row: &Row, output: u64) -> (u64, u64) {
+    if row.on & output != 0 {
+        (row.on, row.off)
+    } else if row.off & output != 0 {
+        (row.off, row.on)
+    } else if row.dc & output != 0 {
+        (row.dc, row.dc)
+    } else {
+        let unnamed = !outputs_of(row);
+        (unnamed, unnamed)
+    }
+}
+
+/// Whether all rows say of an output, before which there are so many, what they say of one of
+/// these, or the opposite.
+fn is_alike(pla: &Pla, before: u32) -> bool
+    requires { before < 64 }
+{
+    let output = 1u64 << before;
+    let mut same = output - 1;
+    let mut opposite = output - 1;
+    // (in a table of a function of numbers the first rows, of small ones, tell fewer apart)
+    for row in pla.rows.as_slice().iter().rev() {
+        if same | opposite == 0 {
+            return false;
+        }
+        let (own, other) = alike_in(row, output);
+        same &= own;
+        opposite &= other;
+    }
+    same | opposite != 0
+}
+
+/// How many outputs there are of which the rows say neither the same nor the opposite. Two that are
+/// alike share their cover, and all nodes of their polynomials but a few.
+fn count_different(pla: &Pla) -> u32 {
+    let mut different = 0u32;
+    for before in 0..pla.outputs {
+        different = different.saturating_add(u32::from(!is_alike(pla, before)));
+    }
+    different
 }
 
 /// How many nodes a tree of so many rows has at most, one for each of their fronts.
@@ -249,7 +294,7 @@ pub(crate) fn guess_run(pla: &Pla, is_basis: bool) -> Guess {
     let named = count_named(pla);
     let first = look_at_first(pla);
     let cover = guess_cover(pla, first, named.rows);
-    let outputs = u64::from(pla.outputs);
+    let outputs = u64::from(count_different(pla));
     let are_apart = lie_apart(pla);
     let polynomials = if are_apart {
         NODES_APART * (outputs + 1)

@@ -123,7 +123,7 @@ impl Demand<'_> {
     /// The size of the tables that a guess begins with, where the last ones have 2^most slots: what
     /// suffices by it, if it is sure, and else none that have more than four times the memory that
     /// the run may need. Of cubes, which need fewer than are guessed as easily as more, half are
-    /// tried.
+    /// tried, or a quarter.
     fn first_guessed(&self, guess: Guess, most: u32) -> u32
         ensures { LEAST_BITS ≤ result }
     {
@@ -138,6 +138,8 @@ impl Demand<'_> {
                 let spare = guess.nodes / 16;
                 bits_of(guess.nodes.saturating_add(spare)).clamp(LEAST_BITS, MIDDLE_BITS)
             }
+            // Most of these runs fit 2^MIDDLE_BITS slots, or do not fit 2^MANY_BITS.
+            Trust::Cubes if !self.is_basis && bits == MANY_BITS => MIDDLE_BITS,
             _ if MIDDLE_BITS < at_most && at_most <= MANY_BITS => TRIAL_BITS,
             _ if bits <= MIDDLE_BITS => (enough - 1).max(LEAST_BITS),
             _ => MIDDLE_BITS,
