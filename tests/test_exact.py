@@ -46,13 +46,13 @@ def large_files():
     limits, in bits, it has all workers.
 
     Two of them fill a table of 2^17 slots to the last one, and one needs a slot more. With several outputs of the same
-    values each worker finds them all, so that the workers look for the last slots at the same time. The first one finds
-    its answer with 2^17 slots also where there may be more, and there it has one worker.
+    values each worker finds them all, so that the workers look for the last slots at the same time. The first two find
+    their answers with 2^17 slots also where there may be more, and there they have two workers at most.
     """
     more = turned(valued(random.Random(6), 6000, 16, 1)[:5800], 1559, 0)
     exact = turned(more, 5525, 0)
     yield 2**17, (16, 1, "fr", exact), "anf", (17,)
-    yield 2**17, (16, 16, "fr", alike(exact, 16)), "anf", (17, 18)
+    yield 2**17, (16, 16, "fr", alike(exact, 16)), "anf", (17,)
     yield 2**17 + 1, (16, 16, "fr", alike(more, 16)), "anf", (17, 18)
     yield 134283, (14, 1, "fr", valued(random.Random(2), 300, 14, 1)), "basis", (17, 18)
 
