@@ -2,7 +2,8 @@
 
 The sizes of tables change no answer, and clauses keep them within bounds alone, but time and memory hang on them. A
 table is one block of memory, of 16 bytes for each slot where there are 2^12 or more, so it is told by the blocks that a
-run asks for. What is due is what docs/DECISIONS.md says ("Sizes of tables"), on files of bench/.
+run asks for. What is due is what docs/DECISIONS.md says ("Sizes of tables"), on files of bench/ and on some whose outputs
+are alike.
 """
 
 import json
