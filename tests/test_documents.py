@@ -1,6 +1,6 @@
 """The lines of README.md, docs/EXAMPLES.md and docs/USES.md print what stands there, those of docs/TOOLS.md end well, the
-refusals of docs/FORMAT.md are as its examples say, docs/LIBRARY.md and docs/READING.md show sources as they are, and
-docs/PROVED.md names each file of tests."""
+refusals of docs/FORMAT.md are as its examples say, all pages have the same statuses, docs/LIBRARY.md and docs/READING.md
+show sources as they are, and docs/PROVED.md names each file of tests."""
 
 import os
 import re
@@ -12,6 +12,7 @@ from tests.harness import TOP, Ended, InFolder, Test, named_programs, program, r
 
 sys.path.insert(0, str(TOP / "tools"))
 
+from leastanf.commands import solve
 from leastanf.descriptions import CAUSES
 
 # What the blocks of lines in docs/USES.md print, in order: a part of the block, and a part of what it prints.
@@ -207,6 +208,70 @@ class Lines(InFolder):
                 text = example.replace("/", "\n")
                 text += {"": "", " and a byte 0": "\0", " and 8,193 rows `1 1`": 8193 * "1 1\n"}[more]
                 self.assertEqual(run([program("interp"), "anf"], text), Ended(3, "", f"{message}\n"))
+
+
+class Statuses(Test):
+    """What pages say of the statuses with which programs end. A table's rows are lists of cells."""
+
+    def tables(self, name, head):
+        """The tables of a page that have this head."""
+        found = re.findall(rf"(?m)^\| {head} \|\n\|[-|]+\|\n((?:\|.*\|\n)+)", (TOP / name).read_text())
+        self.assertTrue(found)
+        return [[self.cells(row) for row in table.splitlines()] for table in found]
+
+    @staticmethod
+    def cells(row):
+        return [cell.strip() for cell in re.split(r"(?<!\\)\|", row)[1:-1]]
+
+    def messages(self, rows, named=r"\w+"):
+        """The statuses of rows, each with a message that a program with this name writes. For a number or what stands
+        for one there is a #, and of the form of a command line nothing."""
+        found = set()
+        for status, *cells in rows:
+            for message in re.findall(rf"`{named}: ([^`]*)`", " | ".join(cells)):
+                told = re.sub(r"(?<=^usage:).*", "", message)
+                found.add((int(status), re.sub(r"\b(?:[0-9]+|[A-Z])\b", "#", told)))
+        return found
+
+    def formats(self):
+        """Of each program the rows that docs/FORMAT.md has of it."""
+        found = {}
+        for table in self.tables("docs/FORMAT.md", r"status \| message \| what to do"):
+            (name,) = {name for _, message, _ in table for name in re.findall(r"`(\w+): ", message)}
+            found[name] = table
+        self.assertEqual(sorted(found), ["batch", "circuit", "interp", "nfq"])
+        return found
+
+    def test_manual(self):
+        """The pages of the manual have the statuses of docs/FORMAT.md, and that of an answer."""
+        for name, rows in self.formats().items():
+            with self.case(name):
+                page = (TOP / f"{name}.1").read_text()
+                part = re.search(r"(?ms)^\.SH EXIT STATUS\n(.*?)^\.SH", page)[1]
+                statuses = [int(status) for status in re.findall(r"(?m)^\.TP\n([0-9]+)$", part)]
+                self.assertEqual(statuses, sorted({0, *(int(row[0]) for row in rows)}))
+
+    def test_readme(self):
+        """README.md has the messages of docs/FORMAT.md: by the name of interp those that others write too."""
+        (rows,) = self.tables("README.md", r"status \| when \| message")
+        shared = self.messages(rows, "interp")
+        lengths = set()
+        for name, table in self.formats().items():
+            with self.case(name):
+                due = self.messages(table)
+                self.assertEqual(due - shared, self.messages(rows, name) - shared)
+            lengths.update(re.findall(r"longer than ([0-9]+) bytes", " ".join(cell for row in table for cell in row)))
+        self.assertEqual(shared - self.messages(self.formats()["interp"]), set())
+        with self.case("bytes"):
+            (when,) = [row[1] for row in rows if row[0] == "10"]
+            self.assertEqual(set(re.findall("[0-9]+", when.replace(",", ""))), lengths)
+
+    def test_solve(self):
+        """solve tells of the statuses of docs/TOOLS.md, and of those of interp but for 1."""
+        (rows,) = self.tables("docs/TOOLS.md", r"status \| when")
+        own = {int(status) for row in rows for status in row[0].split(", ")}
+        others = {int(row[0]) for row in self.formats()["interp"]} - {1}
+        self.assertEqual(set(solve.STATUSES), {0} | own | others)
 
 
 class Sources(Test):

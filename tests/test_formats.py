@@ -112,7 +112,7 @@ def samples():
     """Answers of interp without and with bases, of nfq reduce, of nfq union, and of complemented inputs."""
     draws = random.Random(8)
     found = []
-    for inputs in (PLAIN, HARD, HARDER, HARDEST, WORDS, SIGNS, ["b"], ["x1", "x", "x11"]):
+    for inputs in (PLAIN, HARD, HARDER, HARDEST, WORDS, SIGNS, ["b"], ["x1", "x", "x11"], ["__debug__", "a"]):
         outputs = [Output(name, drawn(draws, inputs)) for name in ("s", "t", "u")]
         found.append((f"anf over {inputs}", Answer(inputs, outputs)))
         outputs = [Output(name, drawn(draws, inputs), [drawn(draws, inputs) for _ in range(2)]) for name in ("s", "t")]

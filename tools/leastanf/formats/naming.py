@@ -63,8 +63,8 @@ def word(name):
 
 
 def is_python(name):
-    """Whether Python takes a name."""
-    return is_word(name) and not keyword.iskeyword(name)
+    """Whether Python takes a name for what it is given. `__debug__` is no keyword, and a constant."""
+    return is_word(name) and not keyword.iskeyword(name) and name != "__debug__"
 
 
 def mend_for_python(name):
