@@ -1,6 +1,6 @@
 """The lines of README.md, docs/EXAMPLES.md and docs/USES.md print what stands there, those of docs/TOOLS.md end well, the
-refusals of docs/FORMAT.md are as its examples say, all pages have the same statuses, docs/LIBRARY.md and docs/READING.md
-show sources as they are, and docs/PROVED.md names each file of tests."""
+refusals of docs/FORMAT.md are as its examples say and have the names of the sources, all pages have the same statuses,
+docs/LIBRARY.md and docs/READING.md show sources as they are, and docs/PROVED.md names each file of tests."""
 
 import os
 import re
@@ -8,7 +8,7 @@ import shutil
 import sys
 import unittest
 
-from tests.harness import TOP, Ended, InFolder, Test, named_programs, program, run
+from tests.harness import TOP, Ended, InFolder, Test, description, named_programs, program, run
 
 sys.path.insert(0, str(TOP / "tools"))
 
@@ -121,6 +121,13 @@ def made(text):
     return set(re.findall(r"made/[\w./]*\w", text))
 
 
+def tables(name, *head):
+    """The tables of a page that have this head, each as the lists of its rows' cells."""
+    pattern = rf"(?m)^\| {re.escape(' | '.join(head))} \|\n\|[-|]+\|\n((?:\|.*\|\n)+)"
+    found = re.findall(pattern, (TOP / name).read_text())
+    return [[[*map(str.strip, re.split(r"(?<!\\)\|", row)[1:-1])] for row in table.splitlines()] for table in found]
+
+
 class Lines(InFolder):
     """Lines that a shell runs, in a folder with what they need."""
 
@@ -210,18 +217,37 @@ class Lines(InFolder):
                 self.assertEqual(run([program("interp"), "anf"], text), Ended(3, "", f"{message}\n"))
 
 
+class Causes(Test):
+    """The causes of refusals that docs/FORMAT.md has, and the faults of answers."""
+
+    def test_names(self):
+        """They are those that the sources name."""
+        sources = {
+            ("refusal", "when", "example", "message", "what to do"): ("pla_reader/src/refusal.rt", "Why"),
+            ("refusal", "when", "what to do"): ("cert_check/src/refusal.rt", "AnswerWhy"),
+            ("fault", "when", "line"): ("cert_check/src/refusal.rt", "Fault"),
+            ("refusal", "when", "example", "what to do"): ("nf_run/src/queries.rt", "QueryWhy"),
+            ("refusal W", "when", "what to do"): ("aig_reader/src/refusal.rt", "Why"),
+        }
+        for head, (source, kind) in sources.items():
+            with self.case(f"{source} {kind}"):
+                (rows,) = tables("docs/FORMAT.md", *head)
+                said = {name for row in rows for name in row[0].split(", ")}
+                named = re.findall(rf'\b{kind}::\w+ => "(\w+)"', (TOP / "crates" / source).read_text())
+                self.assertEqual(said, {*named})
+
+    def test_queries(self):
+        """Each example of a query is refused by the cause beside it, behind a description with two inputs."""
+        (rows,) = tables("docs/FORMAT.md", "refusal", "when", "example", "what to do")
+        for cause, _, examples, _ in rows:
+            for example in re.findall("`([^`]*)`", examples):
+                with self.case(f"{cause}: {example}"):
+                    ended = run([program("nfq"), "reduce"], description(2, 1, "fr", ["11 1"]) + f"{example}\n")
+                    self.assertEqual(ended, Ended(3, "", f"nfq: query line 1: {cause}\n"))
+
+
 class Statuses(Test):
-    """What pages say of the statuses with which programs end. A table's rows are lists of cells."""
-
-    def tables(self, name, head):
-        """The tables of a page that have this head."""
-        found = re.findall(rf"(?m)^\| {head} \|\n\|[-|]+\|\n((?:\|.*\|\n)+)", (TOP / name).read_text())
-        self.assertTrue(found)
-        return [[self.cells(row) for row in table.splitlines()] for table in found]
-
-    @staticmethod
-    def cells(row):
-        return [cell.strip() for cell in re.split(r"(?<!\\)\|", row)[1:-1]]
+    """What pages say of the statuses with which programs end."""
 
     def messages(self, rows, named=r"\w+"):
         """The statuses of rows, each with a message that a program with this name writes. For a number or what stands
@@ -236,7 +262,7 @@ class Statuses(Test):
     def formats(self):
         """Of each program the rows that docs/FORMAT.md has of it."""
         found = {}
-        for table in self.tables("docs/FORMAT.md", r"status \| message \| what to do"):
+        for table in tables("docs/FORMAT.md", "status", "message", "what to do"):
             (name,) = {name for _, message, _ in table for name in re.findall(r"`(\w+): ", message)}
             found[name] = table
         self.assertEqual(sorted(found), ["batch", "circuit", "interp", "nfq"])
@@ -253,7 +279,7 @@ class Statuses(Test):
 
     def test_readme(self):
         """README.md has the messages of docs/FORMAT.md: by the name of interp those that others write too."""
-        (rows,) = self.tables("README.md", r"status \| when \| message")
+        (rows,) = tables("README.md", "status", "when", "message")
         shared = self.messages(rows, "interp")
         lengths = set()
         for name, table in self.formats().items():
@@ -268,7 +294,7 @@ class Statuses(Test):
 
     def test_solve(self):
         """solve tells of the statuses of docs/TOOLS.md, and of those of interp but for 1."""
-        (rows,) = self.tables("docs/TOOLS.md", r"status \| when")
+        (rows,) = tables("docs/TOOLS.md", "status", "when")
         own = {int(status) for row in rows for status in row[0].split(", ")}
         others = {int(row[0]) for row in self.formats()["interp"]} - {1}
         self.assertEqual(set(solve.STATUSES), {0} | own | others)

@@ -1,11 +1,13 @@
 """The words of each program: its options at the ends of their ranges and beyond, in each form and place, and twice.
 
-Then what a run does beside its streams: it makes no file, and in mode gen it reads nothing.
+Then what a run does beside its streams: it makes no file, and in mode gen it reads nothing. Last what pages say of
+words.
 """
 
 import os
+import re
 
-from tests.harness import EXAMPLES, USAGE, Ended, InFolder, description, program, run
+from tests.harness import EXAMPLES, TOP, USAGE, Ended, InFolder, Test, description, program, run
 
 POINTS = description(2, 1, "fr", ["11 1", "00 0"])
 GATES = (EXAMPLES / "half_adder_gates.aag").read_text()
@@ -119,3 +121,38 @@ class Words(InFolder):
                     ended = run([program(name), "gen"], stdin=file, timeout=20)
                 os.close(writer)
                 self.assertEqual(ended, Ended(0, "points 256\nf1 8\nf2 7\n", ""))
+
+
+class Pages(Test):
+    """README.md, docs/FORMAT.md and the pages of the manual."""
+
+    def test_forms(self):
+        """They have the form of each program's words: the pages of the manual its modes and options."""
+        readme, formats = ((TOP / name).read_text() for name in ("README.md", "docs/FORMAT.md"))
+        self.assertIn(USAGE["interp"].replace("interp: usage: ", "    "), formats)
+        for name in ("interp", "circuit", "nfq", "batch"):
+            with self.case(name):
+                _, form = USAGE[name].split(": usage: ")
+                self.assertIn(f"    {form}", readme)
+                if name != "interp":
+                    self.assertIn(f"`{USAGE[name].strip()}`".replace("|", "\\|"), formats)
+                page = (TOP / f"{name}.1").read_text().replace("\\-", "-")
+                synopsis = re.search(r"(?ms)^\.SH SYNOPSIS\n(.*?)^\.SH", page)[1]
+                options = re.findall(r"\[ --(\w+)\n\.IR (\w+) \]", synopsis)
+                self.assertEqual(options, re.findall(r"\[--(\w+) (\w+)\]", form))
+                modes = form.split()[1].replace("MODE", "anf|basis|check|gen")
+                self.assertEqual(re.search(r"\{ (.*) \}", synopsis)[1].replace(" ", ""), modes)
+
+    def test_ranges(self):
+        """They have the ranges of the options whose values are few."""
+        for option in ("nodes", "terms", "workers"):
+            least, most, _ = RANGES[option]
+            said = f"{int(least):,} to {int(most):,}"
+            for name in ("README.md", "docs/FORMAT.md"):
+                with self.case((option, name)):
+                    self.assertRegex((TOP / name).read_text(), rf"(?m)^\| `--{option} [A-Z]` \| {said}[: ]")
+            for name in ("interp", "circuit"):
+                if option in OPTIONS[name]:
+                    with self.case((option, name)):
+                        page = (TOP / f"{name}.1").read_text().replace("\\-", "-")
+                        self.assertRegex(page, rf'(?m)^\.BI --{option} " [A-Z]"\n.*; from {least} to {most}\b')
